@@ -1,0 +1,2 @@
+-- The laws of the fields.
+pub mod Chosen
