@@ -5,7 +5,7 @@
 ghost use mathlib.Core.Path.{_≡_};
 ghost use Prim.Native.Nat.{_+_, _*_, _≤_, _<_};
 ghost use Rattle.code.specs.Generator.{generator};
-ghost use Rattle.code.specs.Register.{number, Generators};
+ghost use Rattle.code.specs.Register.{register, Generators};
 use field::Field;
 
 const ROWS_13: [[u64; 9]; 20] = [
@@ -386,7 +386,7 @@ fn rows(f: Field) -> [[u64; 9]; 20]
 
 // The same number in more words.
 fn widened(row: [u64; 9]) -> [u64; 14]
-    ensures { λ r. ⌜ number r ≡ number row ⌝ }
+    ensures { λ r. ⌜ register r ≡ register row ⌝ }
 {
     [
         row[0],
@@ -410,7 +410,7 @@ fn widened(row: [u64; 9]) -> [u64; 14]
 // The table is put on the stack at each call: call this once for each kind of block of a page.
 pub fn generator_row(f: Field, level: usize) -> [u64; 14]
     requires { ⌜ level ≤ 20 ⌝ }
-    ensures { λ r. ⌜ number r ≡ generator f (2 * level) ⌝ }
+    ensures { λ r. ⌜ register r ≡ generator f (2 * level) ⌝ }
 {
     if level == 0 {
         return [1, 0, 0, 0, 0, 0, 0, 0, 0, 0, 0, 0, 0, 0];

@@ -4,12 +4,12 @@ use Prim.Native.Nat.{ℕ, _+_, _-_, _*_}
 use native.Mathlib.Omega.{arith}
 use borrow.Author.Needs.{needs}
 use Rattle.code.specs.Generator.{generator}
-use Rattle.code.specs.Register.{number, low}
+use Rattle.code.specs.Register.{register, low}
 use Rattle.code.proofs.generators.generator_row.Statement.{statement}
 use Rattle.code.proofs.generators.generator_row.Tie as tie
 
 returns : tie.Need-returns
-unfolding number low generator
+unfolding register low generator
 returns c = rw (c .if1 .taken)
 
 rows-requires : tie.Need-rows-requires

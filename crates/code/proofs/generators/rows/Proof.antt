@@ -4,7 +4,7 @@ use borrow.Author.Needs.{needs}
 use Rattle.field.specs.declared.Field.the-variants.{Thirteen, Fourteen}
 use Rattle.field.specs.Field.{degree}
 use Rattle.code.specs.Generator.{times, minimals, minimals13, minimals14}
-use Rattle.code.specs.Register.{number, low}
+use Rattle.code.specs.Register.{register, low}
 use Rattle.code.proofs.Rows.{chained, chained-generators}
 use Rattle.code.proofs.generators.rows.Statement.{statement}
 use Rattle.code.proofs.generators.rows.Tie as tie
@@ -16,11 +16,11 @@ enum-told-2 : tie.Need-enum-told-2
 enum-told-2 c = search needs
 
 returns : tie.Need-returns
-unfolding chained minimals minimals13 degree times number low
+unfolding chained minimals minimals13 degree times register low
 returns c = rw (c .enum-told .given .1) (chained-generators Thirteen refl tt)
 
 returns-2 : tie.Need-returns-2
-unfolding chained minimals minimals14 degree times number low
+unfolding chained minimals minimals14 degree times register low
 returns-2 c = rw (c .enum-told2 .given .1) (chained-generators Fourteen refl tt)
 
 pub rows-spec : {M : Type 1} → statement M

@@ -1,6 +1,6 @@
 -- `code::generators::widened` meets its contract.
 use borrow.Author.Needs.{needs}
-use Rattle.code.proofs.Register.{number-widened}
+use Rattle.code.proofs.Register.{register-widened}
 use Rattle.code.proofs.generators.widened.Statement.{statement}
 use Rattle.code.proofs.generators.widened.Tie as tie
 
@@ -32,7 +32,7 @@ array-read-t29 : tie.Need-array-read-t29
 array-read-t29 c = search needs
 
 returns : tie.Need-returns
-returns c = number-widened (c .args .t1) (search needs)
+returns c = register-widened (c .args .t1) (search needs)
 
 pub widened-spec : {M : Type 1} → statement M
 widened-spec =
