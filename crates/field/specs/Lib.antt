@@ -1,0 +1,2 @@
+-- What the field calls are to answer.
+pub mod Field
