@@ -1,0 +1,74 @@
+-- Laws of the product of power series.
+use mathlib.Core.Path.{_≡_, refl, sym, ap, _∙_}
+use Prim.Native.Nat.{ℕ, zero, suc, _+_, _≤_, _<_}
+use native.Mathlib.Omega.{arith}
+use Rattle.algebra.specs.Field.{BinaryField}
+use Rattle.algebra.specs.Series.{cons, conv}
+use Rattle.algebra.proofs.Field.{ring}
+
+module _ (K : BinaryField) where
+  open BinaryField K using (carrier as F, add as _⊕_, mul as _⊗_, nil as 𝟘, one as 𝟙)
+
+  infixl 60 _⊕_
+  infixl 70 _⊗_
+  pub cons-zero : (a : F) (f : ℕ → F) → cons K a f 0 ≡ a
+  unfolding cons
+  cons-zero a f = refl
+
+  pub cons-suc : (a : F) (f : ℕ → F) (n : ℕ) → cons K a f (suc n) ≡ f n
+  unfolding cons
+  cons-suc a f n = refl
+
+  pub conv-zero : (f g : ℕ → F) → conv K f g 0 ≡ f 0 ⊗ g 0
+  unfolding conv
+  conv-zero f g = refl
+
+  pub conv-suc : (f g : ℕ → F) (n : ℕ) → conv K f g (suc n) ≡ f 0 ⊗ g (suc n) ⊕ conv K (λ i. f (suc i)) g n
+  unfolding conv
+  conv-suc f g n = refl
+
+  pub conv-add : (f g h : ℕ → F) (n : ℕ) → conv K (λ i. f i ⊕ g i) h n ≡ conv K f h n ⊕ conv K g h n
+  conv-add f g h zero = simp (conv-zero, ring)
+  conv-add f g h (suc n) = simp (conv-suc, conv-add (λ i. f (suc i)) (λ i. g (suc i)) h n, ring)
+
+  pub conv-scale : (a : F) (f h : ℕ → F) (n : ℕ) → conv K (λ i. a ⊗ f i) h n ≡ a ⊗ conv K f h n
+  conv-scale a f h zero = simp (conv-zero, ring)
+  conv-scale a f h (suc n) = simp (conv-suc, conv-scale a (λ i. f (suc i)) h n, ring)
+
+  pub conv-add-right : (f g h : ℕ → F) (n : ℕ) → conv K f (λ i. g i ⊕ h i) n ≡ conv K f g n ⊕ conv K f h n
+  conv-add-right f g h zero = simp (conv-zero, ring)
+  conv-add-right f g h (suc n) = simp (conv-suc, conv-add-right (λ i. f (suc i)) g h n, ring)
+
+  pub conv-scale-right : (a : F) (f h : ℕ → F) (n : ℕ) → conv K f (λ i. a ⊗ h i) n ≡ a ⊗ conv K f h n
+  conv-scale-right a f h zero = simp (conv-zero, ring)
+  conv-scale-right a f h (suc n) = simp (conv-suc, conv-scale-right a (λ i. f (suc i)) h n, ring)
+
+  -- the product by the other factor's head and tail
+  pub conv-right : (f g : ℕ → F) (n : ℕ) → conv K f g (suc n) ≡ f (suc n) ⊗ g 0 ⊕ conv K f (λ i. g (suc i)) n
+  conv-right f g zero = rw (conv-suc f g 0) (simp (conv-zero, ring))
+  conv-right f g (suc n) = rw (conv-suc f g (suc n), conv-right (λ i. f (suc i)) g n, conv-suc f (λ i. g (suc i)) n) (simp ring)
+
+  pub conv-left-comm : (f g h : ℕ → F) (n : ℕ) → conv K f (conv K g h) n ≡ conv K g (conv K f h) n
+  conv-left-comm f g h zero = simp (conv-zero, ring)
+  conv-left-comm f g h (suc n) =
+      rw (conv-suc f (conv K g h) n, conv-right g h n, conv-left-comm (λ i. f (suc i)) g h n, conv-right g (conv K f h) n, conv-zero f h)
+      (simp (conv-suc f h)
+      (rw (conv-add-right g (λ i. f 0 ⊗ h (suc i)) (conv K (λ i. f (suc i)) h) n, conv-scale-right (f 0) g (λ i. h (suc i)) n) (simp ring)))
+
+  -- a coefficient is 0 where each of its products is
+  pub conv-nil : (f g : ℕ → F) (n : ℕ) → ((i j : ℕ) → i + j ≡ n → f i ⊗ g j ≡ 𝟘) → conv K f g n ≡ 𝟘
+  conv-nil f g zero h = conv-zero f g ∙ h 0 0 refl
+  conv-nil f g (suc n) h = rw (conv-suc f g n, h 0 (suc n) (omega arith), conv-nil (λ i. f (suc i)) g n (λ i j e. h (suc i) j (omega arith))) (simp ring)
+
+  pub conv-head : (f g : ℕ → F) (n : ℕ) → ((i j : ℕ) → suc i + j ≡ n → f (suc i) ⊗ g j ≡ 𝟘) → conv K f g n ≡ f 0 ⊗ g n
+  conv-head f g zero h = conv-zero f g
+  conv-head f g (suc n) h = rw (conv-suc f g n, conv-nil (λ i. f (suc i)) g n (λ i j e. h i j (omega arith))) (simp ring)
+
+  pub conv-cong : (f g h : ℕ → F) (n : ℕ) → ((j : ℕ) → j ≤ n → g j ≡ h j) → conv K f g n ≡ conv K f h n
+  conv-cong f g h zero e = rw (conv-zero f g, conv-zero f h, e 0 (omega arith))
+  conv-cong f g h (suc n) e = rw (conv-suc f g n, conv-suc f h n, e (suc n) (omega arith), conv-cong (λ i. f (suc i)) g h n (λ j l. e j (omega arith)))
+
+  -- the product with x f
+  pub conv-cons : (f g : ℕ → F) (n : ℕ) → conv K (cons K 𝟘 f) g (suc n) ≡ conv K f g n
+  unfolding cons
+  conv-cons f g n = rw (conv-suc (cons K 𝟘 f) g n) (simp ring)
