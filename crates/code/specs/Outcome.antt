@@ -15,9 +15,10 @@ use Prim.Native.Nat.{ℕ, zero, suc, _*_, _≤_, _<_}
 use native.Mathlib.Omega.{arith}
 use native.Mathlib.Decide.{decLt, ℕ-discrete}
 use lib.ListN.{length, take}
+use Rattle.algebra.specs.Word.{flip}
 use Rattle.field.specs.declared.Field.{Field}
 use Rattle.field.specs.Field.{a^}
-use Rattle.code.specs.Word.{Word, flip, apart, distance}
+use Rattle.code.specs.Word.{Word, apart, distance}
 use Rattle.code.specs.Code.{Codeword, Near, value}
 
 pub record Close (P : Word → Type 0) (t : ℕ) (w c : Word) : Type 0 where

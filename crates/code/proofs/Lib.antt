@@ -1,0 +1,4 @@
+-- The laws of the code.
+pub mod Test
+pub mod Register
+pub mod Rows
