@@ -2,3 +2,4 @@ pub mod Numbers
 pub mod Runs
 pub mod Pages
 pub mod Placed
+pub mod Steps

@@ -8,4 +8,6 @@ pub mod Pigeon
 pub mod Fast
 pub mod Order
 pub mod Primitive
+pub mod Partial
+pub mod Instance
 pub mod Cases
