@@ -1,4 +1,8 @@
 -- The laws of the code.
 pub mod Test
+pub mod Distance
+pub mod Codeword
+pub mod Outcome
+pub mod Polynomial
 pub mod Register
 pub mod Rows
