@@ -1,9 +1,10 @@
--- Laws of the product of power series.
-use mathlib.Core.Path.{_≡_, refl, sym, ap, _∙_}
+-- Laws of power series and their product.
+use mathlib.Core.Path.{_≡_, refl, _∙_}
 use Prim.Native.Nat.{ℕ, zero, suc, _+_, _≤_, _<_}
 use native.Mathlib.Omega.{arith}
+use native.Mathlib.Nat.{zero-add, suc-add}
 use Rattle.algebra.specs.Field.{BinaryField}
-use Rattle.algebra.specs.Series.{cons, conv}
+use Rattle.algebra.specs.Series.{cons, shift, conv}
 use Rattle.algebra.proofs.Field.{ring}
 
 module _ (K : BinaryField) where
@@ -19,6 +20,25 @@ module _ (K : BinaryField) where
   unfolding cons
   cons-suc a f n = refl
 
+  pub shift-zero : (f : ℕ → F) → shift K 0 f ≡ f
+  unfolding shift
+  shift-zero f = refl
+
+  pub shift-suc : (g : ℕ) (f : ℕ → F) → shift K (suc g) f ≡ cons K 𝟘 (shift K g f)
+  unfolding shift
+  shift-suc g f = refl
+
+  pub shift-low : (g : ℕ) (f : ℕ → F) (i : ℕ) → i < g → shift K g f i ≡ 𝟘
+  unfolding shift cons
+  shift-low zero f i l = absurd (omega arith)
+  shift-low (suc g) f zero l = refl
+  shift-low (suc g) f (suc i) l = shift-low g f i (omega arith)
+
+  pub shift-at : (g : ℕ) (f : ℕ → F) (i : ℕ) → shift K g f (g + i) ≡ f i
+  unfolding shift cons
+  shift-at zero f i = rw (zero-add i)
+  shift-at (suc g) f i = rw (suc-add g i) (shift-at g f i)
+
   pub conv-zero : (f g : ℕ → F) → conv K f g 0 ≡ f 0 ⊗ g 0
   unfolding conv
   conv-zero f g = refl
@@ -27,6 +47,7 @@ module _ (K : BinaryField) where
   unfolding conv
   conv-suc f g n = refl
 
+  -- The product is linear in both factors.
   pub conv-add : (f g h : ℕ → F) (n : ℕ) → conv K (λ i. f i ⊕ g i) h n ≡ conv K f h n ⊕ conv K g h n
   conv-add f g h zero = simp (conv-zero, ring)
   conv-add f g h (suc n) = simp (conv-suc, conv-add (λ i. f (suc i)) (λ i. g (suc i)) h n, ring)
@@ -48,6 +69,7 @@ module _ (K : BinaryField) where
   conv-right f g zero = rw (conv-suc f g 0) (simp (conv-zero, ring))
   conv-right f g (suc n) = rw (conv-suc f g (suc n), conv-right (λ i. f (suc i)) g n, conv-suc f (λ i. g (suc i)) n) (simp ring)
 
+  -- f (g h) = g (f h)
   pub conv-left-comm : (f g h : ℕ → F) (n : ℕ) → conv K f (conv K g h) n ≡ conv K g (conv K f h) n
   conv-left-comm f g h zero = simp (conv-zero, ring)
   conv-left-comm f g h (suc n) =
@@ -60,6 +82,7 @@ module _ (K : BinaryField) where
   conv-nil f g zero h = conv-zero f g ∙ h 0 0 refl
   conv-nil f g (suc n) h = rw (conv-suc f g n, h 0 (suc n) (omega arith), conv-nil (λ i. f (suc i)) g n (λ i j e. h (suc i) j (omega arith))) (simp ring)
 
+  -- only the first product may be other than zero
   pub conv-head : (f g : ℕ → F) (n : ℕ) → ((i j : ℕ) → suc i + j ≡ n → f (suc i) ⊗ g j ≡ 𝟘) → conv K f g n ≡ f 0 ⊗ g n
   conv-head f g zero h = conv-zero f g
   conv-head f g (suc n) h = rw (conv-suc f g n, conv-nil (λ i. f (suc i)) g n (λ i j e. h i j (omega arith))) (simp ring)
