@@ -46,10 +46,12 @@ impl Random {
     /// Different numbers below the bound, in any order.
     pub fn distinct(&mut self, count: usize, bound: usize) -> Vec<usize> {
         assert!(count <= bound);
+        let mut taken = vec![false; bound];
         let mut numbers = Vec::with_capacity(count);
         while numbers.len() < count {
             let number = self.below(bound);
-            if !numbers.contains(&number) {
+            if !taken[number] {
+                taken[number] = true;
                 numbers.push(number);
             }
         }

@@ -1,10 +1,11 @@
 //! Writes test vectors and the model's answers to them:
 //!
-//!     vectors layout INPUT OUTPUT
+//!     vectors layout|locate INPUT OUTPUT
 //!
 //! INPUT is what a program reads on its standard input, OUTPUT what it is to print.
 
 mod layout;
+mod locate;
 
 use model::{Refusal, Reply};
 use std::fmt::Display;
@@ -72,6 +73,7 @@ fn main() -> ExitCode {
     };
     let vectors = match topic.as_str() {
         "layout" => layout::vectors(),
+        "locate" => locate::vectors(),
         _ => return usage(),
     };
     for (path, bytes) in [
@@ -89,6 +91,6 @@ fn main() -> ExitCode {
 }
 
 fn usage() -> ExitCode {
-    eprintln!("usage: vectors layout INPUT OUTPUT");
+    eprintln!("usage: vectors layout|locate INPUT OUTPUT");
     ExitCode::FAILURE
 }
