@@ -105,13 +105,13 @@ byte-placed page i w b hi l =
     ∙ ap (placed page (8 * i)) (ap (digits (number w)) (sym l) ∙ digits-number w)
 
 -- one byte more of a run of bytes
-pub byte-next : (f : ℕ → Bool) (page : List ℕ) (start r i : ℕ) {now : List ℕ} {x : ℕ} → now ≡ placed page (8 * start) (run f r (8 * i))
-    → x ≡ number (run f (r + 8 * i) 8) → start + i < length page → set now (start + i) x ≡ placed page (8 * start) (run f r (8 * (i + 1)))
-byte-next f page start r i {now} {x} en ex h =
-    let l = placed-length page (8 * start) (run f r (8 * i)) in
+pub byte-next : (f : ℕ → Bool) (page : List ℕ) (s r start i : ℕ) {now : List ℕ} {x : ℕ} → now ≡ placed page s (run f r (8 * i))
+    → x ≡ number (run f (r + 8 * i) 8) → s ≡ 8 * start → start + i < length page → set now (start + i) x ≡ placed page s (run f r (8 * (i + 1)))
+byte-next f page s r start i {now} {x} en ex es h =
+    let l = placed-length page s (run f r (8 * i)) in
     let e : 8 * i + 8 ≡ 8 * (i + 1) = omega arith in
-    rw (en, ex) (byte-placed _ (start + i) (run f (r + 8 * i) 8) (rw l (placed-bytes page (8 * start) (run f r (8 * i)))) (omega arith) (run-length f (r + 8 * i) 8)
-    ∙ placed-run-append f page (8 * start) r (8 * i) 8 (omega arith) refl ∙ ap (λ (n : ℕ). placed page (8 * start) (run f r n)) e)
+    rw (en, ex) (byte-placed _ (start + i) (run f (r + 8 * i) 8) (rw l (placed-bytes page s (run f r (8 * i)))) (omega arith) (run-length f (r + 8 * i) 8)
+    ∙ placed-run-append f page s r (8 * i) 8 (omega arith) refl ∙ ap (λ (n : ℕ). placed page s (run f r n)) e)
 
 -- what the code's shifts of 32 bits give
 pub shift-one : (k : ℕ) → k ≤ 8 → 1 * 2 ^ k % 4294967296 ≡ 2 ^ k

@@ -11,10 +11,11 @@
 -- bytes f n            the n bytes whose bit at stream position p is f p
 -- Bytes n l            l is n bytes
 -- placedBit, placed    a page after a word was put at a position
+-- Inside page s n      n bits from position s on lie inside a page
 use mathlib.Core.Path.{_≡_}
 use mathlib.Core.Bool.{Bool, cond}
 use mathlib.Core.List.{List, [], _∷_}
-use Prim.Native.Nat.{ℕ, zero, suc, _+_, _-_, _*_, _/_, _%_, _^_, _<_}
+use Prim.Native.Nat.{ℕ, zero, suc, _+_, _-_, _*_, _/_, _%_, _^_, _<_, _≤_}
 use lib.ListN.{length, getD}
 use lib.Dec.{eqb, leb}
 
@@ -65,3 +66,8 @@ placedBit page s w p = cond (leb s p) (getD w (p - s) (bitOf page p)) (bitOf pag
 -- The page after a word was put at position s. Its length is as before; bits of the word past its end are lost.
 unfoldable pub placed : List ℕ → ℕ → List Bool → List ℕ
 placed page s w = bytes (placedBit page s w) (length page)
+
+-- The n bits from position s on lie inside a page, and their positions fit 64 bits (a page longer than 2^61 bytes has others).
+pub record Inside (page : List ℕ) (s n : ℕ) : Type 0 where
+  pub ends : s + n ≤ 8 * length page
+  pub fits : s + n < 18446744073709551616
