@@ -5,10 +5,4 @@ pub mod Codeword
 pub mod Outcome
 pub mod Polynomial
 pub mod Register
-pub mod Minimal
-pub mod MinimalTest
-pub mod Conjugates
-pub mod ConjugatesTest
-pub mod Generator
-pub mod Remainder
 pub mod Rows
