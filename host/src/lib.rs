@@ -19,6 +19,7 @@
 //! it is confirmed by the definition of the code.
 
 pub mod bits;
+pub mod call;
 pub mod code;
 pub mod decoder;
 pub mod field;

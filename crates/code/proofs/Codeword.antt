@@ -34,7 +34,7 @@ module _ (f : Field) where
   el-bit true = refl
   el-bit false = refl
 
-  el-value : (w : Word) (y : gf f .carrier) (n : ℕ) → el f (horner (gf f) (elements w) y n) ≡ valueOf f w (el f y) n
+  pub el-value : (w : Word) (y : gf f .carrier) (n : ℕ) → el f (horner (gf f) (elements w) y n) ≡ valueOf f w (el f y) n
   unfolding valueOf elements
   el-value w y zero = ap (el f) (horner-zero (gf f) _ y) ∙ el-nil f
   el-value w y (suc n) =

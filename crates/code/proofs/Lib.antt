@@ -5,4 +5,10 @@ pub mod Codeword
 pub mod Outcome
 pub mod Polynomial
 pub mod Register
+pub mod Minimal
+pub mod MinimalTest
+pub mod Conjugates
+pub mod ConjugatesTest
+pub mod Generator
+pub mod Remainder
 pub mod Rows

@@ -1,6 +1,7 @@
-//! Seeded samples of layouts, pages and damage.
+//! Seeded samples of layouts and calls.
 
-use crate::bits::flip;
+pub mod pages;
+
 use crate::layout::{Layout, LayoutWords, check_layout};
 use crate::random::Random;
 
@@ -51,30 +52,5 @@ fn level_field(random: &mut Random) -> u8 {
     match random.below(3) {
         0 => random.below(3) as u8,
         _ => random.below(0x15) as u8,
-    }
-}
-
-/// Turns over so many different covered bits of a block and returns their exponents, ascending.
-pub fn damage(
-    page: &mut [u8],
-    layout: &Layout,
-    block: usize,
-    count: usize,
-    random: &mut Random,
-) -> Vec<usize> {
-    let mut exponents = random.distinct(count, layout.block(block).covered_bits());
-    exponents.sort();
-    for exponent in &exponents {
-        flip(page, layout.start(block + 1) - 1 - exponent);
-    }
-    exponents
-}
-
-/// Turns over tail bits at random.
-pub fn damage_tail(page: &mut [u8], layout: &Layout, random: &mut Random) {
-    for position in layout.used_bits()..8 * layout.page_length {
-        if random.chance(2) {
-            flip(page, position);
-        }
     }
 }
