@@ -65,4 +65,8 @@ module _ (K : BinaryField) where
   pub add-nil-eq : (a b : F) → a ⊕ b ≡ 𝟘 → a ≡ b
   add-nil-eq a b h = add-move a b 𝟘 h ∙ nil-add b
 
-pub ruleset ring = (nil-add, add-nil, add-self, add-cancel, add-assoc, add-comm, add-left-comm, one-mul, mul-one, nil-mul, mul-nil, mul-assoc, mul-comm, mul-left-comm, mul-add, add-mul)
+pub ruleset ring-sums = (nil-add, add-nil, add-self, add-cancel, add-assoc, add-comm, add-left-comm)
+
+pub ruleset ring-products = (one-mul, mul-one, nil-mul, mul-nil, mul-assoc, mul-comm, mul-left-comm)
+
+pub ruleset ring = (ring-sums, ring-products, mul-add, add-mul)

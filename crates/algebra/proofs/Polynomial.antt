@@ -51,7 +51,8 @@ module _ (K : BinaryField) where
 
   -- An element of order N or more has N distinct powers.
   pub powers-distinct : (a : F) (N : ℕ) → ¬ (a ≡ 𝟘) → ((k : ℕ) → 0 < k → k < N → ¬ (pow K a k ≡ 𝟙)) → Distinct K N (pow K a)
-  powers-distinct a N u h i j l m e = h (j - i) (omega arith) (omega arith) (sym (add-nil-eq K 𝟙 (pow K a (j - i)) (K .no-divisors (pow K a i) _ product (pow-unit a i u))))
+  powers-distinct a N u h i j l m e =
+      h (j - i) (omega arith) (omega arith) (sym (add-nil-eq K 𝟙 (pow K a (j - i)) (K .no-divisors (pow K a i) _ product (pow-unit a i u))))
     where
       apart : j ≡ i + (j - i)
       apart = omega arith

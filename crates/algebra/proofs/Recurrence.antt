@@ -8,7 +8,7 @@ use Rattle.algebra.specs.Series.{cons, conv}
 use Rattle.algebra.specs.Sum.{sum}
 use Rattle.algebra.specs.Polynomial.{pow, value, Distinct}
 use Rattle.algebra.specs.Recurrence.{Generates, State, unit-series, locator}
-use Rattle.algebra.proofs.Field.{ring, mul-nil, nil-mul}
+use Rattle.algebra.proofs.Field.{ring, mul-nil, nil-mul, mul-comm}
 use Rattle.algebra.proofs.Series.{conv-add, conv-scale, conv-nil, conv-head, conv-cons, conv-cong, conv-left-comm}
 use Rattle.algebra.proofs.Sum.{sum-cong, sum-nil, conv-sum}
 use Rattle.algebra.proofs.Polynomial.{conv-pow, value-suc, value-high, roots, powers-independent}
@@ -18,6 +18,8 @@ module _ (K : BinaryField) where
 
   infixl 60 _⊕_
   infixl 70 _⊗_
+  -- Massey's lemma. Where C, of length L, holds for the first k terms and fails at term k, a recurrence D that holds there too is longer than
+  -- k - L. It compares the coefficients at k of D (C S) and C (D S): one is D 0 times the discrepancy of C, the other zero.
   pub massey : (S C D : ℕ → F) (L v k : ℕ) → Generates K S C L k → ¬ (conv K C S k ≡ 𝟘) → Generates K S D v (suc k) → k < L + v
   massey S C D L v k c d g = go (decLt k (L + v))
     where
@@ -30,7 +32,10 @@ module _ (K : BinaryField) where
       right i j e m (no p) = rw (g .zeros j (omega arith) (omega arith)) (mul-nil K _)
 
       both : L + v ≤ k → D 0 ⊗ conv K C S k ≡ 𝟘
-      both m = sym (conv-head K D (conv K C S) k (λ i j e. left i j e m (decLt v (suc i)))) ∙ conv-left-comm K D C S k ∙ conv-nil K C (conv K D S) k (λ i j e. right i j e m (decLt L i))
+      both m =
+          sym (conv-head K D (conv K C S) k (λ i j e. left i j e m (decLt v (suc i))))
+          ∙ conv-left-comm K D C S k
+          ∙ conv-nil K C (conv K D S) k (λ i j e. right i j e m (decLt L i))
 
       go : Dec (k < L + v) → k < L + v
       go (yes p) = p
@@ -61,63 +66,58 @@ module _ (K : BinaryField) where
       short₁ (suc i) l = short₀ i (omega arith)
 
   module _ (S : ℕ → F) (k L : ℕ) (b : F) (C T : ℕ → F) (s : State K S k L b C T) where
-    later-short : (i : ℕ) → suc (suc k) < L + i → cons K 𝟘 T i ≡ 𝟘
+    -- A recurrence of the same length for one more term.
+    same-length : (D : ℕ → F) → Generates K S D L (suc k) → State K S (suc k) L b D (cons K 𝟘 T)
     unfolding cons
-    later-short zero l = refl
-    later-short (suc i) l = s .short i (omega arith)
-
-    later-zeros : (j : ℕ) → suc (suc k) ≤ L + j → j < suc k → conv K (cons K 𝟘 T) S j ≡ 𝟘
-    later-zeros zero l m = absurd (omega (arith, s .fits))
-    later-zeros (suc j) l m = conv-cons K T S j ∙ s .zeros j (omega arith) (omega arith)
-
-    -- no discrepancy
-    pub state-keep : conv K C S k ≡ 𝟘 → State K S (suc k) L b C (cons K 𝟘 T)
-    unfolding cons
-    state-keep z = record {
-      generates = record { short = s .generates .short; zeros = λ j l m. zeros₁ j l m (decLt j k); start = s .generates .start };
-      fits = omega arith;
-      short = later-short;
+    same-length D g = record {
+      generates = g;
+      fits = omega (arith, s .fits);
+      short = short₁;
       start = refl;
-      zeros = later-zeros;
+      zeros = zeros₁;
       hit = λ l. conv-cons K T S k ∙ s .hit l;
       unit = s .unit;
-      least = λ D v g. s .least D v (generates-fewer S D v k (suc k) (omega arith) g);
+      least = λ E v h. s .least E v (generates-fewer S E v k (suc k) (omega arith) h);
     }
+      where
+        short₁ : (i : ℕ) → suc (suc k) < L + i → cons K 𝟘 T i ≡ 𝟘
+        short₁ zero l = refl
+        short₁ (suc i) l = s .short i (omega arith)
+
+        zeros₁ : (j : ℕ) → suc (suc k) ≤ L + j → j < suc k → conv K (cons K 𝟘 T) S j ≡ 𝟘
+        zeros₁ zero l m = absurd (omega (arith, s .fits))
+        zeros₁ (suc j) l m = conv-cons K T S j ∙ s .zeros j (omega arith) (omega arith)
+
+    -- no discrepancy: the recurrence stays
+    pub state-keep : conv K C S k ≡ 𝟘 → State K S (suc k) L b C (cons K 𝟘 T)
+    state-keep z = same-length C (record { short = s .generates .short; zeros = λ j l m. zeros₁ j l m (decLt j k); start = s .generates .start })
       where
         zeros₁ : (j : ℕ) → L ≤ j → j < suc k → Dec (j < k) → conv K C S j ≡ 𝟘
         zeros₁ j l m (yes p) = s .generates .zeros j l p
         zeros₁ j l m (no p) = let e : j ≡ k = omega arith in rw e z
 
-    -- a discrepancy d
-    module _ (d : F) (is : conv K C S k ≡ d) where
-      mixed : (M : ℕ) → L ≤ M → suc k ≤ L + M → (M ≤ k → 0 < L) → Generates K S (λ i. b ⊗ C i ⊕ d ⊗ T i) M (suc k)
+    -- a discrepancy d, and q = d / b
+    module _ (d q : F) (is : conv K C S k ≡ d) (quotient : b ⊗ q ≡ d) where
+      mixed : (M : ℕ) → L ≤ M → suc k ≤ L + M → (M ≤ k → 0 < L) → Generates K S (λ i. C i ⊕ q ⊗ T i) M (suc k)
       mixed M l m h = record {
         short = λ i p. rw (s .generates .short i (omega arith), s .short i (omega arith)) (simp ring);
-        zeros = λ j p q. product j ∙ zeros₁ j p q (decLt j k);
-        start = λ e. s .generates .start (K .no-divisors b (C 0) (sym (rw (s .start) (simp ring)) ∙ e) (s .unit));
+        zeros = λ j p r. product j ∙ zeros₁ j p r (decLt j k);
+        start = λ e. s .generates .start (sym (rw (s .start) (simp ring)) ∙ e);
       }
         where
-          product : (j : ℕ) → conv K (λ i. b ⊗ C i ⊕ d ⊗ T i) S j ≡ b ⊗ conv K C S j ⊕ d ⊗ conv K T S j
-          product j = rw (conv-add K (λ i. b ⊗ C i) (λ i. d ⊗ T i) S j, conv-scale K b C S j, conv-scale K d T S j)
+          product : (j : ℕ) → conv K (λ i. C i ⊕ q ⊗ T i) S j ≡ conv K C S j ⊕ q ⊗ conv K T S j
+          product j = rw (conv-add K C (λ i. q ⊗ T i) S j, conv-scale K q T S j)
 
-          zeros₁ : (j : ℕ) → M ≤ j → j < suc k → Dec (j < k) → b ⊗ conv K C S j ⊕ d ⊗ conv K T S j ≡ 𝟘
-          zeros₁ j p q (yes r) = rw (s .generates .zeros j (omega arith) r, s .zeros j (omega arith) r) (simp ring)
-          zeros₁ j p q (no r) = let e : j ≡ k = omega arith in rw (e, is, s .hit (h (omega arith))) (simp ring)
+          zeros₁ : (j : ℕ) → M ≤ j → j < suc k → Dec (j < k) → conv K C S j ⊕ q ⊗ conv K T S j ≡ 𝟘
+          zeros₁ j p r (yes u) = rw (s .generates .zeros j (omega arith) u, s .zeros j (omega arith) u) (simp ring)
+          zeros₁ j p r (no u) = let e : j ≡ k = omega arith in rw (e, is, s .hit (h (omega arith)), mul-comm K q b, quotient) (K .add-self d)
 
-      pub state-patch : k < L + L → State K S (suc k) L b (λ i. b ⊗ C i ⊕ d ⊗ T i) (cons K 𝟘 T)
-      unfolding cons
-      state-patch l = record {
-        generates = mixed L (omega arith) (omega arith) (λ p. omega arith);
-        fits = omega arith;
-        short = later-short;
-        start = refl;
-        zeros = later-zeros;
-        hit = λ l. conv-cons K T S k ∙ s .hit l;
-        unit = s .unit;
-        least = λ D v g. s .least D v (generates-fewer S D v k (suc k) (omega arith) g);
-      }
+      -- The recurrence is corrected, and its length stays.
+      pub state-patch : k < L + L → State K S (suc k) L b (λ i. C i ⊕ q ⊗ T i) (cons K 𝟘 T)
+      state-patch l = same-length (λ i. C i ⊕ q ⊗ T i) (mixed L (omega arith) (omega arith) (λ p. omega arith))
 
-      pub state-grow : ¬ (d ≡ 𝟘) → L + L ≤ k → State K S (suc k) (suc k - L) d (λ i. b ⊗ C i ⊕ d ⊗ T i) (cons K 𝟘 C)
+      -- It grows to k + 1 - L, which is least by Massey's lemma; the old one becomes the update.
+      pub state-grow : ¬ (d ≡ 𝟘) → L + L ≤ k → State K S (suc k) (suc k - L) d (λ i. C i ⊕ q ⊗ T i) (cons K 𝟘 C)
       unfolding cons
       state-grow z l = record {
         generates = mixed (suc k - L) (omega arith) (omega arith) (λ p. omega arith);
@@ -146,17 +146,23 @@ module _ (K : BinaryField) where
   unfolding cons
   locator-short X v zero l = absurd (omega arith)
   locator-short X zero (suc i) l = unfold locator unit-series in refl
-  locator-short X (suc v) (suc i) l = rw (locator-suc X v (suc i), locator-short X v (suc i) (omega arith), locator-short X v i (omega arith)) (simp ring)
+  locator-short X (suc v) (suc i) l =
+      rw (locator-suc X v (suc i), locator-short X v (suc i) (omega arith), locator-short X v i (omega arith)) (simp ring)
 
   locator-start : (X : ℕ → F) (v : ℕ) → locator K X v 0 ≡ 𝟙
   unfolding cons
   locator-start X zero = unfold locator unit-series in refl
   locator-start X (suc v) = rw (locator-suc X v 0, locator-start X v) (simp ring)
 
-  locator-conv : (X g : ℕ → F) (v n : ℕ) → conv K (locator K X (suc v)) g (suc n) ≡ conv K (locator K X v) g (suc n) ⊕ X v ⊗ conv K (locator K X v) g n
+  -- one factor more
+  locator-conv : (X g : ℕ → F) (v n : ℕ)
+      → conv K (locator K X (suc v)) g (suc n) ≡ conv K (locator K X v) g (suc n) ⊕ X v ⊗ conv K (locator K X v) g n
   unfolding locator
-  locator-conv X g v n = conv-add K (locator K X v) (λ i. X v ⊗ cons K 𝟘 (locator K X v) i) g (suc n) ∙ rw (conv-scale K (X v) (cons K 𝟘 (locator K X v)) g (suc n), conv-cons K (locator K X v) g n)
+  locator-conv X g v n =
+      conv-add K (locator K X v) (λ i. X v ⊗ cons K 𝟘 (locator K X v) i) g (suc n)
+      ∙ rw (conv-scale K (X v) (cons K 𝟘 (locator K X v)) g (suc n), conv-cons K (locator K X v) g n)
 
+  -- the product with 1, X e, (X e)^2, .. ends
   locator-zeros : (X : ℕ → F) (v e n : ℕ) → e < v → v ≤ n → conv K (locator K X v) (pow K (X e)) n ≡ 𝟘
   locator-zeros X zero e n l m = absurd (omega arith)
   locator-zeros X (suc v) e zero l m = absurd (omega arith)
@@ -166,8 +172,15 @@ module _ (K : BinaryField) where
           → conv K (locator K X v) (pow K (X e)) (suc n) ⊕ X v ⊗ conv K (locator K X v) (pow K (X e)) n ≡ 𝟘
       go h (yes p) = rw (h e (suc n) p (omega arith), h e n p (omega arith)) (simp ring)
       go h (no p) = let q : e ≡ v = omega arith in
-          rw (q, conv-pow K (locator K X v) (X v) (suc n), conv-pow K (locator K X v) (X v) n, value-suc K (locator K X v) (X v) n, locator-short X v (suc n) (omega arith)) (simp ring)
+          rw (
+            q,
+            conv-pow K (locator K X v) (X v) (suc n),
+            conv-pow K (locator K X v) (X v) n,
+            value-suc K (locator K X v) (X v) n,
+            locator-short X v (suc n) (omega arith),
+          ) (simp ring)
 
+  -- S are the first n power sums of v distinct elements X e, none of them zero.
   module _ (S X : ℕ → F) (v n : ℕ) (distinct : Distinct K v X) (units : (e : ℕ) → e < v → ¬ (X e ≡ 𝟘))
       (sums : (j : ℕ) → j < n → S j ≡ sum K v (λ e. X e ⊗ pow K (X e) j)) where
     product : (C : ℕ → F) (j : ℕ) → j < n → conv K C S j ≡ sum K v (λ e. X e ⊗ conv K C (pow K (X e)) j)
@@ -180,12 +193,14 @@ module _ (K : BinaryField) where
       start = λ e. K .one-not-nil (sym (locator-start X v) ∙ e);
     }
 
+    -- A recurrence C of length L, at most v, for 2v terms or more: its length is v, and its roots are the X e and no others.
     module _ (C : ℕ → F) (L : ℕ) (g : Generates K S C L n) (least : L ≤ v) (room : v + v ≤ n) where
       pub locator-roots : (e : ℕ) → e < v → value K C (X e) L ≡ 𝟘
       locator-roots e l = K .no-divisors (X e) _ (powers-independent K v (λ e. X e ⊗ value K C (X e) L) X distinct each e l) (units e l)
         where
           each : (k : ℕ) → k < v → sum K v (λ e. X e ⊗ value K C (X e) L ⊗ pow K (X e) k) ≡ 𝟘
-          each k m = sum-cong K v _ _ (λ e p. rw (conv-pow K C (X e) (L + k), value-high K C (X e) L k (g .short)) (simp ring))
+          each k m =
+              sum-cong K v _ _ (λ e p. rw (conv-pow K C (X e) (L + k), value-high K C (X e) L k (g .short)) (simp ring))
               ∙ sym (product C (L + k) (omega arith)) ∙ g .zeros (L + k) (omega arith) (omega arith)
 
       pub locator-length : L ≡ v

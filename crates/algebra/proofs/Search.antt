@@ -1,64 +1,57 @@
--- Laws of the search for roots: one more flag, set or not.
-use mathlib.Core.Path.{_≡_, refl, sym, ap, _∙_}
+-- Laws of the search for roots: the next power of a is a root or none, and once as many roots are found as the degree there are no more.
+use mathlib.Core.Path.{_≡_, sym, ap, _∙_}
 use mathlib.Core.List.{List}
-use mathlib.Core.Bool.{Bool, true, false}
-use Prim.Native.Nat.{ℕ, zero, suc, _+_, _<_}
+use Prim.Native.Nat.{ℕ, zero, suc, _+_, _≤_, _<_}
 use native.Mathlib.Omega.{arith}
 use native.Mathlib.Numerals.{add-one}
-use native.Mathlib.Decide.{decLt}
-use lib.ListN.{length, set}
+use lib.ListN.{getD, length, set}
 use lib.Seq.{getD-set-same, getD-set-other}
 use Rattle.algebra.specs.Field.{BinaryField}
+use Rattle.algebra.specs.Series.{cons}
+use Rattle.algebra.specs.Polynomial.{pow, value, Distinct}
 use Rattle.algebra.specs.Number.{Numbers}
-use Rattle.algebra.specs.Polynomial.{pow, value}
-use Rattle.algebra.specs.Word.{count}
 use Rattle.algebra.specs.Array.{coef}
-use Rattle.algebra.specs.Search.{is-one, flag, Root, Marked}
-use Rattle.algebra.proofs.Word.{count-zero, count-true, count-false, count-cong}
+use Rattle.algebra.specs.Search.{Root, Found}
+use Rattle.algebra.proofs.Polynomial.{roots}
 use Rattle.algebra.proofs.Number.{el-zero}
-
-flag-same : (l : List ℕ) (p v : ℕ) → p < length l → flag (set l p v) p ≡ is-one v
-unfolding flag
-flag-same l p v h = ap is-one (getD-set-same l p v 0 h)
-
-flag-other : (l : List ℕ) (p v q : ℕ) → q < p → flag (set l p v) q ≡ flag l q
-unfolding flag
-flag-other l p v q h = ap is-one (getD-set-other l p q v 0 (omega arith))
+use Rattle.algebra.proofs.Word.{lists-none, lists-longer, lists-same}
 
 module _ (K : BinaryField) (N : Numbers K) (c : List ℕ) (len : ℕ) (a : K .carrier) where
-  pub marked-start : (l : List ℕ) → Marked K N c len a l 0 0
-  marked-start l = record { at-roots = λ p h. absurd (omega arith); elsewhere = λ p h. absurd (omega arith); number = sym (count-zero (flag l)) }
+  pub found-start : (l : List ℕ) → Found K N c len a l 0 0
+  found-start l = record { lists = lists-none _ _ }
 
-  marked-by : (l : List ℕ) (n found v found′ : ℕ) → n < length l → Marked K N c len a l n found
-      → (is-one v ≡ true → Root K N c len a n) → (is-one v ≡ false → ¬ (Root K N c len a n)) → found′ ≡ count (flag (set l n v)) (suc n) → Marked K N c len a (set l n v) (n + 1) found′
-  marked-by l n found v found′ h m yes₁ no₁ e = record {
-    at-roots = λ p q. at p q (decLt p n);
-    elsewhere = λ p q. off p q (decLt p n);
-    number = e ∙ ap (count (flag (set l n v))) (sym (add-one n));
-  }
+  -- x is the power p of a, v the value there.
+  module _ {l : List ℕ} {p w : ℕ} (h : Found K N c len a l p w) {x v : ℕ} (power : N .el x ≡ pow K a p) (small : v < N .size)
+      (e : N .el v ≡ value K (coef K N c) (N .el x) len) where
+    valued : N .el v ≡ value K (coef K N c) (pow K a p) len
+    valued = rw power at e
+
+    pub found-root : v ≡ 0 → w < length l → Found K N c len a (set l w p) (p + 1) (w + 1)
+    found-root z m = rw (add-one p, add-one w) (record {
+      lists = lists-longer (h .lists) (sym valued ∙ ap (N .el) z ∙ N .el-nil) (λ i k. getD-set-other l w i p 0 (omega arith)) (getD-set-same l w p 0 m);
+    })
+
+    pub found-none : ¬ (v ≡ 0) → Found K N c len a l (p + 1) w
+    found-none z = record { lists = lists-same (h .lists) (omega arith) none }
+      where
+        none : (i : ℕ) → p ≤ i → i < p + 1 → ¬ (Root K N c len a i)
+        none i l m r = let q : i ≡ p = omega arith in z (el-zero K N v small (valued ∙ rw q at r))
+
+  -- A polynomial of degree len, its leading coefficient not zero, has no more than len roots.
+  pub found-all : {l : List ℕ} {p : ℕ} → Found K N c len a l p len → (size : ℕ) → Distinct K size (pow K a) → ¬ (coef K N c 0 ≡ K .nil)
+      → (n : ℕ) → p ≤ n → n ≤ size → Found K N c len a l n len
+  unfolding cons
+  found-all {l} {p} h size distinct leading n le fits = record { lists = lists-same (h .lists) le none }
     where
-      at : (p : ℕ) → p < n + 1 → Dec (p < n) → flag (set l n v) p ≡ true → Root K N c len a p
-      at p q (yes r) = λ f. m .at-roots p r (sym (flag-other l n v p r) ∙ f)
-      at p q (no r) = let i : p ≡ n = omega arith in rw i (λ f. yes₁ (sym (flag-same l n v h) ∙ f))
+      none : (i : ℕ) → p ≤ i → i < n → ¬ (Root K N c len a i)
+      none i k m r = leading (roots K len (coef K N c) (cons K (pow K a i) (λ e. pow K a (getD l e 0))) apart zeros)
+        where
+          apart : Distinct K (suc len) (cons K (pow K a i) (λ e. pow K a (getD l e 0)))
+          apart u zero x y = absurd (omega arith)
+          apart zero (suc v) x y = λ q. distinct (getD l v 0) i (omega (arith, h .lists .below v (omega arith))) (omega arith) (sym q)
+          apart (suc u) (suc v) x y =
+              distinct (getD l u 0) (getD l v 0) (h .lists .rising u v (omega arith) (omega arith)) (omega (arith, h .lists .below v (omega arith)))
 
-      off : (p : ℕ) → p < n + 1 → Dec (p < n) → flag (set l n v) p ≡ false → ¬ (Root K N c len a p)
-      off p q (yes r) = λ f. m .elsewhere p r (sym (flag-other l n v p r) ∙ f)
-      off p q (no r) = let i : p ≡ n = omega arith in rw i (λ f. no₁ (sym (flag-same l n v h) ∙ f))
-
-  module _ (l : List ℕ) (n found x v : ℕ) (h : n < length l) (m : Marked K N c len a l n found) (is : N .el x ≡ pow K a n)
-      (small : v < N .size) (e : N .el v ≡ value K (coef K N c) (N .el x) len) where
-    valued : N .el v ≡ value K (coef K N c) (pow K a n) len
-    valued = rw is at e
-
-    before : (u : ℕ) → count (flag (set l n u)) n ≡ count (flag l) n
-    before u = count-cong (flag (set l n u)) (flag l) n (λ p q. flag-other l n u p q)
-
-    pub marked-one : v ≡ 0 → Marked K N c len a (set l n 1) (n + 1) (found + 1)
-    unfolding is-one
-    marked-one z = marked-by l n found 1 (found + 1) h m (λ f. sym valued ∙ ap (N .el) z ∙ N .el-nil) (λ f r. let y : _≡_ {A = ℕ} 0 1 = cc in absurd (omega arith))
-        (add-one found ∙ ap suc (m .number ∙ sym (before 1)) ∙ sym (count-true (flag (set l n 1)) n (flag-same l n 1 h)))
-
-    pub marked-none : ¬ (v ≡ 0) → Marked K N c len a (set l n 0) (n + 1) found
-    unfolding is-one
-    marked-none z = marked-by l n found 0 found h m (λ f. let y : _≡_ {A = ℕ} 0 1 = cc in absurd (omega arith)) (λ f r. z (el-zero K N v small (valued ∙ r)))
-        (m .number ∙ sym (before 0) ∙ sym (count-false (flag (set l n 0)) n (flag-same l n 0 h)))
+          zeros : (u : ℕ) → u ≤ len → value K (coef K N c) (cons K (pow K a i) (λ e. pow K a (getD l e 0)) u) len ≡ K .nil
+          zeros zero x = r
+          zeros (suc u) x = h .lists .set u (omega arith)

@@ -1,6 +1,6 @@
 -- Laws of finite sums, and the product of series as a sum.
-use mathlib.Core.Path.{_≡_, refl, sym, ap, _∙_}
-use Prim.Native.Nat.{ℕ, zero, suc, _+_, _≤_, _<_, _-_}
+use mathlib.Core.Path.{_≡_, refl, _∙_}
+use Prim.Native.Nat.{ℕ, zero, suc, _≤_, _<_, _-_}
 use native.Mathlib.Omega.{arith}
 use native.Mathlib.Decide.{decLe}
 use Rattle.algebra.specs.Field.{BinaryField}
@@ -42,7 +42,9 @@ module _ (K : BinaryField) where
   pub conv-sum : (w : ℕ) (c : ℕ → F) (f : ℕ → F) (g : ℕ → ℕ → F) (n : ℕ)
       → conv K f (λ j. sum K w (λ e. c e ⊗ g e j)) n ≡ sum K w (λ e. c e ⊗ conv K f (g e) n)
   conv-sum zero c f g n = simp sum-zero (conv-nil K f (λ j. 𝟘) n (λ i j e. simp ring))
-  conv-sum (suc w) c f g n = simp (sum-suc w) (rw (conv-add-right K f (λ j. sum K w (λ e. c e ⊗ g e j)) (λ j. c w ⊗ g w j) n, conv-sum w c f g n, conv-scale-right K (c w) f (g w) n))
+  conv-sum (suc w) c f g n =
+      simp (sum-suc w)
+      (rw (conv-add-right K f (λ j. sum K w (λ e. c e ⊗ g e j)) (λ j. c w ⊗ g w j) n, conv-sum w c f g n, conv-scale-right K (c w) f (g w) n))
 
   -- the first term split off
   pub sum-head : (n : ℕ) (f : ℕ → F) → sum K (suc n) f ≡ f 0 ⊕ sum K n (λ i. f (suc i))

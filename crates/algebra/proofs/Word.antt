@@ -1,17 +1,18 @@
 -- Laws of words: counting, listing the ones, power sums, the least distance of the code, and decoding near a codeword.
 use mathlib.Core.Path.{_≡_, refl, sym, ap, ap₂, _∙_}
-use mathlib.Core.Bool.{Bool, true, false}
+use mathlib.Core.Bool.{Bool, true, false, cond}
 use Prim.Native.Nat.{ℕ, zero, suc, _+_, _-_, _≤_, _<_}
 use native.Mathlib.Omega.{arith}
-use native.Mathlib.Decide.{decLt}
+use native.Mathlib.Decide.{decLt, ℕ-discrete}
+use borrow.Author.Tests.{eq-eqb, ne-eqb}
 use Rattle.algebra.specs.Field.{BinaryField}
 use Rattle.algebra.specs.Sum.{sum}
 use Rattle.algebra.specs.Polynomial.{pow, horner, value, Distinct}
 use Rattle.algebra.specs.Recurrence.{State, locator}
-use Rattle.algebra.specs.Word.{flip, differ, both, bump, count, Lists, bit, Listing, power-sum, Codeword}
+use Rattle.algebra.specs.Word.{flip, differ, both, bump, count, Few, Lists, among, bit, Listing, power-sum, Codeword}
 use Rattle.algebra.proofs.Field.{ring, nil-mul, one-mul}
 use Rattle.algebra.proofs.Sum.{sum-zero, sum-suc, sum-cong, sum-add}
-use Rattle.algebra.proofs.Polynomial.{pow-suc, pow-unit, pow-swap, horner-sum, distinct-eq, powers-independent}
+use Rattle.algebra.proofs.Polynomial.{pow-suc, pow-add, pow-unit, pow-swap, horner-sum, horner-square, distinct-eq, powers-independent}
 use Rattle.algebra.proofs.Recurrence.{locator-generates, locator-roots, locator-length, locator-only}
 
 pub differ-false : (x y : Bool) → differ x y ≡ false → x ≡ y
@@ -75,41 +76,117 @@ extend-last w E n = go (decLt w w)
     go (yes l) = absurd (omega arith)
     go (no _) = refl
 
-lists-longer : (b : ℕ → Bool) (n w : ℕ) (E : ℕ → ℕ) → Lists b n w E → b n ≡ true → Lists b (suc n) (suc w) (extend w E n)
-lists-longer b n w E s h = record {
+pub lists-none : (P : ℕ → Type 0) (E : ℕ → ℕ) → Lists P 0 0 E
+lists-none P E = record {
+  below = λ e l. absurd (omega arith);
+  rising = λ i j l m. absurd (omega arith);
+  set = λ e l. absurd (omega arith);
+  all = λ p l. absurd (omega arith);
+}
+
+-- One place more: E′ lists what E does, and then n.
+pub lists-longer : {P : ℕ → Type 0} {n w : ℕ} {E E′ : ℕ → ℕ} → Lists P n w E → P n → ((e : ℕ) → e < w → E′ e ≡ E e) → E′ w ≡ n → Lists P (suc n) (suc w) E′
+lists-longer {P} {n} {w} {E} {E′} s h low last = record {
   below = λ e l. below₁ e l (decLt e w);
   rising = λ i j l m. rising₁ i j l m (decLt j w);
   set = λ e l. set₁ e l (decLt e w);
   all = λ p l q. all₁ p l q (decLt p n);
 }
   where
-    below₁ : (e : ℕ) → e < suc w → Dec (e < w) → extend w E n e < suc n
-    below₁ e l (yes m) = rw (extend-low w E n e m) (omega (arith, s .below e m))
-    below₁ e l (no m) = let q : e ≡ w = omega arith in rw (q, extend-last w E n) (omega arith)
+    below₁ : (e : ℕ) → e < suc w → Dec (e < w) → E′ e < suc n
+    below₁ e l (yes m) = rw (low e m) (omega (arith, s .below e m))
+    below₁ e l (no m) = let q : e ≡ w = omega arith in rw (q, last) (omega arith)
 
-    rising₁ : (i j : ℕ) → i < j → j < suc w → Dec (j < w) → extend w E n i < extend w E n j
-    rising₁ i j l m (yes p) = rw (extend-low w E n i (omega arith), extend-low w E n j p) (s .rising i j l p)
-    rising₁ i j l m (no p) = let q : j ≡ w = omega arith in rw (q, extend-low w E n i (omega arith), extend-last w E n) (s .below i (omega arith))
+    rising₁ : (i j : ℕ) → i < j → j < suc w → Dec (j < w) → E′ i < E′ j
+    rising₁ i j l m (yes p) = rw (low i (omega arith), low j p) (s .rising i j l p)
+    rising₁ i j l m (no p) = let q : j ≡ w = omega arith in rw (q, low i (omega arith), last) (s .below i (omega arith))
 
-    set₁ : (e : ℕ) → e < suc w → Dec (e < w) → b (extend w E n e) ≡ true
-    set₁ e l (yes m) = rw (extend-low w E n e m) (s .set e m)
-    set₁ e l (no m) = let q : e ≡ w = omega arith in rw (q, extend-last w E n) h
+    set₁ : (e : ℕ) → e < suc w → Dec (e < w) → P (E′ e)
+    set₁ e l (yes m) = rw (low e m) (s .set e m)
+    set₁ e l (no m) = let q : e ≡ w = omega arith in rw (q, last) h
 
-    all₁ : (p : ℕ) → p < suc n → b p ≡ true → Dec (p < n) → (e : ℕ) × (e < suc w) × (extend w E n e ≡ p)
-    all₁ p l q (yes m) = let (e, k, r) = s .all p m q in (e, omega arith, extend-low w E n e k ∙ r)
-    all₁ p l q (no m) = (w, omega arith, extend-last w E n ∙ omega arith)
+    all₁ : (p : ℕ) → p < suc n → P p → Dec (p < n) → (e : ℕ) × (e < suc w) × (E′ e ≡ p)
+    all₁ p l q (yes m) = let (e, k, r) = s .all p m q in (e, omega arith, low e k ∙ r)
+    all₁ p l q (no m) = (w, omega arith, last ∙ omega arith)
 
-lists-same : (b : ℕ → Bool) (n w : ℕ) (E : ℕ → ℕ) → Lists b n w E → b n ≡ false → Lists b (suc n) w E
-lists-same b n w E s h = record {
+-- Places up to n that do not have the property.
+pub lists-same : {P : ℕ → Type 0} {m n w : ℕ} {E : ℕ → ℕ} → Lists P m w E → m ≤ n → ((p : ℕ) → m ≤ p → p < n → ¬ (P p)) → Lists P n w E
+lists-same {P} {m} {n} {w} {E} s le h = record {
   below = λ e l. omega (arith, s .below e l);
   rising = s .rising;
   set = s .set;
-  all = λ p l q. all₁ p l q (decLt p n);
+  all = λ p l q. all₁ p l q (decLt p m);
 }
   where
-    all₁ : (p : ℕ) → p < suc n → b p ≡ true → Dec (p < n) → (e : ℕ) × (e < w) × (E e ≡ p)
-    all₁ p l q (yes m) = s .all p m q
-    all₁ p l q (no m) = let r : p ≡ n = omega arith in let z : _≡_ {A = ℕ} 0 1 = cc in absurd (omega arith)
+    all₁ : (p : ℕ) → p < n → P p → Dec (p < m) → (e : ℕ) × (e < w) × (E e ≡ p)
+    all₁ p l q (yes k) = s .all p k q
+    all₁ p l q (no k) = absurd (h p (omega arith) l q)
+
+among-here : (E : ℕ → ℕ) (w : ℕ) → among E (suc w) (E w) ≡ true
+unfolding among
+among-here E w = ap (λ x. cond x true (among E w (E w))) (eq-eqb (E w) (E w) refl)
+
+among-other : (E : ℕ → ℕ) (w p : ℕ) → ¬ (E w ≡ p) → among E (suc w) p ≡ among E w p
+unfolding among
+among-other E w p h = ap (λ x. cond x true (among E w p)) (ne-eqb (E w) p h)
+
+pub among-true : (E : ℕ → ℕ) (w p : ℕ) → among E w p ≡ true → (e : ℕ) × (e < w) × (E e ≡ p)
+among-true E zero p h = unfold among in let z : _≡_ {A = ℕ} 0 1 = cc in absurd (omega arith)
+among-true E (suc w) p h = go (among-true E w p) (ℕ-discrete (E w) p)
+  where
+    go : (among E w p ≡ true → (e : ℕ) × (e < w) × (E e ≡ p)) → Dec (E w ≡ p) → (e : ℕ) × (e < suc w) × (E e ≡ p)
+    go r (yes q) = (w, omega arith, q)
+    go r (no q) = let (e, l, i) = r (sym (among-other E w p q) ∙ h) in (e, omega arith, i)
+
+pub among-at : (E : ℕ → ℕ) (w e : ℕ) → e < w → among E w (E e) ≡ true
+among-at E zero e l = absurd (omega arith)
+among-at E (suc w) e l = go (among-at E w e) (ℕ-discrete (E w) (E e)) (decLt e w)
+  where
+    go : (e < w → among E w (E e) ≡ true) → Dec (E w ≡ E e) → Dec (e < w) → among E (suc w) (E e) ≡ true
+    go r (yes q) d = rw (← q) (among-here E w)
+    go r (no q) (yes m) = among-other E w (E e) q ∙ r m
+    go r (no q) (no m) = let i : w ≡ e = omega arith in absurd (q (ap E i))
+
+count-more : (b c : ℕ → Bool) (x n : ℕ) → b x ≡ true → c x ≡ false → ((p : ℕ) → ¬ (x ≡ p) → b p ≡ c p) → x < n → count b n ≡ suc (count c n)
+count-more b c x zero h k s l = absurd (omega arith)
+count-more b c x (suc n) h k s l = go (count-more b c x n h k s) (ℕ-discrete x n)
+  where
+    other : (v : Bool) → c n ≡ v → b n ≡ c n → count b n ≡ suc (count c n) → count b (suc n) ≡ suc (count c (suc n))
+    other true e i r = count-true b n (i ∙ e) ∙ ap suc (r ∙ sym (count-true c n e))
+    other false e i r = count-false b n (i ∙ e) ∙ r ∙ ap suc (sym (count-false c n e))
+
+    go : (x < n → count b n ≡ suc (count c n)) → Dec (x ≡ n) → count b (suc n) ≡ suc (count c (suc n))
+    go r (yes e) =
+        count-true b n (ap b (sym e) ∙ h) ∙ ap suc (count-cong b c n (λ p q. s p (omega arith)) ∙ sym (count-false c n (ap c (sym e) ∙ k)))
+    go r (no e) = other (c n) refl (s n e) (r (omega arith))
+
+-- As many places are listed as there are places among them.
+pub lists-count : {P : ℕ → Type 0} {n w : ℕ} {E : ℕ → ℕ} → Lists P n w E → count (among E w) n ≡ w
+lists-count {P} {n} {w} {E} s = go w (s .below) (s .rising)
+  where
+    none : (n : ℕ) → count (among E 0) n ≡ 0
+    none zero = count-zero (among E 0)
+    none (suc n) = count-false (among E 0) n (unfold among in refl) ∙ none n
+
+    fresh : (w : ℕ) → ((i j : ℕ) → i < j → j < suc w → E i < E j) → (v : Bool) → among E w (E w) ≡ v → v ≡ false
+    fresh w rising false h = refl
+    fresh w rising true h = let (e, l, q) = among-true E w (E w) h in absurd (omega (arith, rising e w l (omega arith)))
+
+    go : (w : ℕ) → ((e : ℕ) → e < w → E e < n) → ((i j : ℕ) → i < j → j < w → E i < E j) → count (among E w) n ≡ w
+    go zero below rising = none n
+    go (suc w) below rising =
+        count-more (among E (suc w)) (among E w) (E w) n (among-here E w) (fresh w rising (among E w (E w)) refl) (λ p q. among-other E w p q)
+        (below w (omega arith))
+        ∙ ap suc (go w (λ e l. below e (omega arith)) (λ i j l m. rising i j l (omega arith)))
+
+pub lists-among : {P : ℕ → Type 0} {n w : ℕ} {E : ℕ → ℕ} → Lists P n w E → (p : ℕ) → among E w p ≡ true → P p
+lists-among {P} {n} {w} {E} s p h = let (e, l, q) = among-true E w p h in rw (← q) (s .set e l)
+
+pub lists-not-among : {P : ℕ → Type 0} {n w : ℕ} {E : ℕ → ℕ} → Lists P n w E → (p : ℕ) → p < n → among E w p ≡ false → ¬ (P p)
+lists-not-among {P} {n} {w} {E} s p l h r =
+    let (e, m, q) = s .all p l r in
+    let y : among E w p ≡ true = rw (← q) (among-at E w e m) in
+    let z : _≡_ {A = ℕ} 0 1 = cc in absurd (omega arith)
 
 module _ (K : BinaryField) where
   open BinaryField K using (carrier as F, add as _⊕_, mul as _⊗_, nil as 𝟘, one as 𝟙)
@@ -120,23 +197,32 @@ module _ (K : BinaryField) where
   unfolding bit
   listing-longer b n w s h = record {
     place = extend w (s .place) n;
-    lists = lists-longer b n w (s .place) (s .lists) h;
-    sums = λ g. rw (sum-suc K n (λ p. bit K (b p) ⊗ g p), sum-suc K w (λ e. g (extend w (s .place) n e)), h, s .sums g, extend-last w (s .place) n, one-mul K (g n))
-        (ap (λ x. x ⊕ g n) (sum-cong K w _ _ (λ e l. ap g (sym (extend-low w (s .place) n e l)))));
+    lists = lists-longer (s .lists) h (extend-low w (s .place) n) (extend-last w (s .place) n);
+    sums = λ g. rw (
+      sum-suc K n (λ p. bit K (b p) ⊗ g p),
+      sum-suc K w (λ e. g (extend w (s .place) n e)),
+      h,
+      s .sums g,
+      extend-last w (s .place) n,
+      one-mul K (g n),
+    ) (ap (λ x. x ⊕ g n) (sum-cong K w _ _ (λ e l. ap g (sym (extend-low w (s .place) n e l)))));
   }
 
   listing-same : (b : ℕ → Bool) (n w : ℕ) → Listing K b n w → b n ≡ false → Listing K b (suc n) w
   unfolding bit
   listing-same b n w s h = record {
     place = s .place;
-    lists = lists-same b n w (s .place) (s .lists) h;
+    lists = lists-same (s .lists) (omega arith) none;
     sums = λ g. rw (sum-suc K n (λ p. bit K (b p) ⊗ g p), h, nil-mul K (g n), K .add-nil _) (s .sums g);
   }
+    where
+      none : (p : ℕ) → n ≤ p → p < suc n → ¬ (b p ≡ true)
+      none p l m q = let e : p ≡ n = omega arith in let z : _≡_ {A = ℕ} 0 1 = cc in absurd (omega arith)
 
   pub listing : (b : ℕ → Bool) (n : ℕ) → Listing K b n (count b n)
   listing b zero = rw (count-zero b) (record {
     place = λ e. 0;
-    lists = record { below = λ e l. absurd (omega arith); rising = λ i j l m. absurd (omega arith); set = λ e l. absurd (omega arith); all = λ p l. absurd (omega arith) };
+    lists = lists-none _ _;
     sums = λ g. sum-zero K _ ∙ sym (sum-zero K _);
   })
   listing b (suc n) = go (listing b n) (b n) refl
@@ -144,6 +230,11 @@ module _ (K : BinaryField) where
       go : Listing K b n (count b n) → (v : Bool) → b n ≡ v → Listing K b (suc n) (count b (suc n))
       go s true h = rw (count-true b n h) (listing-longer b n (count b n) s h)
       go s false h = rw (count-false b n h) (listing-same b n (count b n) s h)
+
+  pub bit-square : (x : Bool) → bit K x ⊗ bit K x ≡ bit K x
+  unfolding bit
+  bit-square true = simp ring
+  bit-square false = simp ring
 
   pub bit-differ : (x y : Bool) → bit K (differ x y) ≡ bit K x ⊕ bit K y
   unfolding bit differ flip
@@ -173,6 +264,16 @@ module _ (K : BinaryField) (a : K .carrier) where
     where
       index : (p : ℕ) → p < n → p ≡ n - suc (n - suc p)
       index p l = omega arith
+
+  -- The power sum of twice an exponent is the square: a sum of bits is a sum of squares.
+  pub power-sum-square : (b : ℕ → Bool) (n j : ℕ) → power-sum K a b n (suc (j + j)) ≡ power-sum K a b n j ⊗ power-sum K a b n j
+  power-sum-square b n j =
+      power-sum-word b n (suc (j + j))
+      ∙ rw (twice, pow-add K a (suc j) (suc j), horner-square K (λ i. bit K (b (n - suc i))) (λ i. bit-square K (b (n - suc i))) (pow K a (suc j)) n)
+      (sym (ap₂ _⊗_ (power-sum-word b n j) (power-sum-word b n j)))
+    where
+      twice : suc (suc (j + j)) ≡ suc j + suc j
+      twice = omega arith
 
   pub power-sum-both : (r c : ℕ → Bool) (n j : ℕ) → power-sum K a (both r c) n j ≡ power-sum K a r n j ⊕ power-sum K a c n j
   unfolding power-sum
@@ -213,7 +314,7 @@ module _ (K : BinaryField) (a : K .carrier) where
         go true e s = let (i, k, z) = s .lists .all p q e in absurd (omega (arith, none))
 
     -- Errors b, half as many as there are power sums at most, and the state of the algorithm after these power sums.
-    module _ (m : ℕ) (b : ℕ → Bool) (S : ℕ → F) (sums : (j : ℕ) → j < m → S j ≡ power-sum K a b n j) (few : count b n + count b n ≤ m)
+    module _ (m : ℕ) (b : ℕ → Bool) (S : ℕ → F) (sums : (j : ℕ) → j < m → S j ≡ power-sum K a b n j) (few : Few m n b)
         (L : ℕ) (u : F) (C T : ℕ → F) (s : State K S m L u C T) where
       module _ (t : Listing K b n (count b n)) where
         X : ℕ → F
@@ -262,7 +363,7 @@ module _ (K : BinaryField) (a : K .carrier) where
 
     -- A received word r, whose power sums S are, a codeword c near it, and the state of the algorithm after these power sums.
     module _ (m : ℕ) (r c : ℕ → Bool) (S : ℕ → F) (sums : (j : ℕ) → j < m → S j ≡ power-sum K a r n j) (code : Codeword K a m n c)
-        (near : count (both r c) n + count (both r c) n ≤ m) (L : ℕ) (u : F) (C T : ℕ → F) (s : State K S m L u C T) where
+        (near : Few m n (both r c)) (L : ℕ) (u : F) (C T : ℕ → F) (s : State K S m L u C T) where
       error-sums : (j : ℕ) → j < m → S j ≡ power-sum K a (both r c) n j
       error-sums j l = sums j l ∙ sym (power-sum-both r c n j ∙ rw (code j l) (K .add-nil _))
 

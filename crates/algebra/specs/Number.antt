@@ -13,6 +13,7 @@ use native.Mathlib.Bridge.{le-prop}
 use native.Mathlib.Decide.{decLt}
 use Rattle.algebra.specs.Field.{BinaryField}
 
+-- Different numbers below `size` stand for different elements.
 pub record Numbers (K : BinaryField) : Type 0 where
   pub size : ℕ
   pub more : 1 < size
@@ -21,6 +22,7 @@ pub record Numbers (K : BinaryField) : Type 0 where
   pub el-one : el 1 ≡ K .one
   pub el-same : (x y : ℕ) → x < size → y < size → el x ≡ el y → x ≡ y
 
+-- The laws of `BinaryField`, with 0 and 1 for the zero and the unit, where all numbers are below q; and that q is not left.
 pub record Below (q : ℕ) (add mul : ℕ → ℕ → ℕ) : Type 0 where
   pub more : 1 < q
   pub add-less : (a b : ℕ) → a < q → b < q → add a b < q
@@ -35,6 +37,7 @@ pub record Below (q : ℕ) (add mul : ℕ → ℕ → ℕ) : Type 0 where
   pub mul-add : (a b c : ℕ) → a < q → b < q → c < q → mul a (add b c) ≡ add (mul a b) (mul a c)
   pub no-divisors : (a b : ℕ) → a < q → b < q → mul a b ≡ 0 → ¬ (a ≡ 0) → b ≡ 0
 
+-- a number and that it is below q
 abbrev pub Elem : ℕ → Type 0
 Elem q = (x : ℕ) × (x < q)
 
@@ -43,6 +46,7 @@ pub elem-same : {q : ℕ} {u v : Elem q} → u .0 ≡ v .0 → u ≡ v
 elem-same = Σ-prop-path (λ x. le-prop)
 
 module _ {q : ℕ} {add mul : ℕ → ℕ → ℕ} (B : Below q add mul) where
+  -- the numbers below q as a field
   unfoldable pub field : BinaryField
   field = record {
     carrier = Elem q;
@@ -67,9 +71,11 @@ module _ {q : ℕ} {add mul : ℕ → ℕ → ℕ} (B : Below q add mul) where
   el-of x (yes l) = (x, l)
   el-of x (no _) = (0, omega (arith, B .more))
 
+  -- the element that a number stands for
   unfoldable pub el : ℕ → Elem q
   el x = el-of x (decLt x q)
 
+  -- A number below q is that of its element.
   pub el-is : (x : ℕ) → x < q → (el x) .0 ≡ x
   unfolding el el-of
   el-is x l = go (decLt x q)
@@ -78,6 +84,7 @@ module _ {q : ℕ} {add mul : ℕ → ℕ → ℕ} (B : Below q add mul) where
       go (yes _) = refl
       go (no n) = absurd (n l)
 
+  -- each number below q stands for itself
   unfoldable pub numbers : Numbers field
   unfolding field
   numbers = record {

@@ -14,6 +14,7 @@ module _ (K : BinaryField) where
 
   infixl 60 _⊕_
   infixl 70 _⊗_
+  -- x^0 is one, that of zero too.
   unfoldable pub pow : F → ℕ → F
   pow x zero = 𝟙
   pow x (suc n) = x ⊗ pow x n
@@ -23,11 +24,14 @@ module _ (K : BinaryField) where
   horner f x zero = 𝟘
   horner f x (suc n) = x ⊗ horner f x n ⊕ f n
 
+  -- A polynomial of degree n is a word of n + 1 coefficients.
   unfoldable pub value : (ℕ → F) → F → ℕ → F
   value f x n = horner f x (suc n)
 
+  -- The coefficient of y^p is r p.
   unfoldable pub low : ℕ → (ℕ → F) → F → F
   low n r y = sum K n (λ p. r p ⊗ pow y p)
 
+  -- No two of the first w are equal.
   abbrev pub Distinct : ℕ → (ℕ → F) → Type 0
   Distinct w X = (i j : ℕ) → i < j → j < w → ¬ (X i ≡ X j)

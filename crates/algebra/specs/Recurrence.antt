@@ -19,8 +19,8 @@ module _ (K : BinaryField) where
     pub zeros : (j : ℕ) → L ≤ j → j < k → conv K C S j ≡ 𝟘
     pub start : ¬ (C 0 ≡ 𝟘)
 
-  -- C is a shortest recurrence of the first k terms, and L its length. T is the update: its product with S is zero below k as far as it
-  -- matters, and b at k once L is not 0, so that b C + d T mends a discrepancy d at k.
+  -- C is a shortest recurrence of the first k terms, and L its length. T is the update: its product with S is zero from k + 1 - L on and
+  -- below k, and b at k once L is not 0, so that C + (d / b) T corrects a discrepancy d of C at k.
   pub record State (S : ℕ → F) (k L : ℕ) (b : F) (C T : ℕ → F) : Type 0 where
     pub generates : Generates S C L k
     pub fits : L ≤ k
@@ -31,9 +31,11 @@ module _ (K : BinaryField) where
     pub unit : ¬ (b ≡ 𝟘)
     pub least : (D : ℕ → F) (v : ℕ) → Generates S D v k → L ≤ v
 
+  -- 1, 0, 0, ..
   unfoldable pub unit-series : ℕ → F
   unit-series = cons K 𝟙 (λ i. 𝟘)
 
+  -- One factor 1 + X v x more: C + X v x C.
   unfoldable pub locator : (ℕ → F) → ℕ → ℕ → F
   locator X zero = unit-series
   locator X (suc v) = λ i. locator X v i ⊕ X v ⊗ cons K 𝟘 (locator X v) i

@@ -16,19 +16,24 @@ module _ (K : BinaryField) (e : ℕ) (g : ℕ → K .carrier) where
 
   infixl 60 _⊕_
   infixl 70 _⊗_
+  -- y^(e + 1) = g e y^e + .. + g 0, in characteristic 2
   abbrev pub Zero : F → Type 0
   Zero y = pow K y (suc e) ≡ low K (suc e) g y
 
+  -- x r + b has the coefficient r e at x^(e + 1); the polynomial times r e takes it away.
   unfoldable pub next : F → (ℕ → F) → ℕ → F
   next b r p = cons K b r p ⊕ r e ⊗ g p
 
+  -- coefficient by coefficient, the highest power first
   unfoldable pub run : (ℕ → F) → ℕ → ℕ → F
   run f zero = λ p. 𝟘
   run f (suc n) = next (f n) (run f n)
 
+  -- as `next`, with b entering at x^(e + 1)
   unfoldable pub ahead : F → (ℕ → F) → ℕ → F
   ahead b r p = cons K 𝟘 r p ⊕ (r e ⊕ b) ⊗ g p
 
+  -- The parity of document 01, "The code".
   unfoldable pub check : (ℕ → F) → ℕ → ℕ → F
   check f zero = λ p. 𝟘
   check f (suc n) = ahead (f n) (check f n)

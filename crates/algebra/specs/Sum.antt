@@ -7,6 +7,7 @@ module _ (K : BinaryField) where
   open BinaryField K using (carrier as F, add as _⊕_, nil as 𝟘)
 
   infixl 60 _⊕_
+  -- The sum of no terms is zero.
   unfoldable pub sum : ℕ → (ℕ → F) → F
   sum zero f = 𝟘
   sum (suc n) f = sum n f ⊕ f n

@@ -2,3 +2,5 @@ pub mod Numbers
 pub mod Runs
 pub mod Pages
 pub mod Placed
+pub mod Parts
+pub mod Steps

@@ -1,11 +1,11 @@
 -- Laws of the bits of numbers, and of numbers given by their binary digits.
-use mathlib.Core.Path.{_≡_, refl, sym, ap, ap₂, _∙_, subst}
-use mathlib.Core.Bool.{Bool, true, false, cond}
+use mathlib.Core.Path.{_≡_, refl, sym, ap, _∙_, subst}
+use mathlib.Core.Bool.{Bool, true, false}
 use mathlib.Core.List.{List, [], _∷_, _++_}
-use Prim.Native.Nat.{ℕ, zero, suc, _+_, _-_, _*_, _/_, _%_, _^_, _<_, _≤_}
+use Prim.Native.Nat.{ℕ, zero, suc, _+_, _-_, _*_, _/_, _%_, _^_, _<_}
 use native.Mathlib.Omega.{arith}
-use native.Mathlib.Decide.{decLt, ℕ-discrete}
-use native.Mathlib.Nat.{add-zero, mod-lt, mul-add-div-right, mul-add-mod-self-right, pow-suc, mul-assoc, add-mul, add-assoc, mod-eq-of-lt, suc-sub-suc, add-comm}
+use native.Mathlib.Decide.{ℕ-discrete}
+use native.Mathlib.Nat.{add-zero, mul-add-div-right, mul-add-mod-self-right, pow-suc, mul-assoc, add-mul, add-assoc, mod-eq-of-lt, suc-sub-suc, add-comm}
 use native.Mathlib.Numerals.{add-one}
 use lib.ListN.{length, getD, length-append}
 use lib.Seq.{ext-getD}

@@ -1,17 +1,18 @@
 -- Laws of the bits of pages, and of bytes given by their bits.
-use mathlib.Core.Path.{_≡_, refl, sym, ap, _∙_, subst}
-use mathlib.Core.Bool.{Bool, true, false}
+use mathlib.Core.Path.{_≡_, refl, sym, ap, _∙_}
+use mathlib.Core.Bool.{Bool, false}
 use mathlib.Core.List.{List}
-use Prim.Native.Nat.{ℕ, zero, suc, _+_, _-_, _*_, _/_, _%_, _^_, _<_, _≤_}
+use Prim.Native.Nat.{ℕ, suc, _+_, _-_, _*_, _/_, _%_, _^_, _<_, _≤_}
 use native.Mathlib.Omega.{arith}
 use native.Mathlib.Decide.{decLt}
 use native.Mathlib.Nat.{zero-add, zero-div}
 use lib.ListN.{length, getD, List·getD-eq-default}
+use lib.Pow.{high, low}
 use lib.Seq.{ext-getD}
 use lib.Dec.{eqb}
 use Rattle.bits.specs.Bits.{bit, bitAt, bitOf, run, digit, number, bytes, Bytes}
-use Rattle.bits.proofs.Numbers.{bit-lt, bit-ext, bit-digit, digit-bit, number-lt, number-bit}
-use Rattle.bits.proofs.Runs.{run-length, run-at, run-cong}
+use Rattle.bits.proofs.Numbers.{bit-lt, bit-ext, bit-digit, digit-bit, number-lt, number-append, number-bit}
+use Rattle.bits.proofs.Runs.{run-length, run-at, run-cong, run-append}
 
 -- bits of pages
 
@@ -44,6 +45,15 @@ number-run-lt f s n = rw run-length at (number-lt (run f s n))
 pub number-run-bit : (f : ℕ → Bool) (s n j : ℕ) → j < n → bit (number (run f s n)) j ≡ digit (f (s + (n - suc j)))
 number-run-bit f s n j h =
     number-bit (run f s n) j (rw run-length h) ∙ rw run-length (ap digit (run-at f s n (n - suc j) false (omega arith)))
+
+pub number-run-append : (f : ℕ → Bool) (s a b : ℕ) → number (run f s (a + b)) ≡ number (run f s a) * 2 ^ b + number (run f (s + a) b)
+number-run-append f s a b = ap number (run-append f s a b) ∙ number-append (run f s a) (run f (s + a) b) ∙ rw run-length
+
+pub number-run-high : (f : ℕ → Bool) (s a b : ℕ) → number (run f s (a + b)) / 2 ^ b ≡ number (run f s a)
+number-run-high f s a b = rw (number-run-append f s a b) (high (number (run f s a)) b (number-run-lt f (s + a) b))
+
+pub number-run-low : (f : ℕ → Bool) (s a b : ℕ) → number (run f s (a + b)) % 2 ^ b ≡ number (run f (s + a) b)
+number-run-low f s a b = rw (number-run-append f s a b) (low (number (run f s a)) b (number-run-lt f (s + a) b))
 
 -- a byte is the number that its bits give
 pub byte-number : (l : List ℕ) (i : ℕ) → getD l i 0 < 256 → number (run (bitOf l) (8 * i) 8) ≡ getD l i 0

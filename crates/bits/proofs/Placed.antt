@@ -1,6 +1,6 @@
 -- Laws of a word put at a position of a page.
 use mathlib.Core.Path.{_≡_, refl, sym, ap, _∙_}
-use mathlib.Core.Bool.{Bool, true, false, cond}
+use mathlib.Core.Bool.{Bool, false}
 use mathlib.Core.List.{List, [], _∷_, _++_}
 use Prim.Native.Nat.{ℕ, zero, suc, _+_, _-_, _*_, _<_, _≤_}
 use native.Mathlib.Omega.{arith}
@@ -8,10 +8,9 @@ use native.Mathlib.Decide.{decLt}
 use native.Mathlib.Nat.{zero-add}
 use lib.ListN.{length, getD, length-append, List·getD-append, List·getD-eq-default}
 use lib.Seq.{getD-append-add}
-use lib.Dec.{leb}
 use borrow.Author.Tests.{le-leb, lt-leb}
 use Rattle.bits.specs.Bits.{bitOf, run, bytes, Bytes, placedBit, placed}
-use Rattle.bits.proofs.Runs.{run-ext, run-cong}
+use Rattle.bits.proofs.Runs.{run-length, run-ext, run-cong, run-append}
 use Rattle.bits.proofs.Pages.{bitOf-past, bytes-length, bytes-bytes, bytes-bit, bytes-ext, bytes-cong}
 
 -- a position lies in the word, or outside it
@@ -98,6 +97,10 @@ module _ (page : List ℕ) (s : ℕ) (w : List Bool) where
 pub placed-empty : (page : List ℕ) (s : ℕ) → Bytes (length page) page → placed page s [] ≡ page
 placed-empty page s b = placed-ext page s [] page b (λ j h k. absurd (omega arith)) (λ p o. refl)
 
+-- what lies past the end is lost
+pub placed-past : (page : List ℕ) (s : ℕ) (w : List Bool) → Bytes (length page) page → 8 * length page ≤ s → placed page s w ≡ page
+placed-past page s w b h = placed-ext page s w page b (λ j l k. absurd (omega arith)) (λ p o. refl)
+
 -- two words, one after the other
 pub placed-append : (page : List ℕ) (s t : ℕ) (v w : List Bool) → t ≡ s + length v → placed (placed page s v) t w ≡ placed page s (v ++ w)
 placed-append page s t v w e =
@@ -114,6 +117,12 @@ placed-append page s t v w e =
           ∙ sym (getD-append-add v w i false) ∙ ap (λ (n : ℕ). getD (v ++ w) n false) g
     ])
     (λ p o. placed-outside (placed page s v) t w p (λ a b. o (omega arith) (omega arith)) ∙ placed-outside page s v p (λ a b. o a (omega arith))))
+
+pub placed-run-append : (f : ℕ → Bool) (page : List ℕ) (s r n k : ℕ) {t q : ℕ} → t ≡ s + n → q ≡ r + n
+    → placed (placed page s (run f r n)) t (run f q k) ≡ placed page s (run f r (n + k))
+placed-run-append f page s r n k {t} {q} et eq =
+    placed-append page s t (run f r n) (run f q k) (et ∙ ap (λ (i : ℕ). s + i) (sym (run-length f r n)))
+    ∙ rw (eq, ← run-append f r n k)
 
 -- a page all of whose bits are put
 pub placed-whole : (page : List ℕ) (w : List Bool) → length w ≡ 8 * length page → placed page 0 w ≡ bytes (λ p. getD w p false) (length page)

@@ -11,9 +11,10 @@ use mathlib.Core.Bool.{true, false}
 use Prim.Native.Nat.{ℕ, zero, suc, _*_, _≤_, _<_}
 use lib.ListN.{length, getD}
 use lib.Bits.{bitXor}
+use Rattle.bits.specs.Bits.{digit}
 use Rattle.field.specs.declared.Field.{Field}
 use Rattle.field.specs.Field.{product, a^, longest}
-use Rattle.code.specs.Word.{Word, digit, distance}
+use Rattle.code.specs.Word.{Word, distance}
 
 -- The value at y of the polynomial of the first n bits of a word, by Horner's rule.
 unfoldable pub valueOf : Field → Word → ℕ → ℕ → ℕ

@@ -1,8 +1,6 @@
 -- The generators as numbers, the remainder of a word and the parity of a message (document 01, "The code").
 -- A polynomial over GF(2) is also a number: its binary digit p is the coefficient of x^p.
 --
--- oneAt x p            the binary digit p of x is one
--- wordOf n x           the word of the n lowest digits of x
 -- times k x y          the product of the polynomials x and y, y of degree below k
 -- minimals f           the minimal polynomials of a, a^3, .., a^123
 -- generator f t        the generator of the level t
@@ -10,21 +8,15 @@
 -- parity f t message   the remainder of the message times x^(mt), as a word of mt bits
 use mathlib.Core.Bool.{Bool, true, false, cond}
 use mathlib.Core.List.{List, [], _∷_, _++_}
-use Prim.Native.Nat.{ℕ, zero, suc, _+_, _*_, _/_, _%_, _^_}
+use Prim.Native.Nat.{ℕ, zero, suc, _+_, _*_, _/_, _%_}
 use lib.ListN.{length, getD, replicate}
 use lib.Dec.{eqb}
 use lib.Bits.{bitXor}
+use Rattle.bits.specs.Bits.{bit, digit, digits}
 use Rattle.field.specs.declared.Field.{Field}
 use Rattle.field.specs.declared.Field.the-variants.{Thirteen, Fourteen}
 use Rattle.field.specs.Field.{degree}
-use Rattle.code.specs.Word.{Word, digit}
-
-unfoldable pub oneAt : ℕ → ℕ → Bool
-oneAt x p = eqb (x / 2 ^ p % 2) 1
-
-unfoldable pub wordOf : ℕ → ℕ → Word
-wordOf zero x = []
-wordOf (suc n) x = oneAt x n ∷ wordOf n x
+use Rattle.code.specs.Word.{Word}
 
 -- The product without carries: x for the lowest digit of y, and twice the product with the others.
 unfoldable pub times : ℕ → ℕ → ℕ → ℕ
@@ -57,7 +49,7 @@ generator f (suc t) = times (suc (degree f)) (generator f t) (getD (minimals f) 
 
 -- One more coefficient b of the dividend, and g of degree d taken off where the result has degree d.
 unfoldable pub remainderStep : ℕ → ℕ → ℕ → Bool → ℕ
-remainderStep d g r b = cond (oneAt (r * 2 + digit b) d) (bitXor g (r * 2 + digit b)) (r * 2 + digit b)
+remainderStep d g r b = cond (eqb (bit (r * 2 + digit b) d) 1) (bitXor g (r * 2 + digit b)) (r * 2 + digit b)
 
 -- The remainder of the first n bits of a word by g of degree d.
 unfoldable pub remainderOf : ℕ → ℕ → Word → ℕ → ℕ
@@ -68,4 +60,4 @@ unfoldable pub remainder : Field → ℕ → Word → ℕ
 remainder f t w = remainderOf (degree f * t) (generator f t) w (length w)
 
 unfoldable pub parity : Field → ℕ → Word → Word
-parity f t message = wordOf (degree f * t) (remainder f t (message ++ replicate (degree f * t) false))
+parity f t message = digits (remainder f t (message ++ replicate (degree f * t) false)) (degree f * t)

@@ -13,8 +13,9 @@ use Prim.Native.Nat.{ℕ, zero, suc, _+_, _≤_}
 use native.Mathlib.Decide.{ℕ-discrete}
 use native.Mathlib.Omega.{arith}
 use lib.ListN.{length, replicate, length-replicate}
+use Rattle.bits.specs.Bits.{digit}
 use Rattle.field.specs.declared.Field.{Field}
-use Rattle.code.specs.Word.{Word, digit, apart, distance, ones, ascending}
+use Rattle.code.specs.Word.{Word, apart, distance, ones, ascending}
 use Rattle.code.specs.Generator.{remainder}
 use Rattle.code.specs.Outcome.{Close, search}
 

@@ -5,7 +5,8 @@
 -- nearest f t w        the codeword within t flips of w, or that there is none
 -- Outcome              what a block gives: its message and the number of its flips, or that it is ruined
 -- judge f t k w        the outcome of a block w whose first k bits are its message
--- Gives f t k w m n    m is the message of a codeword within t flips of w, and n is their distance
+-- Gives f t k w m n    a block is good: m is the message of a codeword within t flips of w, and n is their distance
+-- Refused f t w        a block is ruined: no codeword is within t flips of w
 --
 -- A search goes over all words at most t places away. It is never run: its type says what it finds, and its lines need not be read.
 use mathlib.Core.Path.{_≡_, refl, ap}
@@ -15,10 +16,11 @@ use Prim.Native.Nat.{ℕ, zero, suc, _*_, _≤_, _<_}
 use native.Mathlib.Omega.{arith}
 use native.Mathlib.Decide.{decLt, ℕ-discrete}
 use lib.ListN.{length, take}
+use Rattle.algebra.specs.Word.{flip}
 use Rattle.field.specs.declared.Field.{Field}
 use Rattle.field.specs.Field.{a^}
-use Rattle.code.specs.Word.{Word, flip, apart, distance}
-use Rattle.code.specs.Code.{Codeword, Near, value}
+use Rattle.code.specs.Word.{Word, apart, distance}
+use Rattle.code.specs.Code.{Codeword, Near, Ruined, value}
 
 pub record Close (P : Word → Type 0) (t : ℕ) (w c : Word) : Type 0 where
   pub same : length c ≡ length w
@@ -112,3 +114,6 @@ pub record Gives (f : Field) (t k : ℕ) (w m : Word) (n : ℕ) : Type 0 where
   pub near : Near f t w word
   pub message : m ≡ take k word
   pub count : n ≡ distance w word
+
+pub record Refused (f : Field) (t : ℕ) (w : Word) : Type 0 where
+  pub none : Ruined f t w

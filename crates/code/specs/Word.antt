@@ -2,8 +2,6 @@
 -- A word of n bits is the polynomial whose coefficient of x^(n-1-j) is bit j: the highest power comes first.
 --
 -- Word              a list of bits
--- digit b           the bit b as a number
--- flip b            the other bit
 -- apart x y         1 where two bits differ, else 0
 -- distance v w      the number of places in which two words differ
 -- ones w            the number of ones of a word
@@ -15,17 +13,11 @@ use mathlib.Core.List.{List, [], _∷_, _++_}
 use Prim.Native.Nat.{ℕ, _+_}
 use lib.ListN.{length}
 use lib.Dec.{eqb}
+use Rattle.algebra.specs.Word.{flip}
+use Rattle.bits.specs.Bits.{digit}
 
 abbrev pub Word : Type 0
 Word = List Bool
-
-unfoldable pub digit : Bool → ℕ
-digit true = 1
-digit false = 0
-
-unfoldable pub flip : Bool → Bool
-flip true = false
-flip false = true
 
 unfoldable pub apart : Bool → Bool → ℕ
 apart true true = 0

@@ -9,3 +9,6 @@
 //   Register     numbers in words of 64 bits
 //
 // The laws stand in proofs/, once over m and t.
+//
+//   generators::generator_row      the generator of a level, from a table of constants
+pub mod generators;
