@@ -5,6 +5,7 @@
 -- bitAt page p         the bit at stream position p, as a number
 -- bitOf page p         the same bit as a Bool
 -- run f s n            f s, f (s + 1), .., n of them
+-- ones n               n ones
 -- digit b              a Bool as a number
 -- number w             the number whose binary digits are the word w, highest first
 -- digits x n           the n lowest binary digits of x, highest first
@@ -13,10 +14,10 @@
 -- placedBit, placed    a page after a word was put at a position
 -- Inside page s n      n bits from position s on lie inside a page
 use mathlib.Core.Path.{_≡_}
-use mathlib.Core.Bool.{Bool, cond}
+use mathlib.Core.Bool.{Bool, true, cond}
 use mathlib.Core.List.{List, [], _∷_}
 use Prim.Native.Nat.{ℕ, zero, suc, _+_, _-_, _*_, _/_, _%_, _^_, _<_, _≤_}
-use lib.ListN.{length, getD}
+use lib.ListN.{length, getD, replicate}
 use lib.Dec.{eqb, leb}
 
 -- Bit k of a number; bit 0 is the least significant.
@@ -35,6 +36,10 @@ bitOf page p = eqb (bitAt page p) 1
 unfoldable pub run : {A : Type 0} → (ℕ → A) → ℕ → ℕ → List A
 run f s zero = []
 run f s (suc n) = f s ∷ run f (suc s) n
+
+-- n ones: what the tail of a page is written as (document 01, "Layout words").
+unfoldable pub ones : ℕ → List Bool
+ones n = replicate n true
 
 -- 1 for true, 0 for false.
 unfoldable pub digit : Bool → ℕ

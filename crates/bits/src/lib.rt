@@ -5,5 +5,6 @@
 //
 // Every function here works on slices and positions, and is internal to the library.
 pub mod copy;
+pub mod fill;
 pub mod read;
 pub mod write;
