@@ -67,7 +67,7 @@ abbrev pub power : Field → ℕ → ℕ → ℕ
 power f x n = pow (degree f) (modulus f) x n
 
 -- the power n of a, where a, the class of x, is the number 2
-unfoldable pub a^ : Field → ℕ → ℕ
+abbrev pub a^ : Field → ℕ → ℕ
 a^ f n = power f 2 n
 
 -- r is the element v of a field of 2^m elements

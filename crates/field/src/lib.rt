@@ -6,8 +6,13 @@
 //   Gf13, Gf14              the two field types: degree, reduction polynomial and longest word as their own constants
 //   Field                   the field choice, handed to every call that works in either field
 //   Field::choose           the field that a choice by number names
+//   product, power          in either field, by shift and add and by squares
+//   tables                  products by a table of powers and a table of logarithms that the caller lends
 ghost use mathlib.Core.Path.{_≡_};
-ghost use Rattle.field.specs.Field.{degree, modulus, longest, chosen};
+ghost use Prim.Native.Nat.{_^_, _<_};
+ghost use Rattle.field.specs.Field.{degree, modulus, longest, chosen, mul, pow, Elem, Usable};
+
+pub mod tables;
 
 // The field of 2^13 elements.
 pub struct Gf13;
@@ -85,5 +90,50 @@ impl Field {
             Field::Thirteen => Gf13::LONGEST,
             Field::Fourteen => Gf14::LONGEST,
         }
+    }
+}
+
+// Internal. The product of two elements.
+pub fn product(f: Field, x: u16, y: u16) -> u16
+    requires { ⌜ x < 2 ^ degree f ⌝ }
+    ensures { λ r. ⌜ Elem (degree f) (mul (degree f) (modulus f) x y) r ⌝ }
+{
+    let m = f.degree();
+    let modulus = f.modulus();
+    let r = shift_and_add(m, modulus, x as u32, y as u32);
+    r as u16
+}
+
+// The terms of y from the highest down: each step is one shift, reduced, and one sum.
+fn shift_and_add(m: u32, modulus: u32, x: u32, y: u32) -> u32
+    requires { ⌜ Usable m modulus ⌝ }
+    requires { ⌜ x < 2 ^ m ⌝ }
+    ensures { λ r. ⌜ Elem m (mul m modulus x y) r ⌝ }
+{
+    let mut r: u32 = 0;
+    let mut i: u32 = m;
+    while 0 < i {
+        i -= 1;
+        let d = r * 2;
+        let reduced = d ^ ((d >> m) & 1) * modulus;
+        r = reduced ^ ((y >> i) & 1) * x;
+    }
+    r
+}
+
+// Internal. The power n of an element, by the power of half the exponent.
+pub fn power(f: Field, x: u16, n: u64) -> u16
+    requires { ⌜ x < 2 ^ degree f ⌝ }
+    ensures { λ r. ⌜ Elem (degree f) (pow (degree f) (modulus f) x n) r ⌝ }
+{
+    if n == 0 {
+        return 1;
+    }
+    let half = power(f, x, n / 2);
+    let square = product(f, half, half);
+    if n % 2 == 1 {
+        product(f, x, square)
+    } else {
+        square
     }
 }

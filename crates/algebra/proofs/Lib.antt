@@ -1,0 +1,11 @@
+pub mod Field
+pub mod Series
+pub mod Sum
+pub mod Polynomial
+pub mod Recurrence
+pub mod Binary
+pub mod Remainder
+pub mod Word
+pub mod Number
+pub mod Array
+pub mod Search

@@ -1,0 +1,6 @@
+pub mod Numbers
+pub mod Runs
+pub mod Pages
+pub mod Placed
+pub mod Parts
+pub mod Steps

@@ -1,0 +1,7 @@
+-- The binary BCH code of document 01: what a reader must believe.
+pub mod Word
+pub mod Code
+pub mod Generator
+pub mod Outcome
+pub mod Locations
+pub mod Register

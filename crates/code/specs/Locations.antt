@@ -1,0 +1,54 @@
+-- Locating from a remainder (document 01, "Remainder").
+-- A set of exponents below n is a word of n bits: the sum of the powers of x with those exponents.
+--
+-- Locates f t n r s    s is a set of at most t exponents below n whose sum leaves the remainder r
+-- located f t n r      such a set, or that there is none
+-- listed s             the order in which the exponents of a set are listed
+-- Locations            what locating answers: the listed exponents, or that there are none
+-- locate f t n r       the answer for a remainder r and a length n
+use mathlib.Core.Path.{_≡_, refl, sym, ap, _∙_}
+use mathlib.Core.Bool.{Bool, true, false}
+use mathlib.Core.List.{List, [], _∷_}
+use Prim.Native.Nat.{ℕ, zero, suc, _+_, _≤_}
+use native.Mathlib.Decide.{ℕ-discrete}
+use native.Mathlib.Omega.{arith}
+use lib.ListN.{length, replicate, length-replicate}
+use Rattle.bits.specs.Bits.{digit}
+use Rattle.field.specs.declared.Field.{Field}
+use Rattle.code.specs.Word.{Word, apart, distance, ones, ascending}
+use Rattle.code.specs.Generator.{remainder}
+use Rattle.code.specs.Outcome.{Close, search}
+
+pub record Locates (f : Field) (t n r : ℕ) (s : Word) : Type 0 where
+  pub below : length s ≡ n
+  pub few : ones s ≤ t
+  pub leaves : remainder f t s ≡ r
+
+zeros-distance : (n : ℕ) (s : Word) → length s ≡ n → distance (replicate n false) s ≡ ones s
+unfolding distance apart ones digit
+zeros-distance n [] l = let e : n ≡ 0 = sym l in rw e
+zeros-distance zero (b ∷ s) l = absurd (omega arith)
+zeros-distance (suc n) (true ∷ s) l = ap (λ k. 1 + k) (zeros-distance n s (omega arith))
+zeros-distance (suc n) (false ∷ s) l = ap (λ k. 0 + k) (zeros-distance n s (omega arith))
+
+-- By a search over the words at most t places away from zero.
+pub located : (f : Field) (t n r : ℕ) → Dec ((s : Word) × Locates f t n r s)
+located f t n r = elim (search (λ s. remainder f t s ≡ r) (λ s. ℕ-discrete (remainder f t s) r) t (replicate n false)) [
+  | yes (s, h) ↦ (let l : length s ≡ n = h .same ∙ length-replicate n false in
+      yes (s, record { below = l; few = omega (arith, h .close, zeros-distance n s l); leaves = h .holds }))
+  | no none ↦ no (λ (s, h). none (s, record { same = h .below ∙ sym (length-replicate n false); holds = h .leaves; close = omega (arith, h .few, zeros-distance n s (h .below)) }))
+]
+
+unfoldable pub listed : Word → List ℕ
+listed = ascending
+
+pub data Locations : Type 0 where
+  exponents : List ℕ → Locations
+  nowhere : Locations
+
+unfoldable pub locateBy : {f : Field} {t n r : ℕ} → Dec ((s : Word) × Locates f t n r s) → Locations
+locateBy (yes (s, locates)) = exponents (listed s)
+locateBy (no none) = nowhere
+
+unfoldable pub locate : (f : Field) (t n r : ℕ) → Locations
+locate f t n r = locateBy (located f t n r)

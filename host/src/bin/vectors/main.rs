@@ -1,0 +1,111 @@
+//! Writes test vectors and the model's answers to them:
+//!
+//!     vectors layout|locate|pages INPUT OUTPUT
+//!
+//! INPUT is what a program reads on its standard input, OUTPUT what it is to print.
+
+mod layout;
+mod locate;
+mod pages;
+
+use model::{Refusal, Reply};
+use std::fmt::Display;
+use std::process::ExitCode;
+
+/// Vectors in the making: the input's bytes, the output's lines and how many vectors got which
+/// reply.
+#[derive(Default)]
+pub struct Vectors {
+    input: Vec<u8>,
+    output: String,
+    replies: [usize; 11],
+}
+
+/// A line of output in the making: reply and block, then whatever follows.
+pub struct Answer {
+    reply: u8,
+    line: String,
+}
+
+impl Answer {
+    pub fn done() -> Answer {
+        Answer::new(0, 0)
+    }
+
+    fn new(reply: u8, block: usize) -> Answer {
+        Answer {
+            reply,
+            line: format!("{reply} {block}"),
+        }
+    }
+
+    /// Appends one more word to the line.
+    pub fn with(mut self, word: impl Display) -> Answer {
+        self.line.push_str(&format!(" {word}"));
+        self
+    }
+
+    /// Appends the bytes as hexadecimal digits; none at all are a hyphen.
+    pub fn with_bytes(self, bytes: &[u8]) -> Answer {
+        match bytes {
+            [] => self.with('-'),
+            _ => self.with(
+                bytes
+                    .iter()
+                    .map(|byte| format!("{byte:02x}"))
+                    .collect::<String>(),
+            ),
+        }
+    }
+}
+
+impl From<Refusal> for Answer {
+    fn from(refusal: Refusal) -> Answer {
+        Answer::new(refusal.number(), refusal.block)
+    }
+}
+
+impl From<Reply> for Answer {
+    fn from(reply: Reply) -> Answer {
+        Refusal::from(reply).into()
+    }
+}
+
+impl Vectors {
+    pub fn add(&mut self, input: &[u8], answer: Answer) {
+        self.input.extend_from_slice(input);
+        self.output.push_str(&answer.line);
+        self.output.push('\n');
+        self.replies[answer.reply as usize] += 1;
+    }
+}
+
+fn main() -> ExitCode {
+    let arguments: Vec<String> = std::env::args().skip(1).collect();
+    let [topic, input, output] = arguments.as_slice() else {
+        return usage();
+    };
+    let vectors = match topic.as_str() {
+        "layout" => layout::vectors(),
+        "locate" => locate::vectors(),
+        "pages" => pages::vectors(),
+        _ => return usage(),
+    };
+    for (path, bytes) in [
+        (input, vectors.input.as_slice()),
+        (output, vectors.output.as_bytes()),
+    ] {
+        if let Err(error) = std::fs::write(path, bytes) {
+            eprintln!("{path}: {error}");
+            return ExitCode::FAILURE;
+        }
+    }
+    let count: usize = vectors.replies.iter().sum();
+    println!("{count} vectors, by reply 0 to 10: {:?}", vectors.replies);
+    ExitCode::SUCCESS
+}
+
+fn usage() -> ExitCode {
+    eprintln!("usage: vectors layout|locate|pages INPUT OUTPUT");
+    ExitCode::FAILURE
+}

@@ -1,0 +1,36 @@
+//! A model of document 01 in plain Rust: layout words, page bits, the BCH codes over GF(2^13) and
+//! GF(2^14), the page writer and reader, locating from a remainder and checking claims.
+//!
+//! The model is the yardstick of the tests, so it follows the paper's definitions and is not fast.
+//! A word is a vector of bits, highest power first. The calls of document 01 are
+//!
+//! - [`check_layout`]: is this layout acceptable?
+//! - [`locate_bit`], [`bit_position`]: page bit to block and exponent, and back;
+//! - [`write_page`], [`read_page`]: payload to page, and page to payload and flip counts;
+//! - [`judge_block`]: the flips of one block;
+//! - [`locate_errors`]: the wrong bits, from a remainder alone;
+//! - [`check_claim`]: are these error locations right?
+//!
+//! Each takes any arguments. `Ok` is reply 0; a [`Refusal`] holds the reply's number and block, and
+//! then every lent buffer keeps its content.
+//!
+//! The decoder is that of Peterson, Gorenstein and Zierler: the error locator solves a linear system
+//! of syndromes, every exponent below n is tried as a root, and the set found is returned only if
+//! it is confirmed by the definition of the code.
+
+pub mod bits;
+pub mod call;
+pub mod code;
+pub mod decoder;
+pub mod field;
+pub mod layout;
+pub mod locate;
+pub mod page;
+pub mod random;
+pub mod reply;
+pub mod samples;
+
+pub use layout::{BitPlace, Layout, bit_position, check_layout, locate_bit};
+pub use locate::locate_errors;
+pub use page::{check_claim, judge_block, read_page, write_page};
+pub use reply::{Refusal, Reply};

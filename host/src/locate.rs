@@ -1,0 +1,43 @@
+//! Locating from a remainder alone (document 01, Remainder).
+
+use crate::bits::bits_of;
+use crate::code::bch;
+use crate::decoder::errors_of_remainder;
+use crate::field::FieldChoice;
+use crate::layout::HIGHEST_LEVEL_FIELD;
+use crate::reply::{Refusal, Reply, refuse_by};
+
+/// The set of at most t exponents below n whose sum of powers of x leaves the remainder. They are
+/// put ascending into the first places of the list, and their number is returned; the other
+/// places keep what they held.
+pub fn locate_errors(
+    level_field: u64,
+    field_choice: u64,
+    n: u64,
+    remainder: &[u8],
+    places: &mut [u16],
+) -> Result<usize, Refusal> {
+    let choice = FieldChoice::from_number(field_choice).ok_or(Reply::OutOfRange)?;
+    refuse_by(&[(Reply::LevelTooHigh, level_field > HIGHEST_LEVEL_FIELD)])?;
+    let code = bch(choice, 2 * level_field as usize);
+    let parity_length = code.parity_length();
+    refuse_by(&[
+        (
+            Reply::EmptyMessage,
+            code.t == 0 || n <= parity_length as u64,
+        ),
+        (Reply::BlockTooLong, n > code.field.order() as u64),
+        (
+            Reply::BufferLength,
+            remainder.len() != parity_length.div_ceil(8) || places.len() < code.t,
+        ),
+    ])?;
+    let bits = bits_of(remainder);
+    let (above, remainder) = bits.split_at(bits.len() - parity_length);
+    refuse_by(&[(Reply::RemainderTooWide, above.contains(&true))])?;
+    let exponents = errors_of_remainder(code, remainder, n as usize).ok_or(Reply::Uncorrectable)?;
+    for (place, &exponent) in places.iter_mut().zip(&exponents) {
+        *place = exponent as u16;
+    }
+    Ok(exponents.len())
+}
