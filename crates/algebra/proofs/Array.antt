@@ -11,13 +11,14 @@ use Rattle.algebra.specs.Field.{BinaryField}
 use Rattle.algebra.specs.Series.{cons, shift, conv}
 use Rattle.algebra.specs.Polynomial.{value}
 use Rattle.algebra.specs.Recurrence.{unit-series}
+use Rattle.algebra.specs.Binary.{Squares}
 use Rattle.algebra.specs.Number.{Numbers}
 use Rattle.algebra.specs.Array.{Small, coef, dot, mix-of, Holds}
 use Rattle.algebra.proofs.Field.{mul-nil, add-nil}
 use Rattle.algebra.proofs.Series.{shift-zero, shift-suc, shift-low, shift-at}
 use Rattle.algebra.proofs.Sum.{sum-zero, sum-suc, conv-short}
 use Rattle.algebra.proofs.Polynomial.{value-suc}
-use Rattle.algebra.proofs.Recurrence.{state-initial, state-keep, state-patch, state-grow}
+use Rattle.algebra.proofs.Binary.{binary-initial, binary-keep, binary-patch, binary-grow}
 use Rattle.algebra.proofs.Number.{el-zero}
 
 module _ (K : BinaryField) (N : Numbers K) where
@@ -95,24 +96,29 @@ module _ (K : BinaryField) (N : Numbers K) where
       go (yes l) = unfold coef in ap (N .el) (m .below j l) ∙ nothing _ _ (shift-low K gap (coef K N u) j l)
       go (no l) = let e : j ≡ gap + (j - gap) = omega arith in rw (e, shift-at K gap (coef K N u) (j - gap)) (high (j - gap) (decLt (j - gap) i))
 
-  module _ {s : List ℕ} {k len b : ℕ} {c u : List ℕ} {gap : ℕ} (h : Holds K N s k len b c u gap) where
-    -- The update has k + 2 - len - gap terms.
-    pub holds-terms : (j : ℕ) → k + 2 ≤ len + gap + j → getD u j 0 ≡ 0
-    holds-terms j l = el-zero K N _ (h .small-u .small j) (unfold coef in sym (shift-at K gap (coef K N u) j) ∙ h .state .short (gap + j) (omega arith))
+  module _ {s : List ℕ} {h len b : ℕ} {c u : List ℕ} {gap : ℕ} (holds : Holds K N s h len b c u gap) where
+    -- The update has 2h + 2 - len - gap terms.
+    pub holds-terms : (j : ℕ) → h + h + 2 ≤ len + gap + j → getD u j 0 ≡ 0
+    holds-terms j l =
+        el-zero K N _ (holds .small-u .small j)
+        (unfold coef in sym (shift-at K gap (coef K N u) j) ∙ holds .state .state .short (gap + j) (omega arith))
 
     -- The three ways of a step, by the discrepancy d.
-    module _ {d : ℕ} (is : N .el d ≡ dot K N c s k (suc len)) where
-      discrepancy : conv K (coef K N c) (coef K N s) k ≡ N .el d
+    module _ {n : ℕ} (squares : Squares K (coef K N s) n) (fits : suc (h + h) < n) {d : ℕ} (is : N .el d ≡ dot K N c s (h + h) (suc len)) where
+      discrepancy : conv K (coef K N c) (coef K N s) (h + h) ≡ N .el d
       unfolding dot
-      discrepancy = conv-short K (coef K N c) (coef K N s) len k (h .state .fits) (h .state .generates .short) ∙ sym is
+      discrepancy = conv-short K (coef K N c) (coef K N s) len (h + h) (holds .state .state .fits) (holds .state .state .generates .short) ∙ sym is
 
-      pub holds-kept : d ≡ 0 → Holds K N s (k + 1) len b c u (gap + 1)
+      shifted : shift K (gap + 2) (coef K N u) ≡ cons K 𝟘 (cons K 𝟘 (shift K gap (coef K N u)))
+      shifted = let e : gap + 2 ≡ suc (suc gap) = omega arith in rw (e, shift-suc K (suc gap) (coef K N u), shift-suc K gap (coef K N u))
+
+      pub holds-kept : d ≡ 0 → Holds K N s (h + 1) len b c u (gap + 2)
       holds-kept z = record {
-        state = rw (add-one k, add-one gap, shift-suc K gap (coef K N u)) (state-keep K _ _ _ _ _ _ (h .state) (discrepancy ∙ ap (N .el) z ∙ N .el-nil));
-        small-c = h .small-c;
-        small-u = h .small-u;
-        small-b = h .small-b;
-        room = omega (arith, h .room);
+        state = rw (add-one h, shifted) (binary-keep K _ _ _ _ _ _ (holds .state) n squares fits (discrepancy ∙ ap (N .el) z ∙ N .el-nil));
+        small-c = holds .small-c;
+        small-u = holds .small-u;
+        small-b = holds .small-b;
+        room = omega (arith, holds .room);
       }
 
       module _ {q : ℕ} {v : List ℕ} (quotient : N .el b ⊗ N .el q ≡ N .el d) (small-v : Small K N v)
@@ -121,22 +127,23 @@ module _ (K : BinaryField) (N : Numbers K) where
         unfolding mix-of
         all = fun-ext mixed
 
-        pub holds-patched : k < len + len → Holds K N s (k + 1) len b v u (gap + 1)
+        pub holds-patched : h + h < len + len → Holds K N s (h + 1) len b v u (gap + 2)
         holds-patched l = record {
-          state = rw (add-one k, add-one gap, shift-suc K gap (coef K N u), all)
-              (state-patch K _ _ _ _ _ _ (h .state) (N .el d) (N .el q) discrepancy quotient l);
+          state = rw (add-one h, shifted, all) (binary-patch K _ _ _ _ _ _ (holds .state) n squares fits (N .el d) (N .el q) discrepancy quotient l);
           small-c = small-v;
-          small-u = h .small-u;
-          small-b = h .small-b;
-          room = omega (arith, h .room);
+          small-u = holds .small-u;
+          small-b = holds .small-b;
+          room = omega (arith, holds .room);
         }
 
-        pub holds-grown : d < N .size → ¬ (d ≡ 0) → len + len ≤ k → Holds K N s (k + 1) (k + 1 - len) d v c 1
+        pub holds-grown : d < N .size → ¬ (d ≡ 0) → len + len ≤ h + h → Holds K N s (h + 1) (h + h + 1 - len) d v c 2
         holds-grown small-d nonzero l = record {
-          state = rw (add-one k, shift-suc K 0 (coef K N c), shift-zero K (coef K N c), all)
-              (state-grow K _ _ _ _ _ _ (h .state) (N .el d) (N .el q) discrepancy quotient (λ z. nonzero (el-zero K N d small-d z)) l);
+          state =
+              let e : h + h + 1 - len ≡ suc (h + h) - len = omega arith in
+              rw (add-one h, e, shift-suc K 1 (coef K N c), shift-suc K 0 (coef K N c), shift-zero K (coef K N c), all)
+              (binary-grow K _ _ _ _ _ _ (holds .state) n squares fits (N .el d) (N .el q) discrepancy quotient (λ z. nonzero (el-zero K N d small-d z)) l);
           small-c = small-v;
-          small-u = h .small-c;
+          small-u = holds .small-c;
           small-b = small-d;
           room = omega arith;
         }
@@ -166,7 +173,7 @@ module _ (K : BinaryField) (N : Numbers K) where
   unfolding first
   holds-start s = record {
     state = let e : coef K N first ≡ unit-series K = fun-ext first-coef in
-        rw (shift-suc K 0 (coef K N first), shift-zero K (coef K N first), e, N .el-one) (state-initial K (coef K N s));
+        rw (shift-suc K 0 (coef K N first), shift-zero K (coef K N first), e, N .el-one) (binary-initial K (coef K N s));
     small-c = first-small;
     small-u = first-small;
     small-b = N .more;

@@ -69,6 +69,10 @@ module _ (K : BinaryField) where
   conv-right f g zero = rw (conv-suc f g 0) (simp (conv-zero, ring))
   conv-right f g (suc n) = rw (conv-suc f g (suc n), conv-right (λ i. f (suc i)) g n, conv-suc f (λ i. g (suc i)) n) (simp ring)
 
+  pub conv-comm : (f g : ℕ → F) (n : ℕ) → conv K f g n ≡ conv K g f n
+  conv-comm f g zero = simp (conv-zero, ring)
+  conv-comm f g (suc n) = rw (conv-suc f g n, conv-right g f n, conv-comm (λ i. f (suc i)) g n) (simp ring)
+
   -- f (g h) = g (f h)
   pub conv-left-comm : (f g h : ℕ → F) (n : ℕ) → conv K f (conv K g h) n ≡ conv K g (conv K f h) n
   conv-left-comm f g h zero = simp (conv-zero, ring)
@@ -91,7 +95,38 @@ module _ (K : BinaryField) where
   conv-cong f g h zero e = rw (conv-zero f g, conv-zero f h, e 0 (omega arith))
   conv-cong f g h (suc n) e = rw (conv-suc f g n, conv-suc f h n, e (suc n) (omega arith), conv-cong (λ i. f (suc i)) g h n (λ j l. e j (omega arith)))
 
+  pub conv-cong-left : (f g h : ℕ → F) (n : ℕ) → ((i : ℕ) → i ≤ n → f i ≡ g i) → conv K f h n ≡ conv K g h n
+  conv-cong-left f g h n e = conv-comm f h n ∙ conv-cong h f g n e ∙ conv-comm h g n
+
+  -- A square has the squares of the coefficients at the even powers and nothing at the odd ones.
+  conv-square-tail : (f : ℕ → F) (n : ℕ) → conv K f f (suc (suc n)) ≡ conv K (λ i. f (suc i)) (λ i. f (suc i)) n
+  conv-square-tail f n = rw (conv-suc f f (suc n), conv-right (λ i. f (suc i)) f n) (simp ring)
+
+  pub conv-square-even : (f : ℕ → F) (i : ℕ) → conv K f f (i + i) ≡ f i ⊗ f i
+  conv-square-even f zero = conv-zero f f
+  conv-square-even f (suc i) =
+      let e : suc i + suc i ≡ suc (suc (i + i)) = omega arith in
+      rw (e, conv-square-tail f (i + i)) (conv-square-even (λ i. f (suc i)) i)
+
+  pub conv-square-odd : (f : ℕ → F) (i : ℕ) → conv K f f (suc (i + i)) ≡ 𝟘
+  conv-square-odd f zero = rw (conv-suc f f 0) (simp (conv-zero, ring))
+  conv-square-odd f (suc i) =
+      let e : suc i + suc i ≡ suc (suc (i + i)) = omega arith in
+      rw (e, conv-square-tail f (suc (i + i))) (conv-square-odd (λ i. f (suc i)) i)
+
+  -- A product times c, where c is the sum of a weight for the index in f and one for the index in g.
+  pub conv-weigh : (u v : ℕ → F) (c : F) (f g : ℕ → F) (n : ℕ) → ((i j : ℕ) → i + j ≡ n → u i ⊕ v j ≡ c)
+      → c ⊗ conv K f g n ≡ conv K (λ i. u i ⊗ f i) g n ⊕ conv K f (λ j. v j ⊗ g j) n
+  conv-weigh u v c f g zero h = rw (conv-zero f g, conv-zero (λ i. u i ⊗ f i) g, conv-zero f (λ j. v j ⊗ g j), ← h 0 0 refl) (simp ring)
+  conv-weigh u v c f g (suc n) h =
+      rw (conv-suc f g n, conv-suc (λ i. u i ⊗ f i) g n, conv-suc f (λ j. v j ⊗ g j) n, K .mul-add)
+      (rw (conv-weigh (λ i. u (suc i)) v c (λ i. f (suc i)) g n (λ i j e. h (suc i) j (omega arith)), ← h 0 (suc n) (omega arith)) (simp ring))
+
   -- the product with x f
   pub conv-cons : (f g : ℕ → F) (n : ℕ) → conv K (cons K 𝟘 f) g (suc n) ≡ conv K f g n
   unfolding cons
   conv-cons f g n = rw (conv-suc (cons K 𝟘 f) g n) (simp ring)
+
+  pub conv-cons-right : (f g : ℕ → F) (n : ℕ) → conv K f (cons K 𝟘 g) (suc n) ≡ conv K f g n
+  unfolding cons
+  conv-cons-right f g n = rw (conv-right f (cons K 𝟘 g) n) (simp ring)

@@ -3,7 +3,7 @@
 --   coef l                     l as a series
 --   dot c s k n                c_0 s_k + c_1 s_(k - 1) + .., n terms: a discrepancy
 --   mix-of c u q gap           c + q x^gap u, as a series: a recurrence and a multiple of its update
---   Holds s k len b c u gap    `State` before term k, its recurrence the array c and its update x^gap u
+--   Holds s h len b c u gap    `BinaryState` before term 2h, its recurrence the array c and its update x^gap u
 use mathlib.Core.List.{List}
 use mathlib.Core.Path.{_≡_}
 use Prim.Native.Nat.{ℕ, _+_, _-_, _≤_, _<_}
@@ -11,7 +11,7 @@ use lib.ListN.{getD, length}
 use Rattle.algebra.specs.Field.{BinaryField}
 use Rattle.algebra.specs.Series.{shift}
 use Rattle.algebra.specs.Sum.{sum}
-use Rattle.algebra.specs.Recurrence.{State}
+use Rattle.algebra.specs.Binary.{BinaryState}
 use Rattle.algebra.specs.Number.{Numbers}
 
 module _ (K : BinaryField) (N : Numbers K) where
@@ -34,10 +34,10 @@ module _ (K : BinaryField) (N : Numbers K) where
   unfoldable pub mix-of : List ℕ → List ℕ → ℕ → ℕ → ℕ → F
   mix-of c u q gap i = K .add (coef c i) (K .mul (N .el q) (shift K gap (coef u) i))
 
-  -- `room` says that the update x^gap u has k + 2 - len - gap terms, at least one.
-  pub record Holds (s : List ℕ) (k len b : ℕ) (c u : List ℕ) (gap : ℕ) : Type 0 where
-    pub state : State K (coef s) k len (N .el b) (coef c) (shift K gap (coef u))
+  -- `room` says that the update, which has 2h + 2 - len terms with its gap, has at least one besides.
+  pub record Holds (s : List ℕ) (h len b : ℕ) (c u : List ℕ) (gap : ℕ) : Type 0 where
+    pub state : BinaryState K (coef s) h len (N .el b) (coef c) (shift K gap (coef u))
     pub small-c : Small c
     pub small-u : Small u
     pub small-b : b < N .size
-    pub room : len + gap ≤ k + 1
+    pub room : len + gap ≤ h + h + 1

@@ -3,6 +3,7 @@ pub mod Series
 pub mod Sum
 pub mod Polynomial
 pub mod Recurrence
+pub mod Binary
 pub mod Remainder
 pub mod Word
 pub mod Number

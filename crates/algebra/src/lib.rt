@@ -6,6 +6,7 @@
 //   2. Polynomial: powers of an element, the value of a polynomial by Horner's rule, and how many roots it can have.
 //   3. Recurrence: the recurrences of a sequence, Massey's lemma, the steps of the algorithm of Berlekamp and Massey, and what the
 //      shortest recurrence of a sequence of power sums tells: its roots are the summed elements, and no others.
+//      Binary: for words of bits every second step of the algorithm changes nothing, and is left out.
 //   4. Remainder: the remainder of a word by a monic polynomial, one coefficient at a time, and the systematic encoder.
 //   5. Word: words of bits, power sums (the syndromes), the least distance of the code, and that decoding finds a codeword
 //      whenever one is near enough.
