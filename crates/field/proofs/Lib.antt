@@ -9,5 +9,6 @@ pub mod Fast
 pub mod Order
 pub mod Primitive
 pub mod Partial
+pub mod Lookup
 pub mod Instance
 pub mod Cases
