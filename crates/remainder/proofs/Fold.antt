@@ -16,8 +16,8 @@ use Rattle.bits.specs.Bits.{bit, bitAt, bitOf, run, digit, number, digits}
 use Rattle.bits.proofs.Numbers.{digit-lt, bit-digit, digits-length, number-digits}
 use Rattle.bits.proofs.Runs.{run-append}
 use Rattle.field.specs.declared.Field.{Field}
+use Rattle.field.specs.declared.Field.the-variants.{Thirteen, Fourteen}
 use Rattle.field.specs.Field.{degree}
-use Rattle.field.proofs.Primitive.{degree-below}
 use Rattle.code.specs.Word.{Word}
 use Rattle.code.specs.Generator.{generator, remainderStep, remainderOf, remainder, parity}
 use Rattle.code.specs.Register.{register}
@@ -152,6 +152,11 @@ module _ (d g : ℕ) where
 
 -- the remainder by a generator
 
+degree-most : (f : Field) → degree f ≤ 14
+unfolding degree
+degree-most Thirteen = omega arith
+degree-most Fourteen = omega arith
+
 module _ (f : Field) (t : ℕ) where
   pub remainder-from : (w : Word) → remainder f t w ≡ remainderFrom (degree f * t) (generator f t) 0 w
   unfolding remainder
@@ -164,8 +169,7 @@ module _ (f : Field) (t : ℕ) where
 
   pub parity-bits-below : t ≤ 62 → degree f * t ≤ 868
   parity-bits-below h =
-      let d : degree f ≤ 14 = let l = degree-below f in omega arith in
-      mul-le-mul d h
+      mul-le-mul (degree-most f) h
 
   -- The words of a row divide.
   pub row-divisor : {words : List ℕ} → Row f t words → Divisor (degree f * t) (register words)
