@@ -6,7 +6,7 @@ use crate::guarded::GuardBroken;
 use crate::layout::{LayoutWords, check_layout};
 use crate::library::{Library, Model};
 use crate::random::Random;
-use crate::samples::layouts::{accepted_words, code_bits, positions, records};
+use crate::samples::layouts::{CASE_A, accepted_words, code_bits, positions, records};
 use crate::samples::pages::{WrittenPage, damage_tail, spoil};
 use crate::samples::remainders::{document_cases, random_remainder, spoilt, sums};
 
@@ -44,14 +44,12 @@ impl<'a> Comparison<'a> {
     pub fn round(&mut self) -> Result<(), Box<Difference>> {
         self.layouts()?;
         self.remainders()?;
+        let mut layouts = vec![CASE_A, edge_words(&mut self.random)];
         for most_page_bytes in [20, 40, 70, 120, 250, 600] {
-            for _ in 0..20 {
-                let words = accepted_words(&mut self.random, most_page_bytes);
-                self.page(words)?;
-            }
+            layouts.extend((0..20).map(|_| accepted_words(&mut self.random, most_page_bytes)));
         }
-        let words = accepted_words(&mut self.random, 5000);
-        self.page(words)
+        layouts.push(accepted_words(&mut self.random, 5000));
+        layouts.into_iter().try_for_each(|words| self.page(words))
     }
 
     /// Performs a call with the library and with the model, and returns it as it is afterwards.
@@ -89,12 +87,12 @@ impl<'a> Comparison<'a> {
                 ),
                 Err(_) => (vec![0, u64::MAX], vec![(0, 0), (1, u64::MAX)]),
             };
-            let few = |random: &mut Random| random.below(4);
-            for position in positions.into_iter().skip(few(&mut self.random)).step_by(4) {
+            let first = self.random.below(4);
+            for position in positions.into_iter().skip(first).step_by(4) {
                 let record = record.clone();
                 self.perform(Call::LocateBit { record, position })?;
             }
-            for (block, exponent) in code_bits.into_iter().skip(few(&mut self.random)).step_by(4) {
+            for (block, exponent) in code_bits.into_iter().skip(first).step_by(4) {
                 self.perform(Call::BitPosition {
                     record: record.clone(),
                     block,
@@ -165,6 +163,17 @@ impl<'a> Comparison<'a> {
             })?;
         }
         Ok(())
+    }
+}
+
+/// Accepted words from the edges: the longest blocks, the most blocks, the largest pages.
+fn edge_words(random: &mut Random) -> LayoutWords {
+    let records = records(random);
+    loop {
+        let record = &records[random.below(records.len())];
+        if check_layout(record).is_ok() {
+            return LayoutWords::unpack(record.as_slice().try_into().unwrap());
+        }
     }
 }
 
