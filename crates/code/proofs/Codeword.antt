@@ -13,9 +13,8 @@ use Rattle.bits.specs.Bits.{digit}
 use Rattle.field.specs.declared.Field.{Field}
 use Rattle.field.specs.Field.{product, a^, longest}
 use Rattle.field.proofs.Instance.{gf, a, el, el-same, el-nil, el-add, el-mul, el-pow, order, unit}
-use Rattle.algebra.specs.Field.{BinaryField}
 use Rattle.algebra.specs.Polynomial.{pow, horner}
-use Rattle.algebra.specs.Word.{bit, both, power-sum}
+use Rattle.algebra.specs.Word.{bit, power-sum}
 use Rattle.algebra.specs.Word as word
 use Rattle.algebra.proofs.Field.{mul-nil}
 use Rattle.algebra.proofs.Polynomial.{horner-zero, horner-suc, horner-cong, horner-append, horner-odd-zeros}
