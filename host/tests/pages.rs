@@ -2,36 +2,16 @@
 
 use model::bits::{bit, bits_of};
 use model::random::Random;
-use model::samples::{accepted_words, damage, damage_tail};
+use model::samples::layouts::accepted_words;
+use model::samples::pages::{WrittenPage, damage, damage_tail};
 use model::*;
 
-/// A layout, a payload and the page written for it.
-struct Written {
-    record: Vec<u8>,
-    layout: Layout,
-    metadata: Vec<u8>,
-    data: Vec<u8>,
-    page: Vec<u8>,
-}
-
-fn written(random: &mut Random, most_page_bytes: usize) -> Written {
-    let record = accepted_words(random, most_page_bytes).pack().to_vec();
-    let layout = check_layout(&record).unwrap();
-    let metadata = random.bytes(layout.metadata_length);
-    let data = random.bytes(layout.data_length());
-    let mut page = random.bytes(layout.page_length);
-    assert_eq!(write_page(&record, &metadata, &data, &mut page), Ok(()));
-    Written {
-        record,
-        layout,
-        metadata,
-        data,
-        page,
-    }
+fn written(random: &mut Random, most_page_bytes: usize) -> WrittenPage {
+    WrittenPage::new(accepted_words(random, most_page_bytes), random)
 }
 
 /// A block's word, bit by bit from where each coefficient lies.
-fn word(written: &Written, block: usize) -> Vec<bool> {
+fn word(written: &WrittenPage, block: usize) -> Vec<bool> {
     (0..written.layout.block(block).covered_bits() as u64)
         .rev()
         .map(|exponent| bit_position(&written.record, block as u64, exponent).unwrap())
@@ -87,7 +67,7 @@ fn bits_go_both_ways() {
 fn damage_up_to_t_reads_back() {
     let mut random = Random::new(9);
     for _ in 0..150 {
-        let Written {
+        let WrittenPage {
             record,
             layout,
             metadata,
@@ -129,7 +109,7 @@ fn damage_up_to_t_reads_back() {
 fn reading_names_the_lowest_ruined_block() {
     let mut random = Random::new(10);
     for _ in 0..150 {
-        let Written {
+        let WrittenPage {
             record,
             layout,
             mut page,

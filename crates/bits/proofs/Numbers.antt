@@ -7,12 +7,12 @@ use native.Mathlib.Omega.{arith}
 use native.Mathlib.Decide.{ℕ-discrete}
 use native.Mathlib.Nat.{add-zero, mul-add-div-right, mul-add-mod-self-right, pow-suc, mul-assoc, add-mul, add-assoc, mod-eq-of-lt, suc-sub-suc, add-comm}
 use native.Mathlib.Numerals.{add-one}
-use lib.ListN.{length, getD, length-append}
+use lib.ListN.{length, getD, length-append, length-replicate}
 use lib.Seq.{ext-getD}
 use lib.Pow.{split, high, low, shr-shr, pow-pos, pow-add, mod-pow-add}
 use lib.Arith.{digits-lt}
 use lib.Dec.{eqb}
-use Rattle.bits.specs.Bits.{bit, digit, number, digits}
+use Rattle.bits.specs.Bits.{bit, run, ones, digit, number, digits}
 
 -- bits of numbers
 
@@ -138,3 +138,25 @@ digits-number w = ext-getD false (digits (number w) (length w)) w (digits-length
     let e : length w - suc (length w - suc j) ≡ j = omega arith in
     digits-at (number w) (length w) j false l ∙ ap (λ x. eqb x 1) (number-bit w (length w - suc j) (omega arith)) ∙ digit-bit _
     ∙ ap (λ (i : ℕ). getD w i false) e)
+
+-- ones
+
+pub ones-length : (n : ℕ) → length (ones n) ≡ n
+unfolding ones
+ones-length n = length-replicate n true
+
+pub ones-run : (s n : ℕ) → run (λ p. true) s n ≡ ones n
+unfolding ones run
+ones-run s zero = refl
+ones-run s (suc n) = ap (_∷_ true) (ones-run (suc s) n)
+
+pub number-ones : (n : ℕ) → number (ones n) ≡ 2 ^ n - 1
+unfolding ones number digit
+number-ones zero = refl
+number-ones (suc n) =
+    let p : 2 ^ suc n ≡ 2 ^ n * 2 = pow-suc 2 n in
+    let h = pow-pos n in
+    rw (length-replicate n true, p, number-ones n) (omega arith)
+
+pub digits-ones : (n : ℕ) {v : ℕ} → v ≡ 2 ^ n - 1 → digits v n ≡ ones n
+digits-ones n e = rw (e, ← number-ones n) (ap (digits (number (ones n))) (sym (ones-length n)) ∙ digits-number (ones n))

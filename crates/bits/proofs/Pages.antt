@@ -10,8 +10,8 @@ use lib.ListN.{length, getD, List·getD-eq-default}
 use lib.Pow.{high, low}
 use lib.Seq.{ext-getD}
 use lib.Dec.{eqb}
-use Rattle.bits.specs.Bits.{bit, bitAt, bitOf, run, digit, number, bytes, Bytes}
-use Rattle.bits.proofs.Numbers.{bit-lt, bit-ext, bit-digit, digit-bit, number-lt, number-append, number-bit}
+use Rattle.bits.specs.Bits.{bit, bitAt, bitOf, run, digit, number, digits, bytes, Bytes}
+use Rattle.bits.proofs.Numbers.{bit-lt, bit-ext, bit-digit, digit-bit, number-lt, number-append, number-bit, digits-number}
 use Rattle.bits.proofs.Runs.{run-length, run-at, run-cong, run-append}
 
 -- bits of pages
@@ -54,6 +54,9 @@ number-run-high f s a b = rw (number-run-append f s a b) (high (number (run f s 
 
 pub number-run-low : (f : ℕ → Bool) (s a b : ℕ) → number (run f s (a + b)) % 2 ^ b ≡ number (run f (s + a) b)
 number-run-low f s a b = rw (number-run-append f s a b) (low (number (run f s a)) b (number-run-lt f (s + a) b))
+
+pub digits-run : (f : ℕ → Bool) (s n : ℕ) {v : ℕ} → v ≡ number (run f s n) → digits v n ≡ run f s n
+digits-run f s n e = rw e (ap (digits (number (run f s n))) (sym (run-length f s n)) ∙ digits-number (run f s n))
 
 -- a byte is the number that its bits give
 pub byte-number : (l : List ℕ) (i : ℕ) → getD l i 0 < 256 → number (run (bitOf l) (8 * i) 8) ≡ getD l i 0

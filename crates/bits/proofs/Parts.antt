@@ -9,14 +9,14 @@ use native.Mathlib.Nat.{mod-lt, mod-eq-of-lt, one-mul}
 use lib.ListN.{length, getD, set, length-set}
 use lib.Seq.{getD-set-same, getD-set-other}
 use lib.Arith.{digits-lt}
-use lib.Pow.{pow-pos, pow-add, pow-mono, shr-lt}
+use lib.Pow.{pow-pos, pow-add, pow-lt, shr-lt}
 use lib.Dec.{eqb}
 use mir.Val.{boolByte}
-use Rattle.bits.specs.Bits.{bit, bitAt, bitOf, run, number, digits, Bytes, placed}
-use Rattle.bits.proofs.Numbers.{bit-low, bit-high, bit-shift, bit-mod, digits-length, digits-at, digits-number, number-lt}
+use Rattle.bits.specs.Bits.{bit, bitAt, bitOf, run, ones, number, digits, Bytes, placed}
+use Rattle.bits.proofs.Numbers.{bit-low, bit-high, bit-shift, bit-mod, digits-length, digits-at, digits-number, number-lt, ones-run, number-ones}
 use Rattle.bits.proofs.Runs.{run-length}
 use Rattle.bits.proofs.Pages.{bitAt-lt}
-use Rattle.bits.proofs.Placed.{placed-length, placed-bytes, placed-ext, placed-run-append}
+use Rattle.bits.proofs.Placed.{placed-length, placed-bytes, placed-ext, placed-run-append, placed-three}
 
 -- the number x with the n bits above its k lowest replaced by v
 abbrev pub part : ℕ → ℕ → ℕ → ℕ → ℕ
@@ -105,17 +105,27 @@ byte-placed page i w b hi l =
     ∙ ap (placed page (8 * i)) (ap (digits (number w)) (sym l) ∙ digits-number w)
 
 -- one byte more of a run of bytes
-pub byte-next : (f : ℕ → Bool) (page : List ℕ) (start r i : ℕ) {now : List ℕ} {x : ℕ} → now ≡ placed page (8 * start) (run f r (8 * i))
-    → x ≡ number (run f (r + 8 * i) 8) → start + i < length page → set now (start + i) x ≡ placed page (8 * start) (run f r (8 * (i + 1)))
-byte-next f page start r i {now} {x} en ex h =
-    let l = placed-length page (8 * start) (run f r (8 * i)) in
+pub byte-next : (f : ℕ → Bool) (page : List ℕ) (s r start i : ℕ) {now : List ℕ} {x : ℕ} → now ≡ placed page s (run f r (8 * i))
+    → x ≡ number (run f (r + 8 * i) 8) → s ≡ 8 * start → start + i < length page → set now (start + i) x ≡ placed page s (run f r (8 * (i + 1)))
+byte-next f page s r start i {now} {x} en ex es h =
+    let l = placed-length page s (run f r (8 * i)) in
     let e : 8 * i + 8 ≡ 8 * (i + 1) = omega arith in
-    rw (en, ex) (byte-placed _ (start + i) (run f (r + 8 * i) 8) (rw l (placed-bytes page (8 * start) (run f r (8 * i)))) (omega arith) (run-length f (r + 8 * i) 8)
-    ∙ placed-run-append f page (8 * start) r (8 * i) 8 (omega arith) refl ∙ ap (λ (n : ℕ). placed page (8 * start) (run f r n)) e)
+    rw (en, ex) (byte-placed _ (start + i) (run f (r + 8 * i) 8) (rw l (placed-bytes page s (run f r (8 * i)))) (omega arith) (run-length f (r + 8 * i) 8)
+    ∙ placed-run-append f page s r (8 * i) 8 (omega arith) refl ∙ ap (λ (n : ℕ). placed page s (run f r n)) e)
 
--- what the code's shifts of 32 bits give
-pub shift-one : (k : ℕ) → k ≤ 8 → 1 * 2 ^ k % 4294967296 ≡ 2 ^ k
-shift-one k h = let l : 2 ^ k ≤ 2 ^ 8 = pow-mono h in ap (λ (x : ℕ). x % 4294967296) (one-mul (2 ^ k)) ∙ mod-eq-of-lt (omega arith)
+-- ones put one byte after the other, and in three parts
+pub ones-byte : (s : ℕ) → 255 ≡ number (run (λ p. true) s 8)
+ones-byte s = sym (ap number (ones-run s 8) ∙ number-ones 8)
+
+pub ones-three : (page : List ℕ) (s a b c : ℕ) {n : ℕ} {p q t : List ℕ} → a + b + c ≡ n → p ≡ placed page s (ones a)
+    → q ≡ placed p (s + a) (ones b) → t ≡ placed q (s + (a + b)) (ones c) → t ≡ placed page s (ones n)
+ones-three page s a b c {n} en ep eq et =
+    placed-three (λ p. true) page s s a b c en (ep ∙ ap (placed _ _) (sym (ones-run s a))) (eq ∙ ap (placed _ _) (sym (ones-run (s + a) b)))
+    (et ∙ ap (placed _ _) (sym (ones-run (s + (a + b)) c))) ∙ ap (placed page s) (ones-run s n)
+
+-- what the code's shifts give
+pub shift-one : (w k : ℕ) → k < w → 1 * 2 ^ k % 2 ^ w ≡ 2 ^ k
+shift-one w k h = ap (λ (x : ℕ). x % 2 ^ w) (one-mul (2 ^ k)) ∙ mod-eq-of-lt (pow-lt h)
 
 pub part-shifts : (x k n v : ℕ) → x < 256 → k + n ≤ 8 → v < 2 ^ n
     → x / 2 ^ (k + n) * 2 ^ (k + n) % 4294967296 + (v * 2 ^ k % 4294967296 + x % (1 * 2 ^ k % 4294967296)) ≡ part x k n v
@@ -123,7 +133,7 @@ part-shifts x k n v hx h hv =
     let l = part-lt x k n v hv h hx in
     let a : x / 2 ^ (k + n) * 2 ^ (k + n) < 4294967296 = omega arith in
     let b : v * 2 ^ k < 4294967296 = omega arith in
-    rw (mod-eq-of-lt a, mod-eq-of-lt b, shift-one k (omega arith))
+    rw (mod-eq-of-lt a, mod-eq-of-lt b, shift-one 32 k (omega arith))
 
 -- a single bit
 pub digits-bool : (b : Bool) → digits (boolByte b) 1 ≡ b ∷ []

@@ -97,6 +97,10 @@ module _ (page : List ℕ) (s : ℕ) (w : List Bool) where
 pub placed-empty : (page : List ℕ) (s : ℕ) → Bytes (length page) page → placed page s [] ≡ page
 placed-empty page s b = placed-ext page s [] page b (λ j h k. absurd (omega arith)) (λ p o. refl)
 
+pub placed-none : (f : ℕ → Bool) (page : List ℕ) (s r n : ℕ) → Bytes (length page) page → n ≡ 0 → page ≡ placed page s (run f r n)
+unfolding run
+placed-none f page s r n b e = rw e (sym (placed-empty page s b))
+
 -- what lies past the end is lost
 pub placed-past : (page : List ℕ) (s : ℕ) (w : List Bool) → Bytes (length page) page → 8 * length page ≤ s → placed page s w ≡ page
 placed-past page s w b h = placed-ext page s w page b (λ j l k. absurd (omega arith)) (λ p o. refl)
@@ -123,6 +127,13 @@ pub placed-run-append : (f : ℕ → Bool) (page : List ℕ) (s r n k : ℕ) {t 
 placed-run-append f page s r n k {t} {q} et eq =
     placed-append page s t (run f r n) (run f q k) (et ∙ ap (λ (i : ℕ). s + i) (sym (run-length f r n)))
     ∙ rw (eq, ← run-append f r n k)
+
+-- a run put in three parts
+pub placed-three : (f : ℕ → Bool) (page : List ℕ) (s r a b c : ℕ) {n : ℕ} {p q t : List ℕ} → a + b + c ≡ n → p ≡ placed page s (run f r a)
+    → q ≡ placed p (s + a) (run f (r + a) b) → t ≡ placed q (s + (a + b)) (run f (r + (a + b)) c) → t ≡ placed page s (run f r n)
+placed-three f page s r a b c en ep eq et =
+    et ∙ ap (λ l. placed l (s + (a + b)) (run f (r + (a + b)) c)) (eq ∙ ap (λ l. placed l (s + a) (run f (r + a) b)) ep ∙ placed-run-append f page s r a b refl refl)
+    ∙ placed-run-append f page s r (a + b) c refl refl ∙ ap (λ (i : ℕ). placed page s (run f r i)) en
 
 -- a page all of whose bits are put
 pub placed-whole : (page : List ℕ) (w : List Bool) → length w ≡ 8 * length page → placed page 0 w ≡ bytes (λ p. getD w p false) (length page)

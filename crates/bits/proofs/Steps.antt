@@ -42,21 +42,20 @@ joined-lt n a b k l h hb =
     let e : 8 ≡ k + (8 - k) = omega arith in
     shift-lt a (b / 2 ^ (8 - k)) n k (omega arith) (shr-lt k (8 - k) (subst (λ (i : ℕ). b < 2 ^ i) e hb))
 
-byte-run : (l : List ℕ) (i s : ℕ) {b : ℕ} → 8 * i ≡ s → b ≡ getD l i 0 → b < 256 → b ≡ number (run (bitOf l) s 8)
+pub byte-run : (l : List ℕ) (i s : ℕ) {b : ℕ} → 8 * i ≡ s → b ≡ getD l i 0 → b < 256 → b ≡ number (run (bitOf l) s 8)
 byte-run l i s e eb hb = eb ∙ sym (byte-number l i (rw (← eb) hb)) ∙ ap (λ (r : ℕ). number (run (bitOf l) r 8)) e
 
-joined-run : (l : List ℕ) (p n i : ℕ) {a b : ℕ} → 8 ≤ n → 8 * i ≡ 8 * (p / 8) + n
-    → a ≡ number (run (bitOf l) (8 * (p / 8)) n) → b ≡ getD l i 0 → b < 256
-    → a * 2 ^ (p % 8) % 2 ^ n + b / 2 ^ (8 - p % 8) ≡ number (run (bitOf l) p n)
-joined-run l p n i h e ea eb hb =
-    let q : 8 * (p / 8) + p % 8 ≡ p = omega arith in
-    ap₂ (λ (x y : ℕ). x * 2 ^ (p % 8) % 2 ^ n + y / 2 ^ (8 - p % 8)) ea (byte-run l i _ e eb hb)
-    ∙ number-shift (bitOf l) (8 * (p / 8)) n 8 (p % 8) (omega arith) (omega arith) ∙ ap (λ (r : ℕ). number (run (bitOf l) r n)) q
+joined-run : (l : List ℕ) (s n k i p : ℕ) {a b : ℕ} → 8 ≤ n → k < 8 → 8 * i ≡ s + n → s + k ≡ p
+    → a ≡ number (run (bitOf l) s n) → b ≡ getD l i 0 → b < 256 → a * 2 ^ k % 2 ^ n + b / 2 ^ (8 - k) ≡ number (run (bitOf l) p n)
+joined-run l s n k i p hn hk ei ep ea eb hb =
+    ap₂ (λ (x y : ℕ). x * 2 ^ k % 2 ^ n + y / 2 ^ (8 - k)) ea (byte-run l i _ ei eb hb)
+    ∙ number-shift (bitOf l) s n 8 k (omega arith) (omega arith) ∙ ap (λ (r : ℕ). number (run (bitOf l) r n)) ep
 
 -- a byte from two bytes
-pub byte-joined : (l : List ℕ) (p : ℕ) {a b r : ℕ} → r ≡ a * 2 ^ (p % 8) % 256 + b / 2 ^ (8 - p % 8)
-    → a ≡ getD l (p / 8) 0 → b ≡ getD l (p / 8 + 1) 0 → a < 256 → b < 256 → r ≡ number (run (bitOf l) p 8)
-byte-joined l p er ea eb ha hb = er ∙ joined-run l p 8 (p / 8 + 1) (omega arith) (omega arith) (byte-run l (p / 8) _ refl ea ha) eb hb
+pub byte-joined : (l : List ℕ) (i k p : ℕ) {a b r : ℕ} → r ≡ a * 2 ^ k % 256 + b / 2 ^ (8 - k) → k < 8 → 8 * i + k ≡ p
+    → a ≡ getD l i 0 → b ≡ getD l (i + 1) 0 → a < 256 → b < 256 → r ≡ number (run (bitOf l) p 8)
+byte-joined l i k p er hk ep ea eb ha hb =
+    er ∙ joined-run l (8 * i) 8 k (i + 1) p (omega arith) hk (omega arith) ep (byte-run l i _ refl ea ha) eb hb
 
 -- a word from four bytes
 pub four-joined : (l : List ℕ) (i : ℕ) {a b c d r : ℕ} → r ≡ a * 16777216 + b * 65536 + c * 256 + d
@@ -80,4 +79,10 @@ word-joined l p {u} {v} er eu ev eb hb =
     let q : 8 * (p / 8 + 4) ≡ s + 32 = omega arith in
     let w : u * 4294967296 + v ≡ number (run (bitOf l) s 64) =
     ap₂ (λ (x y : ℕ). x * 4294967296 + y) eu (ev ∙ ap (λ (r : ℕ). number (run (bitOf l) r 32)) q) ∙ sym (number-run-append (bitOf l) s 32 32) in
-    er ∙ joined-run l p 64 (p / 8 + 8) (omega arith) (omega arith) w eb hb
+    er ∙ joined-run l s 64 (p % 8) (p / 8 + 8) p (omega arith) (omega arith) (omega arith) (omega arith) w eb hb
+
+-- the first n bits of a byte
+pub bits-first : (f : ℕ → Bool) (s n : ℕ) {b : ℕ} → n ≤ 8 → b ≡ number (run f s 8) → b / 2 ^ (8 - n) ≡ number (run f s n)
+bits-first f s n h e =
+    let g : 8 ≡ n + (8 - n) = omega arith in
+    ap (λ (x : ℕ). x / 2 ^ (8 - n)) (e ∙ ap (λ (i : ℕ). number (run f s i)) g) ∙ number-run-high f s n (8 - n)

@@ -5,17 +5,19 @@
 -- bitAt page p         the bit at stream position p, as a number
 -- bitOf page p         the same bit as a Bool
 -- run f s n            f s, f (s + 1), .., n of them
+-- ones n               n ones
 -- digit b              a Bool as a number
 -- number w             the number whose binary digits are the word w, highest first
 -- digits x n           the n lowest binary digits of x, highest first
 -- bytes f n            the n bytes whose bit at stream position p is f p
 -- Bytes n l            l is n bytes
 -- placedBit, placed    a page after a word was put at a position
+-- Inside page s n      n bits from position s on lie inside a page
 use mathlib.Core.Path.{_≡_}
-use mathlib.Core.Bool.{Bool, cond}
+use mathlib.Core.Bool.{Bool, true, cond}
 use mathlib.Core.List.{List, [], _∷_}
-use Prim.Native.Nat.{ℕ, zero, suc, _+_, _-_, _*_, _/_, _%_, _^_, _<_}
-use lib.ListN.{length, getD}
+use Prim.Native.Nat.{ℕ, zero, suc, _+_, _-_, _*_, _/_, _%_, _^_, _<_, _≤_}
+use lib.ListN.{length, getD, replicate}
 use lib.Dec.{eqb, leb}
 
 -- Bit k of a number; bit 0 is the least significant.
@@ -34,6 +36,10 @@ bitOf page p = eqb (bitAt page p) 1
 unfoldable pub run : {A : Type 0} → (ℕ → A) → ℕ → ℕ → List A
 run f s zero = []
 run f s (suc n) = f s ∷ run f (suc s) n
+
+-- n ones: what the tail of a page is written as (document 01, "Layout words").
+unfoldable pub ones : ℕ → List Bool
+ones n = replicate n true
 
 -- 1 for true, 0 for false.
 unfoldable pub digit : Bool → ℕ
@@ -65,3 +71,8 @@ placedBit page s w p = cond (leb s p) (getD w (p - s) (bitOf page p)) (bitOf pag
 -- The page after a word was put at position s. Its length is as before; bits of the word past its end are lost.
 unfoldable pub placed : List ℕ → ℕ → List Bool → List ℕ
 placed page s w = bytes (placedBit page s w) (length page)
+
+-- The n bits from position s on lie inside a page, and their positions fit 64 bits (a page longer than 2^61 bytes has others).
+pub record Inside (page : List ℕ) (s n : ℕ) : Type 0 where
+  pub ends : s + n ≤ 8 * length page
+  pub fits : s + n < 18446744073709551616

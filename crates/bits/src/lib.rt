@@ -4,5 +4,7 @@
 // is defined in specs/Bits.antt; proofs/ has their laws: Numbers, Runs, Pages, Placed, Parts, Steps.
 //
 // Every function here works on slices and positions, and is internal to the library.
+pub mod copy;
+pub mod fill;
 pub mod read;
 pub mod write;

@@ -11,6 +11,13 @@ pub fn bit_at(page: &[u8], p: usize) -> u8
     (byte_or_zero(page, p / 8) >> (7 - p % 8)) % 2
 }
 
+// The byte that position p lies in.
+pub fn byte_of(p: usize) -> usize
+    ensures { λ r. ⌜ r ≡ p / 8 ⌝ }
+{
+    p / 8
+}
+
 // Byte i of a page.
 fn byte_or_zero(page: &[u8], i: usize) -> u8
     ensures { λ r. ⌜ r ≡ getD (now (page .entry)) i 0 ⌝ }
@@ -36,6 +43,15 @@ pub fn byte_at(page: &[u8], p: usize) -> u8
     let high = byte_or_zero(page, i);
     let low = byte_or_zero(page, i + 1);
     joined(high, low, p % 8)
+}
+
+// Internal: n bits from position p on, at most eight, as a number.
+pub fn bits_at(page: &[u8], p: usize, n: usize) -> u8
+    requires { ⌜ n ≤ 8 ⌝ }
+    ensures { λ r. ⌜ r ≡ number (run (bitOf (now (page .entry))) p n) ⌝ }
+{
+    let byte = byte_at(page, p);
+    ((byte as u16) >> (8 - n)) as u8
 }
 
 // Four bytes as a number, the first the highest.

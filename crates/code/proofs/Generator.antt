@@ -12,10 +12,10 @@ use Rattle.bits.specs.Bits.{bit, digits}
 use Rattle.bits.proofs.Numbers.{digits-length}
 use Rattle.field.specs.declared.Field.{Field}
 use Rattle.field.specs.declared.Field.the-variants.{Thirteen, Fourteen}
-use Rattle.field.specs.Field.{degree, longest, a^}
+use Rattle.field.specs.Field.{degree, longest}
 use Rattle.field.proofs.Xor.{mod2, digit-le}
 use Rattle.field.proofs.Primitive.{primitive, usable}
-use Rattle.field.proofs.Instance.{gf, a, el, el-same, el-nil, el-one, el-pow, order}
+use Rattle.field.proofs.Instance.{gf, a, el-same, el-nil, el-one, el-pow, order}
 use Rattle.algebra.specs.Polynomial.{pow, horner, Distinct}
 use Rattle.algebra.specs.Word as word
 use Rattle.algebra.proofs.Field.{nil-mul, mul-nil, one-mul as one-mul-of}
@@ -25,7 +25,6 @@ use Rattle.code.specs.Code.{Codeword, Generator}
 use Rattle.code.specs.Generator.{times, minimals, generator}
 use Rattle.code.proofs.Codeword.{elements, elements-square, el-value, value-element, codeword-odd}
 use Rattle.code.proofs.Polynomial.{valueAt, valueAt-times, valueAt-longer, digits-value}
-use Rattle.code.proofs.Minimal.{Minimal}
 use Rattle.code.proofs.MinimalTest.{minimals-minimal}
 use Rattle.code.proofs.Conjugates.{exponent}
 use Rattle.code.proofs.ConjugatesTest.{exponents-differ}

@@ -7,8 +7,8 @@ use lib.ListN.{length, take}
 use lib.Seq.{length-take-le}
 use Rattle.field.specs.declared.Field.{Field}
 use Rattle.code.specs.Word.{Word, distance}
-use Rattle.code.specs.Code.{Codeword, Near, Ruined, Fits}
-use Rattle.code.specs.Outcome.{nearest, Outcome, good, ruined, judgeBy, judge, Gives, Refused}
+use Rattle.code.specs.Code.{Codeword, Near, Fits}
+use Rattle.code.specs.Outcome.{nearest, good, ruined, judgeBy, judge, Gives, Refused}
 use Rattle.code.proofs.Distance.{distance-comm, distance-self, distance-triangle}
 use Rattle.code.proofs.Codeword.{codeword-distance, near-unique}
 

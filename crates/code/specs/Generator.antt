@@ -6,7 +6,7 @@
 -- generator f t        the generator of the level t
 -- remainder f t w      the remainder of a word by the generator
 -- parity f t message   the remainder of the message times x^(mt), as a word of mt bits
-use mathlib.Core.Bool.{Bool, true, false, cond}
+use mathlib.Core.Bool.{Bool, false, cond}
 use mathlib.Core.List.{List, [], _∷_, _++_}
 use Prim.Native.Nat.{ℕ, zero, suc, _+_, _*_, _/_, _%_}
 use lib.ListN.{length, getD, replicate}

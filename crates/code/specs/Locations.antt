@@ -6,18 +6,21 @@
 -- listed s             the order in which the exponents of a set are listed
 -- Locations            what locating answers: the listed exponents, or that there are none
 -- locate f t n r       the answer for a remainder r and a length n
+-- powerSum f ps j      the sum of a^(jp) over the exponents p of a list: what flipping them adds to the value of a word at a^j
 use mathlib.Core.Path.{_≡_, refl, sym, ap, _∙_}
-use mathlib.Core.Bool.{Bool, true, false}
+use mathlib.Core.Bool.{true, false}
 use mathlib.Core.List.{List, [], _∷_}
-use Prim.Native.Nat.{ℕ, zero, suc, _+_, _≤_}
+use Prim.Native.Nat.{ℕ, zero, suc, _+_, _*_, _≤_}
 use native.Mathlib.Decide.{ℕ-discrete}
 use native.Mathlib.Omega.{arith}
 use lib.ListN.{length, replicate, length-replicate}
+use lib.Bits.{bitXor}
 use Rattle.bits.specs.Bits.{digit}
 use Rattle.field.specs.declared.Field.{Field}
+use Rattle.field.specs.Field.{a^}
 use Rattle.code.specs.Word.{Word, apart, distance, ones, ascending}
 use Rattle.code.specs.Generator.{remainder}
-use Rattle.code.specs.Outcome.{Close, search}
+use Rattle.code.specs.Outcome.{search}
 
 pub record Locates (f : Field) (t n r : ℕ) (s : Word) : Type 0 where
   pub below : length s ≡ n
@@ -52,3 +55,7 @@ locateBy (no none) = nowhere
 
 unfoldable pub locate : (f : Field) (t n r : ℕ) → Locations
 locate f t n r = locateBy (located f t n r)
+
+unfoldable pub powerSum : Field → List ℕ → ℕ → ℕ
+powerSum f [] j = 0
+powerSum f (p ∷ ps) j = bitXor (a^ f (j * p)) (powerSum f ps j)

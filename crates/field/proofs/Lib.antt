@@ -1,5 +1,6 @@
 -- The laws of the fields.
 pub mod Chosen
+pub mod Test
 pub mod Xor
 pub mod Additive
 pub mod Multiply
@@ -9,5 +10,6 @@ pub mod Fast
 pub mod Order
 pub mod Primitive
 pub mod Partial
+pub mod Lookup
 pub mod Instance
 pub mod Cases

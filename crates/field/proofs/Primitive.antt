@@ -1,6 +1,7 @@
 -- In both fields a is primitive: the walks over its powers are computed.
 use mathlib.Core.Path.{refl}
 use Prim.Native.Nat.{ℕ, _^_, _<_}
+use native.Mathlib.Omega.{arith}
 use lib.Dec.{T, lit<}
 use Rattle.field.specs.declared.Field.{Field}
 use Rattle.field.specs.declared.Field.the-variants.{Thirteen, Fourteen}
@@ -24,7 +25,12 @@ primitive Fourteen = primitive-walk 14 0x2b 16382 (lit< tt) (lit< tt) (lit< tt) 
 pub usable : (f : Field) → Usable (degree f) (modulus f)
 usable f = primitive f .usable
 
-pub degree-below : (f : Field) → degree f < 15
-unfolding degree
-degree-below Thirteen = lit< tt
-degree-below Fourteen = lit< tt
+-- ---- sizes, as the code's arrays have them
+
+pub longest-below : (f : Field) → longest f < 2 ^ 14
+unfolding longest
+longest-below Thirteen = lit< tt
+longest-below Fourteen = lit< tt
+
+pub element-below : (f : Field) {x : ℕ} → x < 2 ^ degree f → x < 2 ^ 14
+element-below f {x} h = omega (arith, primitive f .size, longest-below f)

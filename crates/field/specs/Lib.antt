@@ -1,2 +1,3 @@
 -- What the field calls are to answer.
 pub mod Field
+pub mod Tables

@@ -1,11 +1,12 @@
 //! Writes test vectors and the model's answers to them:
 //!
-//!     vectors layout|locate INPUT OUTPUT
+//!     vectors layout|locate|pages INPUT OUTPUT
 //!
 //! INPUT is what a program reads on its standard input, OUTPUT what it is to print.
 
 mod layout;
 mod locate;
+mod pages;
 
 use model::{Refusal, Reply};
 use std::fmt::Display;
@@ -43,6 +44,19 @@ impl Answer {
         self.line.push_str(&format!(" {word}"));
         self
     }
+
+    /// Appends the bytes as hexadecimal digits; none at all are a hyphen.
+    pub fn with_bytes(self, bytes: &[u8]) -> Answer {
+        match bytes {
+            [] => self.with('-'),
+            _ => self.with(
+                bytes
+                    .iter()
+                    .map(|byte| format!("{byte:02x}"))
+                    .collect::<String>(),
+            ),
+        }
+    }
 }
 
 impl From<Refusal> for Answer {
@@ -74,6 +88,7 @@ fn main() -> ExitCode {
     let vectors = match topic.as_str() {
         "layout" => layout::vectors(),
         "locate" => locate::vectors(),
+        "pages" => pages::vectors(),
         _ => return usage(),
     };
     for (path, bytes) in [
@@ -91,6 +106,6 @@ fn main() -> ExitCode {
 }
 
 fn usage() -> ExitCode {
-    eprintln!("usage: vectors layout|locate INPUT OUTPUT");
+    eprintln!("usage: vectors layout|locate|pages INPUT OUTPUT");
     ExitCode::FAILURE
 }

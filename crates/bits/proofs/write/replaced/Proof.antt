@@ -36,7 +36,7 @@ shl-below : tie.Need-shl-below
 shl-below c = search needs
 
 rem-below : tie.Need-rem-below
-rem-below c = rw (shift-one (c .args .k) (omega arith)) (pow-pos _)
+rem-below c = rw (shift-one 32 (c .args .k) (omega arith)) (pow-pos _)
 
 add-result : tie.Need-add-result
 add-result c =

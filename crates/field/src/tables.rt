@@ -1,0 +1,42 @@
+// Products by tables. The caller lends a table of the powers of a and a table of logarithms (`powers::fill_tables` makes both),
+// so that a product is three reads and a sum of exponents.
+ghost use mathlib.Core.Path.{_≡_};
+ghost use Prim.Native.Nat.{_*_, _^_, _<_};
+ghost use Rattle.field.specs.Field.{degree, modulus, longest, mul, pow, a^, Elem};
+ghost use Rattle.field.specs.Tables.{Tables};
+use crate::Field;
+
+// Internal. The exponent s of a, less 2^m - 1 where it is not below that.
+pub fn wrap(f: Field, s: usize) -> usize
+    requires { ⌜ s < 2 * longest f ⌝ }
+    ensures { λ r. ⌜ (r < longest f) × (a^ f r ≡ a^ f s) ⌝ }
+{
+    let n = f.longest() as usize;
+    if s < n { s } else { s - n }
+}
+
+// Internal. The product of two elements by the tables.
+pub fn product_by_tables(
+    f: Field,
+    powers: &[u16; 16384],
+    logs: &[u16; 16384],
+    x: u16,
+    y: u16,
+) -> u16
+    requires { ⌜ Tables f (now powers) (now logs) ⌝ }
+    requires { ⌜ (x < 2 ^ degree f) × (y < 2 ^ degree f) ⌝ }
+    ensures { λ r. ⌜ Elem (degree f) (mul (degree f) (modulus f) x y) r ⌝ }
+{
+    if x == 0 {
+        return 0;
+    }
+    if y == 0 {
+        return 0;
+    }
+    let at_x = x as usize;
+    let at_y = y as usize;
+    let i = logs[at_x] as usize;
+    let j = logs[at_y] as usize;
+    let k = wrap(f, i + j);
+    powers[k]
+}

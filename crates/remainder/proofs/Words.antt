@@ -1,0 +1,235 @@
+-- Laws of numbers in words of 64 bits, the lowest word first, and of what the loops over them do.
+use mathlib.Core.Path.{_≡_, refl, sym, ap, ap₂, _∙_}
+use mathlib.Core.List.{List}
+use Prim.Native.Nat.{ℕ, zero, suc, _+_, _-_, _*_, _/_, _%_, _^_, _<_, _≤_}
+use native.Mathlib.Omega.{arith}
+use native.Mathlib.Numerals.{add-one}
+use native.Mathlib.Decide.{decLt}
+use native.Mathlib.Nat.{add-zero, add-comm, le-refl, mul-le-mul-right, div-eq-of-lt, div-lt-iff-lt-mul, pow-suc, mod-lt, mul-le-mul-left, mul-mod-left}
+use mir.Syntax.{w64}
+use mir.Val.{Fits}
+use lib.ListN.{length, getD, set}
+use lib.Seq.{getD-set-same, getD-set-other}
+use lib.Pow.{split, mod-pow-add, shr-lt, shr-shr, shl-shr, pow-pos, pow-add, pow-mono}
+use lib.Arith.{digits-lt}
+use lib.Bits.{bitXor, xor-block}
+use Rattle.bits.specs.Bits.{bit}
+use Rattle.bits.proofs.Numbers.{bit-low, bit-high}
+use Rattle.code.specs.Register.{low, register}
+
+-- each element is a word
+abbrev pub Words : List ℕ → Type 0
+Words ws = (i : ℕ) → Fits w64 (getD ws i 0)
+
+pub next-power : (n : ℕ) → 2 ^ (64 * (n + 1)) ≡ 18446744073709551616 * 2 ^ (64 * n)
+next-power n =
+    let e : 64 * (n + 1) ≡ 64 + 64 * n = omega arith in
+    ap (λ (k : ℕ). 2 ^ k) e ∙ pow-add 2 64 (64 * n)
+
+pub low-next : (ws : List ℕ) (n : ℕ) → low ws (n + 1) ≡ getD ws n 0 * 2 ^ (64 * n) + low ws n
+unfolding low
+low-next ws n = rw add-one refl
+
+low-more : (ws : List ℕ) (n j : ℕ) → low ws (n + suc j) ≡ getD ws (n + j) 0 * 2 ^ (64 * (n + j)) + low ws (n + j)
+low-more ws n j = let e : n + suc j ≡ n + j + 1 = omega arith in ap (low ws) e ∙ low-next ws (n + j)
+
+pub low-lt : (ws : List ℕ) → Words ws → (n : ℕ) → low ws n < 2 ^ (64 * n)
+unfolding low
+low-lt ws h zero = omega arith
+low-lt ws h (suc n) =
+    let p : 2 ^ (64 * suc n) ≡ 18446744073709551616 * 2 ^ (64 * n) = ap (λ (k : ℕ). 2 ^ (64 * k)) (sym (add-one n)) ∙ next-power n in
+    rw p (digits-lt (h n .fits) (low-lt ws h n))
+
+pub register-lt : (ws : List ℕ) → Words ws → register ws < 2 ^ (64 * length ws)
+unfolding register
+register-lt ws h = low-lt ws h (length ws)
+
+-- the first words decide the number in them
+pub low-agree : (ws vs : List ℕ) (n : ℕ) → ((k : ℕ) → k < n → getD ws k 0 ≡ getD vs k 0) → low ws n ≡ low vs n
+unfolding low
+low-agree ws vs zero e = refl
+low-agree ws vs (suc n) e = ap₂ (λ (a b : ℕ). a * 2 ^ (64 * n) + b) (e n (omega arith)) (low-agree ws vs n (λ k h. e k (omega arith)))
+
+-- two numbers with the same words from the word n on differ as the numbers in their first n words do
+pub low-above : (ws vs : List ℕ) (n : ℕ) → ((k : ℕ) → n ≤ k → getD ws k 0 ≡ getD vs k 0) → (j : ℕ) → low ws (n + j) + low vs n ≡ low vs (n + j) + low ws n
+unfolding low
+low-above ws vs n e zero = rw add-zero (add-comm (low ws n) (low vs n))
+low-above ws vs n e (suc j) =
+    let i = low-above ws vs n e j in
+    let p = low-more ws n j in
+    let q = low-more vs n j in
+    let w : getD ws (n + j) 0 * 2 ^ (64 * (n + j)) ≡ getD vs (n + j) 0 * 2 ^ (64 * (n + j)) = ap (λ (x : ℕ). x * 2 ^ (64 * (n + j))) (e (n + j) (omega arith)) in
+    omega arith
+
+pub no-carry : (c P x : ℕ) → x + c * P < P → c ≡ 0
+no-carry zero P x h = refl
+no-carry (suc c) P x h = absurd (omega arith)
+
+-- a number below 2^(64n) is the number in its first n words
+low-short : (ws : List ℕ) (n j : ℕ) → low ws (n + j) < 2 ^ (64 * n) → low ws (n + j) ≡ low ws n
+unfolding low
+low-short ws n zero h = rw add-zero refl
+low-short ws n (suc j) h =
+    let e = low-more ws n j in
+    let p : 2 ^ (64 * n) ≤ 2 ^ (64 * (n + j)) = pow-mono (omega arith) in
+    let z : getD ws (n + j) 0 ≡ 0 = no-carry (getD ws (n + j) 0) (2 ^ (64 * (n + j))) (low ws (n + j)) (omega arith) in
+    let y : getD ws (n + j) 0 * 2 ^ (64 * (n + j)) ≡ 0 = ap (λ (x : ℕ). x * 2 ^ (64 * (n + j))) z ∙ omega arith in
+    let i = low-short ws n j (omega arith) in
+    omega arith
+
+pub register-short : (ws : List ℕ) (n : ℕ) → n ≤ length ws → register ws < 2 ^ (64 * n) → register ws ≡ low ws n
+unfolding register
+register-short ws n l h =
+    let e : length ws ≡ n + (length ws - n) = omega arith in
+    rw e (low-short ws n (length ws - n) (rw e at h))
+
+-- a word is stored above the words that are done
+pub low-store : (ws : List ℕ) (i v : ℕ) → i < length ws → low (set ws i v) (i + 1) ≡ v * 2 ^ (64 * i) + low ws i
+low-store ws i v h =
+    low-next (set ws i v) i
+    ∙ ap₂ (λ (a b : ℕ). a * 2 ^ (64 * i) + b) (getD-set-same ws i v 0 h)
+    (low-agree (set ws i v) ws i (λ k l. getD-set-other ws i k v 0 (λ e. omega arith)))
+
+-- what is above the words that are done is as before, after one more
+pub above-store : (ws vs : List ℕ) (i v : ℕ) → ((k : ℕ) → i ≤ k → getD ws k 0 ≡ getD vs k 0) → (k : ℕ) → i + 1 ≤ k → getD (set ws i v) k 0 ≡ getD vs k 0
+above-store ws vs i v e k h = getD-set-other ws i k v 0 (λ z. omega arith) ∙ e k (omega arith)
+
+-- fewer words have no greater number
+low-le : (ws : List ℕ) (n j : ℕ) → low ws n ≤ low ws (n + j)
+low-le ws n zero = rw add-zero (le-refl (low ws n))
+low-le ws n (suc j) = let i = low-le ws n j in let e = low-more ws n j in omega arith
+
+pub low-register : (ws : List ℕ) (n : ℕ) → n ≤ length ws → low ws n ≤ register ws
+unfolding register
+low-register ws n l = let e : length ws ≡ n + (length ws - n) = omega arith in rw e (low-le ws n (length ws - n))
+
+-- one more word: a zero leaves the number, anything else makes it at least 2^(64i)
+pub low-zero : (ws : List ℕ) (i : ℕ) → getD ws i 0 ≡ 0 → low ws (i + 1) ≡ low ws i
+low-zero ws i e = low-next ws i ∙ rw e (omega arith)
+
+pub low-one : (ws : List ℕ) (i : ℕ) → (getD ws i 0 ≡ 0 → ⊥) → 2 ^ (64 * i) ≤ low ws (i + 1)
+low-one ws i ne =
+    let e = low-next ws i in
+    let p : 1 * 2 ^ (64 * i) ≤ getD ws i 0 * 2 ^ (64 * i) = mul-le-mul-right (2 ^ (64 * i)) (omega arith) in
+    omega arith
+
+-- the word that holds the digit d: it has no one from there on exactly where the number up to it is below 2^d
+place : (d : ℕ) → 2 ^ d ≡ 2 ^ (d % 64) * 2 ^ (64 * (d / 64))
+place d = let e : d ≡ d % 64 + 64 * (d / 64) = omega arith in ap (λ (k : ℕ). 2 ^ k) e ∙ pow-add 2 (d % 64) (64 * (d / 64))
+
+pub low-below : (ws : List ℕ) → Words ws → (d : ℕ) → getD ws (d / 64) 0 / 2 ^ (d % 64) ≡ 0 → low ws (d / 64 + 1) < 2 ^ d
+low-below ws h d e =
+    let l : getD ws (d / 64) 0 < 2 ^ (d % 64) = (let q = div-lt-iff-lt-mul {x = getD ws (d / 64) 0} {y = 1} (pow-pos (d % 64)) .0 (omega arith) in omega arith) in
+    rw (place d, low-next ws (d / 64)) (digits-lt l (low-lt ws h (d / 64)))
+
+pub low-beyond : (ws : List ℕ) (d : ℕ) → (getD ws (d / 64) 0 / 2 ^ (d % 64) ≡ 0 → ⊥) → 2 ^ d ≤ low ws (d / 64 + 1)
+low-beyond ws d ne =
+    let l : 2 ^ (d % 64) ≤ getD ws (d / 64) 0 = elim (decLt (getD ws (d / 64) 0) (2 ^ (d % 64))) [ yes z ↦ absurd (ne (div-eq-of-lt z)) | no z ↦ omega arith ] in
+    let m : 2 ^ (d % 64) * 2 ^ (64 * (d / 64)) ≤ getD ws (d / 64) 0 * 2 ^ (64 * (d / 64)) = mul-le-mul-right (2 ^ (64 * (d / 64))) l in
+    let e = low-next ws (d / 64) in
+    rw (place d) (omega arith)
+
+-- a bit of a number in words
+low-bit : (ws : List ℕ) → Words ws → (n p : ℕ) → p < 64 * n → bit (low ws n) p ≡ bit (getD ws (p / 64) 0) (p % 64)
+unfolding low
+low-bit ws h zero p l = absurd (omega arith)
+low-bit ws h (suc n) p l =
+    let ih = low-bit ws h n p in
+    elim (decLt p (64 * n)) [
+      | yes a ↦ bit-low (getD ws n 0) (64 * n) p (low ws n) a ∙ ih a
+      | no a ↦
+          let i : ℕ = p - 64 * n in
+          let e : p ≡ 64 * n + i = omega arith in
+          let q : n ≡ p / 64 = omega arith in
+          let m : i ≡ p % 64 = omega arith in
+          ap (bit _) e ∙ bit-high (getD ws n 0) (64 * n) i (low-lt ws h n) ∙ ap₂ (λ (x y : ℕ). bit (getD ws x 0) y) q m
+    ]
+
+pub register-bit : (ws : List ℕ) → Words ws → (p : ℕ) → p < 64 * length ws → bit (register ws) p ≡ bit (getD ws (p / 64) 0) (p % 64)
+unfolding register
+register-bit ws h p l = low-bit ws h (length ws) p l
+
+-- what the loops over words do, one word at a time: a shift with a carry, and exclusive or
+
+-- a word times 2^k, in two words
+shift-word : (w k : ℕ) → k ≤ 64 → w * 2 ^ k % 18446744073709551616 + w / 2 ^ (64 - k) * 18446744073709551616 ≡ w * 2 ^ k
+shift-word w k l =
+    let e : k + (64 - k) ≡ 64 = omega arith in
+    let q : w * 2 ^ k / 18446744073709551616 ≡ w / 2 ^ (64 - k) =
+    ap (λ (n : ℕ). w * 2 ^ k / 2 ^ n) (sym e) ∙ sym (shr-shr (w * 2 ^ k) k (64 - k)) ∙ ap (λ (n : ℕ). n / 2 ^ (64 - k)) (shl-shr w k) in
+    let s = split (w * 2 ^ k) 64 in
+    rw (← q) (omega arith)
+
+pub shift-fits : (w k c : ℕ) → k ≤ 64 → c < 2 ^ k → w * 2 ^ k % 18446744073709551616 + c < 18446744073709551616
+shift-fits w k c l h =
+    let e : 64 - k + k ≡ 64 = omega arith in
+    let p : 2 ^ (64 - k) * 2 ^ k ≡ 18446744073709551616 = sym (pow-add 2 (64 - k) k) ∙ ap (λ (n : ℕ). 2 ^ n) e in
+    let m : w * 2 ^ k % 18446744073709551616 ≡ w % 2 ^ (64 - k) * 2 ^ k + 0 =
+    ap (λ (n : ℕ). w * 2 ^ k % 2 ^ n) (sym e) ∙ mod-pow-add (w * 2 ^ k) (64 - k) k
+    ∙ ap₂ (λ (x y : ℕ). x % 2 ^ (64 - k) * 2 ^ k + y) (shl-shr w k) (mul-mod-left w (2 ^ k)) in
+    let d = digits-lt (mod-lt w (pow-pos (64 - k))) h in
+    omega arith
+
+pub carry-below : (w k : ℕ) → k ≤ 64 → w < 18446744073709551616 → w / 2 ^ (64 - k) < 2 ^ k
+carry-below w k l h = let e : k + (64 - k) ≡ 64 = omega arith in shr-lt k (64 - k) (rw e h)
+
+pub shift-next : (ws vs : List ℕ) (i k c b : ℕ) → k ≤ 64 → i < length ws → low ws i + c * 2 ^ (64 * i) ≡ low vs i * 2 ^ k + b → getD ws i 0 ≡ getD vs i 0
+    → low (set ws i (getD ws i 0 * 2 ^ k % 18446744073709551616 + c)) (i + 1) + getD ws i 0 / 2 ^ (64 - k) * 2 ^ (64 * (i + 1)) ≡ low vs (i + 1) * 2 ^ k + b
+shift-next ws vs i k c b l h inv e =
+    let w : ℕ = getD ws i 0 in
+    let P : ℕ = 2 ^ (64 * i) in
+    let K : ℕ = 2 ^ k in
+    let u : ℕ = w * K % 18446744073709551616 in
+    let v : ℕ = w / 2 ^ (64 - k) in
+    let d : (u + v * 18446744073709551616) * P ≡ w * K * P = ap (λ (x : ℕ). x * P) (shift-word w k l) in
+    let s : low (set ws i (u + c)) (i + 1) ≡ (u + c) * P + low ws i = low-store ws i (u + c) h in
+    let n : low vs (i + 1) ≡ w * P + low vs i = low-next vs i ∙ ap (λ (x : ℕ). x * P + low vs i) (sym e) in
+    let q : v * 2 ^ (64 * (i + 1)) ≡ v * (18446744073709551616 * P) = ap (λ (x : ℕ). v * x) (next-power i) in
+    let g : low vs (i + 1) * K ≡ (w * P + low vs i) * K = ap (λ (x : ℕ). x * K) n in
+    omega arith
+
+pub shift-end : (ws vs : List ℕ) (n k c b : ℕ) → n ≤ length vs → length ws ≡ length vs → low ws n + c * 2 ^ (64 * n) ≡ low vs n * 2 ^ k + b
+    → ((j : ℕ) → n ≤ j → getD ws j 0 ≡ getD vs j 0) → register vs * 2 ^ k + b < 2 ^ (64 * n) → register ws ≡ register vs * 2 ^ k + b
+unfolding register
+shift-end ws vs n k c b l es inv above h =
+    let e : length vs ≡ n + (length vs - n) = omega arith in
+    let p : register vs * 1 ≤ register vs * 2 ^ k = mul-le-mul-left (register vs) (pow-pos k) in
+    let s : low vs (length vs) ≡ low vs n = register-short vs n l (omega arith) in
+    let m : low vs (length vs) * 2 ^ k ≡ low vs n * 2 ^ k = ap (λ (x : ℕ). x * 2 ^ k) s in
+    let z : c ≡ 0 = no-carry c (2 ^ (64 * n)) (low ws n) (omega arith) in
+    let y : c * 2 ^ (64 * n) ≡ 0 = ap (λ (x : ℕ). x * 2 ^ (64 * n)) z ∙ omega arith in
+    let a : low ws (length vs) + low vs n ≡ low vs (length vs) + low ws n = rw e (low-above ws vs n above (length vs - n)) in
+    rw es (omega arith)
+
+pub xor-next : (ws vs g : List ℕ) (i : ℕ) → i < length ws → Words vs → Words g → low ws i ≡ bitXor (low g i) (low vs i) → getD ws i 0 ≡ getD vs i 0
+    → low (set ws i (bitXor (getD g i 0) (getD ws i 0))) (i + 1) ≡ bitXor (low g (i + 1)) (low vs (i + 1))
+xor-next ws vs g i h hv hg inv e =
+    low-store ws i (bitXor (getD g i 0) (getD ws i 0)) h
+    ∙ ap₂ (λ (a b : ℕ). bitXor (getD g i 0) a * 2 ^ (64 * i) + b) e inv
+    ∙ sym (xor-block (64 * i) (getD g i 0) (getD vs i 0) (low g i) (low vs i) (low-lt g hg i) (low-lt vs hv i))
+    ∙ sym (ap₂ bitXor (low-next g i) (low-next vs i))
+
+pub xor-end : (ws vs g : List ℕ) (n : ℕ) → n ≤ length vs → length ws ≡ length vs → length g ≡ length vs → low ws n ≡ bitXor (low g n) (low vs n)
+    → ((k : ℕ) → n ≤ k → getD ws k 0 ≡ getD vs k 0) → register vs < 2 ^ (64 * n) → register g < 2 ^ (64 * n) → register ws ≡ bitXor (register g) (register vs)
+unfolding register
+xor-end ws vs g n l es eg inv above hv hg =
+    let e : length vs ≡ n + (length vs - n) = omega arith in
+    let s : low vs (length vs) ≡ low vs n = register-short vs n l hv in
+    let t : low g (length g) ≡ low g n = register-short g n (omega arith) hg in
+    let a : low ws (length vs) + low vs n ≡ low vs (length vs) + low ws n = rw e (low-above ws vs n above (length vs - n)) in
+    rw (es, t, s) (omega arith)
+
+-- the words up to the one that holds the digit d have room for what a step makes
+
+pub room : (d r b : ℕ) → r < 2 ^ d → b < 2 → r * 2 + b < 2 ^ (64 * (d / 64 + 1))
+room d r b hr hb =
+    let m : 2 ^ suc d ≤ 2 ^ (64 * (d / 64 + 1)) = pow-mono (omega arith) in
+    let p : 2 ^ suc d ≡ 2 ^ d * 2 = pow-suc 2 d in
+    omega arith
+
+pub divisor-room : (d g : ℕ) → g / 2 ^ d ≡ 1 → g < 2 ^ (64 * (d / 64 + 1))
+divisor-room d g e =
+    let m : 2 ^ suc d ≤ 2 ^ (64 * (d / 64 + 1)) = pow-mono (omega arith) in
+    let p : 2 ^ suc d ≡ 2 ^ d * 2 = pow-suc 2 d in
+    let l : g < 2 * 2 ^ d = div-lt-iff-lt-mul (pow-pos d) .0 (omega arith) in
+    omega arith

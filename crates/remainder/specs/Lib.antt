@@ -1,0 +1,2 @@
+-- The remainder register: what a reader must believe.
+pub mod Remainder

@@ -1,0 +1,40 @@
+-- The remainder of a word, worked out from any state on (document 01, "The code"), and remainders as bytes (document 01, "Remainder").
+-- A polynomial over GF(2) is a number: its binary digit p is the coefficient of x^p.
+--
+-- remainderFrom d g r w    the remainder by g of degree d, from the remainder r on, after the coefficients w
+-- Divisor d g              g is monic of degree d, and d is within the room of a register
+-- Row f t words            the words hold the generator of the level t
+-- numberOf l               the number whose binary digits are the bits of the bytes l
+-- bytesOf n x              the n bytes whose bits are the lowest 8n binary digits of x
+use mathlib.Core.Path.{_≡_}
+use mathlib.Core.Bool.{false}
+use mathlib.Core.List.{List, [], _∷_}
+use Prim.Native.Nat.{ℕ, _*_, _/_, _^_, _<_, _≤_}
+use lib.ListN.{length, getD}
+use Rattle.bits.specs.Bits.{bitOf, run, number, digits, bytes}
+use Rattle.field.specs.declared.Field.{Field}
+use Rattle.code.specs.Word.{Word}
+use Rattle.code.specs.Generator.{generator, remainderStep}
+use Rattle.code.specs.Register.{register}
+
+-- One step of the division for each bit of the word, the first bit first.
+unfoldable pub remainderFrom : ℕ → ℕ → ℕ → Word → ℕ
+remainderFrom d g r [] = r
+remainderFrom d g r (b ∷ w) = remainderFrom d g (remainderStep d g r b) w
+
+-- A register has 14 words of 64 bits, so room for 896 digits.
+pub record Divisor (d g : ℕ) : Type 0 where
+  pub room : d < 896
+  pub monic : g / 2 ^ d ≡ 1
+
+-- The rows of generators are stated for t up to 62.
+pub record Row (f : Field) (t : ℕ) (words : List ℕ) : Type 0 where
+  pub level : t ≤ 62
+  pub generates : register words ≡ generator f t
+
+-- A remainder handed in as bytes: the highest coefficient first, and the lowest one in the last bit of the last byte.
+unfoldable pub numberOf : List ℕ → ℕ
+numberOf l = number (run (bitOf l) 0 (8 * length l))
+
+unfoldable pub bytesOf : ℕ → ℕ → List ℕ
+bytesOf n x = bytes (λ p. getD (digits x (8 * n)) p false) n

@@ -1,0 +1,264 @@
+//! Vectors of pages: kinds `W`, `R`, `J` and `C`.
+
+use crate::{Answer, Vectors};
+use model::call::Call;
+use model::layout::{Layout, LayoutWords};
+use model::random::Random;
+use model::samples::layouts::accepted_words;
+use model::samples::pages::{BEFORE, WrittenPage, spoil};
+use model::{Refusal, check_claim, judge_block, read_page, write_page};
+
+pub fn vectors() -> Vectors {
+    let mut vectors = Vectors::default();
+    let mut random = Random::new(0x9A6E);
+    for call in document_calls() {
+        add(&mut vectors, &call);
+    }
+    for i in 0..260 {
+        let most = [20, 40, 70, 120, 250][i % 5];
+        let words = chosen_words(&mut random, i % 8, most);
+        add_page(&mut vectors, words, &mut random);
+    }
+    for words in many_blocks(&mut random) {
+        add_page(&mut vectors, words, &mut random);
+    }
+    for words in large_words(&mut random) {
+        add_large_page(&mut vectors, words, &mut random);
+    }
+    vectors
+}
+
+/// The calls about a page, and some of them spoilt in one to three arguments.
+fn add_page(vectors: &mut Vectors, words: LayoutWords, random: &mut Random) {
+    let written = WrittenPage::new(words, random);
+    let calls = written.calls(random);
+    for call in &calls {
+        add(vectors, call);
+    }
+    let (page, block) = written.overdamaged(random);
+    let spoilt = [
+        written.write(),
+        written.read(written.damaged(random)),
+        written.judge(page.clone(), block),
+        written.claim(page, block, vec![0]),
+    ];
+    for mut call in spoilt {
+        for _ in 0..random.within(1, 3) {
+            spoil(&mut call, random);
+        }
+        add(vectors, &call);
+    }
+}
+
+/// A large page written, and read with damage within t and past it.
+fn add_large_page(vectors: &mut Vectors, words: LayoutWords, random: &mut Random) {
+    let written = WrittenPage::new(words, random);
+    add(vectors, &written.write());
+    let page = written.damaged(random);
+    add(
+        vectors,
+        &written.judge(page.clone(), written.layout.later_blocks),
+    );
+    add(vectors, &written.read(page));
+    if words.page_size < 5000 {
+        let (page, block) = written.overdamaged(random);
+        add(vectors, &written.judge(page.clone(), block));
+        add(vectors, &written.read(page));
+    }
+}
+
+/// Accepted words of a kind: any, one block, metadata only, t = 0 beside t > 0 in either order,
+/// both fields with ECC, blocks that start inside bytes, metadata only in block 0.
+fn chosen_words(random: &mut Random, kind: usize, most_page_bytes: usize) -> LayoutWords {
+    loop {
+        let words = accepted_words(random, most_page_bytes);
+        let n = Layout::from(words).block0.covered_bits();
+        let later = words.nblocks > 0;
+        let fits = match kind {
+            1 => !later,
+            2 => !later && words.data0_size == 0,
+            3 => later && words.ecc0 == 0 && words.eccn > 0,
+            4 => later && words.ecc0 > 0 && words.eccn == 0,
+            5 => later && words.ecc0 > 0 && words.eccn > 0 && words.gf0 != words.gfn,
+            6 => later && n % 8 != 0,
+            7 => later && words.data0_size == 0,
+            _ => true,
+        };
+        if fits {
+            return words;
+        }
+    }
+}
+
+/// Words with the smallest PAGE_SIZE or a little more. A block is its level field, field choice
+/// and size.
+fn fitting_words(
+    nblocks: u8,
+    meta_size: u8,
+    block0: (u8, u8, u16),
+    later: (u8, u8, u16),
+    random: &mut Random,
+) -> LayoutWords {
+    let words = LayoutWords {
+        nblocks,
+        meta_size,
+        ecc0: block0.0,
+        gf0: block0.1,
+        data0_size: block0.2,
+        page_size: 0,
+        eccn: later.0,
+        gfn: later.1,
+        datan_size: later.2,
+    };
+    let used = Layout::from(words).used_bits().div_ceil(8);
+    let page_size = (used + random.below(3)) as u16;
+    LayoutWords { page_size, ..words }
+}
+
+/// 256 small blocks, with ECC and without.
+fn many_blocks(random: &mut Random) -> [LayoutWords; 3] {
+    [
+        fitting_words(255, 3, (0, 1, 0), (1, 0, 1), random),
+        fitting_words(255, 0, (2, 1, 1), (0, 0, 1), random),
+        fitting_words(255, 255, (0x14, 0, 9), (2, 1, 1), random),
+    ]
+}
+
+/// Case A, the longest blocks of both fields and the largest page.
+fn large_words(random: &mut Random) -> [LayoutWords; 5] {
+    let largest = fitting_words(31, 3, (0x14, 1, 493), (0x14, 1, 494), random);
+    [
+        fitting_words(7, 10, (8, 0, 128), (8, 0, 128), random),
+        fitting_words(1, 2, (0x14, 0, 239), (1, 1, 511), random),
+        fitting_words(1, 1, (0x14, 1, 494), (0x14, 0, 239), random),
+        fitting_words(3, 0, (0x14, 1, 256), (0x14, 1, 256), random),
+        LayoutWords {
+            page_size: 0xFFFF,
+            ..largest
+        },
+    ]
+}
+
+/// Cases E, F, G and L of document 01.
+fn document_calls() -> Vec<Call> {
+    let record = 0x0100_0801_000F_0801_u64.to_be_bytes().to_vec();
+    let write = Call::WritePage {
+        record: record.clone(),
+        metadata: vec![],
+        data: vec![0; 8],
+        page: vec![BEFORE; 15],
+    };
+    let mut page = vec![0; 15];
+    page[0] = 0x80;
+    page[14] = 0x0F;
+    let read = Call::ReadPage {
+        record: record.clone(),
+        page: page.clone(),
+        metadata: vec![],
+        data: vec![BEFORE; 8],
+        counts: vec![BEFORE; 2],
+    };
+    let judge = |block| Call::JudgeBlock {
+        record: record.clone(),
+        page: page.clone(),
+        block,
+    };
+    let claim = |claims: &[u16]| Call::CheckClaim {
+        record: record.clone(),
+        page: page.clone(),
+        block: 0,
+        claims: claims.to_vec(),
+    };
+    vec![
+        write,
+        read,
+        judge(0),
+        judge(1),
+        claim(&[57, 57]),
+        claim(&[57]),
+        claim(&[]),
+    ]
+}
+
+fn add(vectors: &mut Vectors, call: &Call) {
+    match call.clone() {
+        Call::WritePage {
+            record,
+            metadata,
+            data,
+            mut page,
+        } => {
+            let mut input = head(b'W', &record, page.len(), metadata.len());
+            input.extend((data.len() as u32).to_be_bytes());
+            input.extend([0; 4]);
+            input.extend([metadata.as_slice(), &data].concat());
+            let reply = write_page(&record, &metadata, &data, &mut page);
+            vectors.add(&input, answer(reply).with_bytes(&page));
+        }
+        Call::ReadPage {
+            record,
+            page,
+            mut metadata,
+            mut data,
+            mut counts,
+        } => {
+            let mut input = head(b'R', &record, page.len(), metadata.len());
+            input.extend((data.len() as u32).to_be_bytes());
+            input.extend((counts.len() as u32).to_be_bytes());
+            input.extend(&page);
+            let reply = read_page(&record, &page, &mut metadata, &mut data, &mut counts);
+            let answer = answer(reply);
+            vectors.add(
+                &input,
+                answer
+                    .with_bytes(&metadata)
+                    .with_bytes(&data)
+                    .with_bytes(&counts),
+            );
+        }
+        Call::JudgeBlock {
+            record,
+            page,
+            block,
+        } => {
+            let mut input = head(b'J', &record, page.len(), 0);
+            input.extend(block.to_be_bytes());
+            input.extend(&page);
+            let answer = match judge_block(&record, &page, block) {
+                Ok(flips) => Answer::done().with(flips),
+                Err(refusal) => refusal.into(),
+            };
+            vectors.add(&input, answer);
+        }
+        Call::CheckClaim {
+            record,
+            page,
+            block,
+            claims,
+        } => {
+            let mut input = head(b'C', &record, page.len(), claims.len());
+            input.extend(block.to_be_bytes());
+            input.extend(&page);
+            input.extend(claims.iter().flat_map(|claim| claim.to_be_bytes()));
+            vectors.add(&input, answer(check_claim(&record, &page, block, &claims)));
+        }
+        other => panic!("no call about a page: {other:?}"),
+    }
+}
+
+fn answer(reply: Result<(), Refusal>) -> Answer {
+    match reply {
+        Ok(()) => Answer::done(),
+        Err(refusal) => refusal.into(),
+    }
+}
+
+/// The first 24 bytes: kind, record, the page's length and that of the next thing lent.
+fn head(kind: u8, record: &[u8], page: usize, next: usize) -> Vec<u8> {
+    let mut head = vec![kind, record.len() as u8];
+    head.extend_from_slice(record);
+    head.resize(16, 0);
+    head.extend((page as u32).to_be_bytes());
+    head.extend((next as u32).to_be_bytes());
+    head
+}

@@ -1,0 +1,5 @@
+//! Seeded samples of layouts and calls.
+
+pub mod layouts;
+pub mod pages;
+pub mod remainders;

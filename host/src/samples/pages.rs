@@ -1,0 +1,303 @@
+//! Samples of calls about pages.
+
+use crate::bits::{bit, flip};
+use crate::call::Call;
+use crate::layout::{Layout, LayoutWords, check_layout};
+use crate::page::write_page;
+use crate::random::Random;
+
+/// What each byte of a lent output holds before a sampled call.
+pub const BEFORE: u8 = 0xA5;
+
+/// A layout, a payload and the page written for it.
+pub struct WrittenPage {
+    pub record: Vec<u8>,
+    pub layout: Layout,
+    pub metadata: Vec<u8>,
+    pub data: Vec<u8>,
+    pub page: Vec<u8>,
+}
+
+impl WrittenPage {
+    /// The page of a random payload under accepted layout words.
+    pub fn new(words: LayoutWords, random: &mut Random) -> WrittenPage {
+        let record = words.pack().to_vec();
+        let layout = check_layout(&record).unwrap();
+        let metadata = random.bytes(layout.metadata_length);
+        let data = random.bytes(layout.data_length());
+        let mut page = vec![BEFORE; layout.page_length];
+        write_page(&record, &metadata, &data, &mut page).unwrap();
+        WrittenPage {
+            record,
+            layout,
+            metadata,
+            data,
+            page,
+        }
+    }
+
+    pub fn write(&self) -> Call {
+        Call::WritePage {
+            record: self.record.clone(),
+            metadata: self.metadata.clone(),
+            data: self.data.clone(),
+            page: vec![BEFORE; self.page.len()],
+        }
+    }
+
+    pub fn read(&self, page: Vec<u8>) -> Call {
+        Call::ReadPage {
+            record: self.record.clone(),
+            page,
+            metadata: vec![BEFORE; self.metadata.len()],
+            data: vec![BEFORE; self.data.len()],
+            counts: vec![BEFORE; self.layout.blocks()],
+        }
+    }
+
+    pub fn judge(&self, page: Vec<u8>, block: usize) -> Call {
+        Call::JudgeBlock {
+            record: self.record.clone(),
+            page,
+            block: block as u64,
+        }
+    }
+
+    pub fn claim(&self, page: Vec<u8>, block: usize, claims: Vec<u16>) -> Call {
+        Call::CheckClaim {
+            record: self.record.clone(),
+            page,
+            block: block as u64,
+            claims,
+        }
+    }
+
+    /// The page with at most t flips in each block, often just t, and with any tail.
+    pub fn damaged(&self, random: &mut Random) -> Vec<u8> {
+        let mut page = self.page.clone();
+        for block in 0..self.layout.blocks() {
+            let t = self.layout.block(block).t();
+            let any = random.below(t + 1);
+            let count = random.pick(&[0, t.min(1), t, any]);
+            damage(&mut page, &self.layout, block, count, random);
+        }
+        damage_tail(&mut page, &self.layout, random);
+        page
+    }
+
+    /// Every call about this page: written, read clean, damaged within t and past it, and read
+    /// from random bytes; blocks judged; claims right and wrong.
+    pub fn calls(&self, random: &mut Random) -> Vec<Call> {
+        let mut calls = vec![
+            self.write(),
+            self.read(self.page.clone()),
+            self.read(self.damaged(random)),
+        ];
+        let random_page = random.bytes(self.page.len());
+        calls.push(self.judge(random_page.clone(), random.below(self.layout.blocks())));
+        calls.push(self.read(random_page));
+        for _ in 0..2 {
+            let (page, block) = self.overdamaged(random);
+            calls.push(self.judge(page.clone(), block));
+            calls.push(self.read(page));
+        }
+        calls.extend(self.claims(random));
+        calls
+    }
+
+    /// The page with one block damaged by t + 1, 2t or about as many flips, and that block.
+    pub fn overdamaged(&self, random: &mut Random) -> (Vec<u8>, usize) {
+        let mut page = self.damaged(random);
+        let block = random.below(self.layout.blocks());
+        let shape = self.layout.block(block);
+        let (n, t) = (shape.covered_bits(), shape.t());
+        restore(&mut page, self, block);
+        let any = random.within(t, 2 * t + 2);
+        let count = random.pick(&[t + 1, 2 * t, 2 * t + 1, any]);
+        damage(&mut page, &self.layout, block, count.min(n), random);
+        (page, block)
+    }
+
+    /// Claims about one damaged block: the true one in any order, and some spoilt ones.
+    fn claims(&self, random: &mut Random) -> Vec<Call> {
+        let mut page = self.damaged(random);
+        let block = random.below(self.layout.blocks());
+        let shape = self.layout.block(block);
+        let n = shape.covered_bits();
+        restore(&mut page, self, block);
+        let any = random.below(shape.t() + 1);
+        let count = random.pick(&[0, shape.t(), shape.t() + 1, any]).min(n);
+        let errors = damage(&mut page, &self.layout, block, count, random);
+        let mut truth: Vec<u16> = errors.iter().map(|&exponent| exponent as u16).collect();
+        random.shuffle(&mut truth);
+        let mut claims = vec![truth.clone(), vec![]];
+        for _ in 0..2 {
+            let mut claim = truth.clone();
+            match random.below(6) {
+                0 => claim.push(n as u16),
+                1 => claim.push(random.pick(&[0xFFFF, n as u16 + 1])),
+                2 => claim.push(random.below(n) as u16),
+                3 => drop(claim.pop()),
+                4 if !claim.is_empty() => claim.push(random.pick(&truth)),
+                _ => {
+                    claim = random
+                        .distinct(count, n)
+                        .iter()
+                        .map(|&e| e as u16)
+                        .collect()
+                }
+            }
+            random.shuffle(&mut claim);
+            claims.push(claim);
+        }
+        claims
+            .into_iter()
+            .map(|claim| self.claim(page.clone(), block, claim))
+            .collect()
+    }
+}
+
+/// Puts a block back as it was written.
+fn restore(page: &mut [u8], written: &WrittenPage, block: usize) {
+    for position in written.layout.start(block)..written.layout.start(block + 1) {
+        if bit(page, position) != bit(&written.page, position) {
+            flip(page, position);
+        }
+    }
+}
+
+/// Turns over so many different covered bits of a block and returns their exponents, ascending.
+pub fn damage(
+    page: &mut [u8],
+    layout: &Layout,
+    block: usize,
+    count: usize,
+    random: &mut Random,
+) -> Vec<usize> {
+    let mut exponents = random.distinct(count, layout.block(block).covered_bits());
+    exponents.sort();
+    for exponent in &exponents {
+        flip(page, layout.start(block + 1) - 1 - exponent);
+    }
+    exponents
+}
+
+/// Turns over tail bits at random.
+pub fn damage_tail(page: &mut [u8], layout: &Layout, random: &mut Random) {
+    for position in layout.used_bits()..8 * layout.page_length {
+        if random.chance(2) {
+            flip(page, position);
+        }
+    }
+}
+
+/// Spoils one argument of a call about a page: a buffer's length, the record or the block.
+pub fn spoil(call: &mut Call, random: &mut Random) {
+    match call {
+        Call::WritePage {
+            record,
+            metadata,
+            data,
+            page,
+        } => match random.below(4) {
+            0 => spoil_record(record, random),
+            1 => spoil_length(page, random),
+            2 => spoil_length(metadata, random),
+            _ => spoil_length(data, random),
+        },
+        Call::ReadPage {
+            record,
+            page,
+            metadata,
+            data,
+            counts,
+        } => match random.below(5) {
+            0 => spoil_record(record, random),
+            1 => spoil_length(page, random),
+            2 => spoil_length(metadata, random),
+            3 => spoil_length(data, random),
+            _ => spoil_length(counts, random),
+        },
+        Call::JudgeBlock {
+            record,
+            page,
+            block,
+        }
+        | Call::CheckClaim {
+            record,
+            page,
+            block,
+            ..
+        } => match random.below(4) {
+            0 => spoil_record(record, random),
+            1 => spoil_length(page, random),
+            _ => spoil_block(block, record, random),
+        },
+        _ => (),
+    }
+}
+
+fn spoil_length(buffer: &mut Vec<u8>, random: &mut Random) {
+    match random.below(4) {
+        0 => buffer.push(BEFORE),
+        1 => buffer.clear(),
+        2 => buffer.extend([BEFORE; 3]),
+        _ => drop(buffer.pop()),
+    }
+}
+
+/// Another length, or another field: mostly one that gives reply 1, 2, 3 or 4.
+fn spoil_record(record: &mut Vec<u8>, random: &mut Random) {
+    let Ok(eight) = record.as_slice().try_into() else {
+        return;
+    };
+    let words = LayoutWords::unpack(eight);
+    let spoilt = match random.below(10) {
+        0 => return record.truncate(random.below(8)),
+        1 => return record.extend(&words.pack()[..random.within(1, 4)]),
+        2 => LayoutWords {
+            ecc0: 0x15,
+            ..words
+        },
+        3 => LayoutWords {
+            eccn: 0x1F,
+            ..words
+        },
+        4 => LayoutWords {
+            meta_size: 0,
+            data0_size: 0,
+            ..words
+        },
+        5 => LayoutWords {
+            datan_size: 0,
+            ..words
+        },
+        6 => LayoutWords {
+            ecc0: 0x14,
+            data0_size: 1023,
+            ..words
+        },
+        7 => LayoutWords {
+            eccn: 1,
+            datan_size: 1023,
+            ..words
+        },
+        _ => LayoutWords {
+            page_size: words.page_size.saturating_sub(random.within(1, 12) as u16),
+            ..words
+        },
+    };
+    *record = spoilt.pack().to_vec();
+}
+
+fn spoil_block(block: &mut u64, record: &[u8], random: &mut Random) {
+    let last = record.first().map_or(0, |&nblocks| nblocks as u64);
+    *block = random.pick(&[
+        last + 1,
+        256,
+        1 << 16,
+        1 << 32,
+        block.wrapping_add(1 << 32),
+        u64::MAX,
+    ]);
+}
