@@ -6,11 +6,9 @@ use native.Mathlib.Omega.{arith}
 use lib.Bits.{bitXor, xor-lt}
 use lib.ListN.{getD}
 use lib.Pow.{pow-pos}
-use Rattle.algebra.specs.Field.{BinaryField}
-use Rattle.algebra.specs.Number.{Numbers}
 use Rattle.algebra.specs.Array.{coef}
 use Rattle.field.specs.declared.Field.{Field}
-use Rattle.field.specs.Field.{degree, modulus, longest, mul, pow, a^, Elem}
+use Rattle.field.specs.Field.{degree, modulus, longest, mul, a^, Elem}
 use Rattle.field.specs.Tables.{Tables}
 use Rattle.field.proofs.Order.{a^-below, a^-add, a^-period}
 use Rattle.field.proofs.Primitive.{primitive}

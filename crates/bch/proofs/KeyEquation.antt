@@ -1,18 +1,14 @@
 -- The turns of the loops of the key equation, from the results on numbers to the laws of crate `algebra`.
-use mathlib.Core.Path.{_≡_, refl, sym, ap, ap₂, _∙_}
+use mathlib.Core.Path.{_≡_, refl, sym, ap, _∙_}
 use mathlib.Core.List.{List}
-use Prim.Native.Nat.{ℕ, zero, suc, _+_, _-_, _^_, _≤_, _<_}
+use Prim.Native.Nat.{ℕ, suc, _+_, _-_, _^_, _≤_, _<_}
 use native.Mathlib.Nat.{pos-of-ne-zero}
 use native.Mathlib.Omega.{arith}
 use lib.Bits.{bitXor}
 use lib.ListN.{getD, length, set, length-set, replicate}
 use lib.Pow.{pow-pos}
-use Rattle.algebra.specs.Field.{BinaryField}
 use Rattle.algebra.specs.Polynomial.{pow, value}
-use Rattle.algebra.specs.Number.{Numbers}
-use Rattle.algebra.specs.Recurrence.{State}
-use Rattle.algebra.specs.Binary.{BinaryState}
-use Rattle.algebra.specs.Array.{Holds, coef, dot}
+use Rattle.algebra.specs.Array.{coef, dot}
 use Rattle.algebra.proofs.Polynomial.{value-zero}
 use Rattle.algebra.proofs.Array.{dot-zero, dot-next, value-next, Mixed, mixed-next, mixed-end, holds-terms, holds-kept, holds-patched, holds-grown}
 use Rattle.algebra.proofs.Number.{el-zero}
@@ -70,16 +66,15 @@ module _ (f : Field) where
       → Updated f c u e gap r
   update-end h end = record { elements = h .small; mixed = mixed-end (gf f) (num f) h end }
 
-  module _ {s : List ℕ} {t h len b : ℕ} {c u : List ℕ} {gap : ℕ} (sums : PowerSums f s t) (less : h < t) (holds : Recurs f s h len b c u gap) where
-    pub step-positive : 0 < b
-    step-positive = pos-of-ne-zero (λ z. holds .state .state .unit (ap (num f .el) z ∙ num f .el-nil))
-
-    pub step-below : b < 2 ^ degree f
-    step-below = rw (num-size f) at (holds .small-b)
+  -- What a step asks of what the algorithm holds: it can divide by b, and the update has no more terms than are added.
+  module _ {s : List ℕ} {h len b : ℕ} {c u : List ℕ} {gap : ℕ} (holds : Recurs f s h len b c u gap) where
+    pub step-divisor : (0 < b) × (b < 2 ^ degree f)
+    step-divisor = (pos-of-ne-zero (λ z. holds .state .state .unit (ap (num f .el) z ∙ num f .el-nil)), rw (num-size f) at (holds .small-b))
 
     pub step-terms : (j : ℕ) → h + h + 2 - len - gap ≤ j → getD u j 0 ≡ 0
     step-terms j l = holds-terms (gf f) (num f) holds j (omega (arith, holds .room))
 
+  module _ {s : List ℕ} {t h len b : ℕ} {c u : List ℕ} {gap : ℕ} (sums : PowerSums f s t) (less : h < t) (holds : Recurs f s h len b c u gap) where
     -- The three ways of a step, by the discrepancy d and the quotient a^e = d / b.
     module _ {d : ℕ} (is : Represents f (dot (gf f) (num f) c s (h + h) (suc len)) d) where
       pub step-kept : d ≡ 0 → Recurs f s (h + 1) len b c u (gap + 2)
@@ -87,7 +82,7 @@ module _ (f : Field) where
 
       module _ (e : ℕ) {v : List ℕ} (quotient : mul (degree f) (modulus f) b (a^ f e) ≡ d) (updated : Updated f c u e gap v) where
         divides : gf f .mul (num f .el b) (num f .el (a^ f e)) ≡ num f .el d
-        divides = sym (num-mul f b (a^ f e) step-below (a^-below (primitive f) e)) ∙ ap (num f .el) quotient
+        divides = sym (num-mul f b (a^ f e) (step-divisor holds .1) (a^-below (primitive f) e)) ∙ ap (num f .el) quotient
 
         pub step-patched : h + h < len + len → Recurs f s (h + 1) len b v u (gap + 2)
         step-patched = holds-patched (gf f) (num f) holds (sums .squares) (omega arith) (is .is) divides (updated .elements) (updated .mixed)

@@ -11,13 +11,11 @@
 use mathlib.Core.Path.{_≡_}
 use mathlib.Core.List.{List}
 use Prim.Native.Nat.{ℕ, _+_, _^_, _<_}
-use Rattle.algebra.specs.Field.{BinaryField}
 use Rattle.algebra.specs.Binary.{Squares}
-use Rattle.algebra.specs.Number.{Numbers}
 use Rattle.algebra.specs.Array.{Small, coef, mix-of, Holds}
 use Rattle.algebra.specs.Search.{Found}
 use Rattle.field.specs.declared.Field.{Field}
-use Rattle.field.specs.Field.{degree, modulus, pow, a^}
+use Rattle.field.specs.Field.{degree, a^}
 use Rattle.field.proofs.Instance.{gf, num, a}
 
 module _ (f : Field) where

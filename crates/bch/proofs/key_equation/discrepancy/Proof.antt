@@ -1,20 +1,15 @@
-use mathlib.Core.Path.{ap}
+-- `bch::key_equation::discrepancy` meets its contract.
+use mathlib.Core.Path.{_≡_}
+use Prim.Native.Nat.{suc, _-_, _≤_}
+use native.Mathlib.Omega.{arith}
+use borrow.Author.Needs.{needs}
+use Rattle.algebra.specs.Array.{dot}
+use Rattle.field.proofs.Instance.{gf, num}
 use Rattle.bch.specs.KeyEquation.{Represents}
 use Rattle.bch.proofs.Element.{entry-below}
 use Rattle.bch.proofs.KeyEquation.{discrepancy-start, discrepancy-next}
-use mathlib.Core.Path.{_≡_}
-use Prim.Native.Nat.{suc, _^_, _-_, _≤_, _<_}
-use native.Mathlib.Omega.{arith}
-use borrow.Author.Needs.{needs}
-use Rattle.algebra.specs.Number.{Numbers}
-use Rattle.algebra.specs.Array.{Small, dot}
-use Rattle.field.specs.Field.{degree}
-use Rattle.field.proofs.Instance.{gf, num}
 use Rattle.bch.proofs.key_equation.discrepancy.Statement.{statement}
 use Rattle.bch.proofs.key_equation.discrepancy.Tie as tie
-use Rattle.bch.proofs.key_equation.discrepancy.Reads as reads
-use Rattle.bch.proofs.key_equation.discrepancy.Lts as lts
-use Rattle.field.proofs.tables.product_by_tables.Reads as product-by-tables-reads
 
 abbrev Inv-loop : tie.InvT-loop
 Inv-loop f powers logs s c len k sum₀ i₀ sum i = (i ≤ suc len) × (Represents f (dot (gf f) (num f) c s k i) sum)
@@ -22,48 +17,41 @@ Inv-loop f powers logs s c len k sum₀ i₀ sum i = (i ≤ suc len) × (Represe
 abbrev μ-loop : tie.MeasureT-loop
 μ-loop f powers logs s c len k sum₀ i₀ sum i = suc len - i
 
--- src/key_equation.rt:81:5
 loop-holds : tie.Need-loop-holds Inv-loop μ-loop
 loop-holds c = (omega arith, discrepancy-start _ _ _ _)
 
--- src/key_equation.rt:82:17
 sub-j : tie.Need-sub-j Inv-loop μ-loop
 sub-j c = search needs
 
--- src/key_equation.rt:83:52
 mul-product-by-tables : tie.Need-mul-product-by-tables Inv-loop μ-loop
 mul-product-by-tables c = search needs
 
--- src/key_equation.rt:83:52
 element-copy-out-product-by-tables : tie.Need-element-copy-out-product-by-tables Inv-loop μ-loop
 element-copy-out-product-by-tables c = search needs
 
--- src/key_equation.rt:83:58
 mul-product-by-tables-2 : tie.Need-mul-product-by-tables-2 Inv-loop μ-loop
 mul-product-by-tables-2 c = search needs
 
--- src/key_equation.rt:83:58
 element-copy-out-product-by-tables-2 :
     tie.Need-element-copy-out-product-by-tables-2 Inv-loop μ-loop
 element-copy-out-product-by-tables-2 c = search needs
 
--- src/key_equation.rt:83:13
 product-by-tables-requires : tie.Need-product-by-tables-requires Inv-loop μ-loop
-product-by-tables-requires c κs = let s = c .before .before .before .before in (s .pre .0, (entry-below _ (s .pre .1 .1 .1) _, entry-below _ (s .pre .1 .1 .0) _))
+product-by-tables-requires c κs =
+    let s = c .before .before .before .before in
+    (s .pre .0, (entry-below _ (s .pre .1 .1 .1) _, entry-below _ (s .pre .1 .1 .0) _))
 
--- src/key_equation.rt:85:9
 add-i : tie.Need-add-i Inv-loop μ-loop
 add-i c = search needs
 
--- src/key_equation.rt:81:5
 loop-less : tie.Need-loop-less Inv-loop μ-loop
 loop-less c = search needs
 
--- src/key_equation.rt:81:5
 loop-again : tie.Need-loop-again Inv-loop μ-loop
-loop-again c = let l = c .before .before .before .before in (omega arith, discrepancy-next _ _ _ (l .before .pre .1 .1 .0) (l .before .pre .1 .1 .1) (l .loop .inv .1) (c .product-by-tables .ensures))
+loop-again c =
+    let l = c .before .before .before .before in
+    (omega arith, discrepancy-next _ _ _ (l .before .pre .1 .1 .0) (l .before .pre .1 .1 .1) (l .loop .inv .1) (c .product-by-tables .ensures))
 
--- src/key_equation.rt:65:1
 returns : tie.Need-returns Inv-loop μ-loop
 returns c = let e : c .before .loop .i ≡ suc (c .before .before .args .len) = omega arith in rw e at (c .before .loop .inv .1)
 

@@ -1,3 +1,4 @@
+-- `bch::key_equation::shortest` meets its contract.
 use mathlib.Core.Path.{_≡_}
 use Prim.Native.Nat.{_-_, _≤_}
 use native.Mathlib.Omega.{arith}
@@ -6,9 +7,6 @@ use Rattle.algebra.proofs.Array.{holds-start}
 use Rattle.bch.specs.KeyEquation.{Recurs}
 use Rattle.bch.proofs.key_equation.shortest.Statement.{statement}
 use Rattle.bch.proofs.key_equation.shortest.Tie as tie
-use Rattle.bch.proofs.key_equation.shortest.Reads as reads
-use Rattle.bch.proofs.key_equation.shortest.Lts as lts
-use Rattle.bch.proofs.key_equation.step.Reads as step-reads
 
 abbrev Inv-loop : tie.InvT-loop
 Inv-loop f powers logs s t r₀ h₀ r h = (h ≤ t) × (Recurs f s h (r .len) (r .b) (r .c) (r .u) (r .gap))
@@ -16,31 +14,24 @@ Inv-loop f powers logs s t r₀ h₀ r h = (h ≤ t) × (Recurs f s h (r .len) (
 abbrev μ-loop : tie.MeasureT-loop
 μ-loop f powers logs s t r₀ h₀ r h = t - h
 
--- src/key_equation.rt:182:5
 array-write-one : tie.Need-array-write-one Inv-loop μ-loop
 array-write-one c = search needs
 
--- src/key_equation.rt:191:5
 loop-holds : tie.Need-loop-holds Inv-loop μ-loop
 loop-holds c = (omega arith, holds-start _ _ _)
 
--- src/key_equation.rt:192:9
 step-requires : tie.Need-step-requires Inv-loop μ-loop
 step-requires c κs = let s = c .before .before in (s .pre .0, ((omega arith, s .pre .1 .0, s .pre .1 .1), c .before .loop .inv .1))
 
--- src/key_equation.rt:193:9
 add-h : tie.Need-add-h Inv-loop μ-loop
 add-h c = search needs
 
--- src/key_equation.rt:191:5
 loop-less : tie.Need-loop-less Inv-loop μ-loop
 loop-less c = search needs
 
--- src/key_equation.rt:191:5
 loop-again : tie.Need-loop-again Inv-loop μ-loop
 loop-again c = (omega arith, c .step .ensures)
 
--- src/key_equation.rt:170:1
 returns : tie.Need-returns Inv-loop μ-loop
 returns c = let e : c .before .loop .h ≡ c .before .before .args .t = omega arith in rw e at (c .before .loop .inv .1)
 

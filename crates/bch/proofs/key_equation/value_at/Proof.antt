@@ -1,18 +1,14 @@
+-- `bch::key_equation::value_at` meets its contract.
 use mathlib.Core.Path.{_≡_}
-use Prim.Native.Nat.{_+_, _-_, _≤_}
+use Prim.Native.Nat.{_-_, _≤_}
 use native.Mathlib.Omega.{arith}
 use borrow.Author.Needs.{needs}
-use Rattle.algebra.specs.Number.{Numbers}
 use Rattle.algebra.specs.Polynomial.{pow, value}
-use Rattle.algebra.specs.Array.{coef}
-use Rattle.field.proofs.Instance.{gf, num, a}
+use Rattle.field.proofs.Instance.{gf, a}
 use Rattle.bch.specs.KeyEquation.{Represents, series}
 use Rattle.bch.proofs.KeyEquation.{value-at-start, value-at-next}
 use Rattle.bch.proofs.key_equation.value_at.Statement.{statement}
 use Rattle.bch.proofs.key_equation.value_at.Tie as tie
-use Rattle.bch.proofs.key_equation.value_at.Reads as reads
-use Rattle.bch.proofs.key_equation.value_at.Lts as lts
-use Rattle.bch.proofs.key_equation.scaled.Reads as scaled-reads
 
 abbrev Inv-loop : tie.InvT-loop
 Inv-loop f powers logs c len p v₀ i₀ v i = (i ≤ len) × (Represents f (value (gf f) (series f c) (pow (gf f) (a f) p) i) v)
@@ -20,39 +16,32 @@ Inv-loop f powers logs c len p v₀ i₀ v i = (i ≤ len) × (Represents f (val
 abbrev μ-loop : tie.MeasureT-loop
 μ-loop f powers logs c len p v₀ i₀ v i = len - i
 
--- src/key_equation.rt:214:17
 element-copy-out-v : tie.Need-element-copy-out-v Inv-loop μ-loop
 element-copy-out-v c = search needs
 
--- src/key_equation.rt:216:5
 loop-holds : tie.Need-loop-holds Inv-loop μ-loop
 loop-holds c = (omega arith, value-at-start _ _ (c .before .pre .1 .2))
 
--- src/key_equation.rt:217:9
 add-i : tie.Need-add-i Inv-loop μ-loop
 add-i c = search needs
 
--- src/key_equation.rt:218:13
 scaled-requires : tie.Need-scaled-requires Inv-loop μ-loop
 scaled-requires c κs = let s = c .before .before .before in (s .pre .0, (c .before .loop .inv .1 .low, s .pre .1 .1))
 
--- src/key_equation.rt:219:17
 mul-v : tie.Need-mul-v Inv-loop μ-loop
 mul-v c = search needs
 
--- src/key_equation.rt:219:17
 element-copy-out-v-2 : tie.Need-element-copy-out-v-2 Inv-loop μ-loop
 element-copy-out-v-2 c = search needs
 
--- src/key_equation.rt:216:5
 loop-less : tie.Need-loop-less Inv-loop μ-loop
 loop-less c = search needs
 
--- src/key_equation.rt:216:5
 loop-again : tie.Need-loop-again Inv-loop μ-loop
-loop-again c = let l = c .before .before .before in (omega arith, value-at-next _ _ _ (l .before .before .pre .1 .2) (l .loop .inv .1) (c .before .scaled .ensures))
+loop-again c =
+    let l = c .before .before .before in
+    (omega arith, value-at-next _ _ _ (l .before .before .pre .1 .2) (l .loop .inv .1) (c .before .scaled .ensures))
 
--- src/key_equation.rt:202:1
 returns : tie.Need-returns Inv-loop μ-loop
 returns c = let e : c .before .loop .i ≡ c .before .before .before .args .len = omega arith in rw e at (c .before .loop .inv .1)
 
