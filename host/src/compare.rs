@@ -40,16 +40,11 @@ impl<'a> Comparison<'a> {
         self.replies.iter().flatten().sum()
     }
 
-    /// One round of calls of every kind; their number differs from round to round.
+    /// One round of calls of every kind, some 9,000.
     pub fn round(&mut self) -> Result<(), Box<Difference>> {
         self.layouts()?;
         self.remainders()?;
-        let mut layouts = vec![CASE_A, edge_words(&mut self.random)];
-        for most_page_bytes in [20, 40, 70, 120, 250, 600] {
-            layouts.extend((0..20).map(|_| accepted_words(&mut self.random, most_page_bytes)));
-        }
-        layouts.push(accepted_words(&mut self.random, 5000));
-        layouts.into_iter().try_for_each(|words| self.page(words))
+        self.pages()
     }
 
     /// Performs a call with the library and with the model, and returns it as it is afterwards.
@@ -75,7 +70,7 @@ impl<'a> Comparison<'a> {
     }
 
     /// Layouts, and page bits in both directions.
-    fn layouts(&mut self) -> Result<(), Box<Difference>> {
+    pub fn layouts(&mut self) -> Result<(), Box<Difference>> {
         for record in records(&mut self.random) {
             self.perform(Call::CheckLayout {
                 record: record.clone(),
@@ -104,7 +99,7 @@ impl<'a> Comparison<'a> {
     }
 
     /// Locating, at a few levels of both fields.
-    fn remainders(&mut self) -> Result<(), Box<Difference>> {
+    pub fn remainders(&mut self) -> Result<(), Box<Difference>> {
         let mut samples = document_cases();
         for choice in FieldChoice::ALL {
             for _ in 0..3 {
@@ -121,6 +116,18 @@ impl<'a> Comparison<'a> {
             self.perform_filled(sample.into())?;
         }
         Ok(())
+    }
+
+    /// Pages of many layouts, most of them small.
+    pub fn pages(&mut self) -> Result<(), Box<Difference>> {
+        let mut layouts = Vec::new();
+        for most_page_bytes in [20, 40, 70, 120, 250, 600] {
+            layouts.extend((0..20).map(|_| accepted_words(&mut self.random, most_page_bytes)));
+        }
+        layouts.push(accepted_words(&mut self.random, 5000));
+        layouts.push(CASE_A);
+        layouts.push(edge_words(&mut self.random));
+        layouts.into_iter().try_for_each(|words| self.page(words))
     }
 
     /// Calls about one page: each by itself, some spoilt, then several on the same buffers.

@@ -1,0 +1,42 @@
+// The tables by which crate `field` makes products: the powers of a and their logarithms, for either field.
+//
+// For m = 13 the powers are a stored table of 8,191 numbers; each entry follows from the one before, a rule that is tested once
+// over the table. For m = 14 they are computed, each from the power eight places before. The logarithms come from the powers.
+//
+//   fill_tables   fills two lent arrays for a field
+ghost use mathlib.Core.Path.{_≡_};
+ghost use lib.ListN.{length};
+ghost use Rattle.field.specs.Tables.{Tables};
+ghost use Rattle.powers.specs.Powers.{Powers};
+use field::Field;
+
+mod computed;
+mod stored;
+
+// Internal. Fills the table of powers and the table of logarithms of a field.
+pub fn fill_tables(f: Field, powers: &mut [u16; 16384], logs: &mut [u16; 16384])
+    requires { ⌜ (length (now powers) ≡ 16384) × (length (now logs) ≡ 16384) ⌝ }
+    ensures { λ r. ⌜ Tables f (now (powers .exit)) (now (logs .exit)) ⌝ }
+{
+    match f {
+        Field::Thirteen => stored::copy_powers(powers),
+        Field::Fourteen => computed::fill_powers(powers),
+    }
+    fill_logs(f, powers, logs);
+}
+
+// The logarithm of each power of a is its exponent; the entry at 0 is 0.
+fn fill_logs(f: Field, powers: &[u16; 16384], logs: &mut [u16; 16384])
+    requires { ⌜ Powers f (now powers) ⌝ }
+    requires { ⌜ length (now logs) ≡ 16384 ⌝ }
+    ensures { λ r. ⌜ Tables f (now (powers .entry)) (now (logs .exit)) ⌝ }
+{
+    let n = f.longest() as usize;
+    logs[0] = 0;
+    let mut k: usize = 0;
+    while k < n {
+        let x = powers[k] as usize;
+        logs[x] = k as u16;
+        k += 1;
+    }
+}
