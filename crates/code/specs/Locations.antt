@@ -40,7 +40,10 @@ pub located : (f : Field) (t n r : ℕ) → Dec ((s : Word) × Locates f t n r s
 located f t n r = elim (search (λ s. remainder f t s ≡ r) (λ s. ℕ-discrete (remainder f t s) r) t (replicate n false)) [
   | yes (s, h) ↦ (let l : length s ≡ n = h .same ∙ length-replicate n false in
       yes (s, record { below = l; few = omega (arith, h .close, zeros-distance n s l); leaves = h .holds }))
-  | no none ↦ no (λ (s, h). none (s, record { same = h .below ∙ sym (length-replicate n false); holds = h .leaves; close = omega (arith, h .few, zeros-distance n s (h .below)) }))
+  | no none ↦ no (λ (s, h). none (
+    s,
+    record { same = h .below ∙ sym (length-replicate n false); holds = h .leaves; close = omega (arith, h .few, zeros-distance n s (h .below)) },
+  ))
 ]
 
 -- Document 01 lists exponents ascending.

@@ -31,7 +31,8 @@ turn P t false w c h = record { same = ap suc (h .same); holds = h .holds; close
 
 -- The first bit was kept or turned over.
 kept-or-turned : (P : Word → Type 0) (t : ℕ) (b : Bool) (w : Word) {A : Type 0}
-    → ((c : Word) → Close (λ v. P (b ∷ v)) t w c → A) → ((c : Word) (s : ℕ) → t ≡ suc s → Close (λ v. P (flip b ∷ v)) s w c → A) → (c : Word) → Close P t (b ∷ w) c → A
+    → ((c : Word) → Close (λ v. P (b ∷ v)) t w c → A) → ((c : Word) (s : ℕ) → t ≡ suc s → Close (λ v. P (flip b ∷ v)) s w c → A) → (c : Word)
+    → Close P t (b ∷ w) c → A
 unfolding distance apart flip
 kept-or-turned P t b w f g [] h = absurd (omega (arith, h .same))
 kept-or-turned P t true w f g (true ∷ c) h = f c (record { same = omega (arith, h .same); holds = h .holds; close = omega (arith, h .close) })
