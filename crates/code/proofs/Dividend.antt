@@ -10,7 +10,7 @@ use native.Mathlib.Omega.{arith}
 use native.Mathlib.Decide.{decLt}
 use native.Mathlib.Nat.{add-zero, add-suc, div-eq-of-lt, div-one, sub-self, sub-zero, lt-of-le-of-lt, div-le-self}
 use lib.Pow.{pow-pos, shr-shr}
-use lib.ListN.{length, getD, replicate, length-append, length-replicate, getD-replicate, List·getD-append, List·getD-eq-default}
+use lib.ListN.{length, getD, replicate, replicate-append-replicate, length-append, length-replicate, getD-replicate, List·getD-append}
 use lib.Seq.{getD-append-add}
 use lib.Dec.{eqb}
 use lib.Bits.{bitXor, xor-self, xor-zero-l, xor-comm, xor-block}
@@ -21,7 +21,8 @@ use Rattle.field.specs.Field.{degree}
 use Rattle.field.proofs.Xor.{xor-assoc, xor-swap}
 use Rattle.algebra.specs.Word.{flip, differ}
 use Rattle.code.specs.Word.{Word}
-use Rattle.code.specs.Generator.{generator, remainderStep, remainderOf, remainder}
+use Rattle.code.specs.Generator.{generator, remainderStep, remainderOf, remainder, parity}
+use Rattle.code.proofs.Codeword.{zeros-at}
 use Rattle.code.proofs.Polynomial.{oneAt, oneAt-xor, oneAt-high}
 
 -- ---- additive
@@ -122,6 +123,11 @@ pub remainder-digits : (f : Field) (t n r : ℕ) → r < 2 ^ (degree f * t) → 
 unfolding remainder
 remainder-digits f t n r h k = rw (digits-length r n) (digits-run (degree f * t) (generator f t) r n n h k (omega arith) ∙ rw (sub-self n) (div-one r))
 
+digits-zero : (n : ℕ) → digits 0 n ≡ replicate n false
+unfolding digits
+digits-zero zero = refl
+digits-zero (suc n) = rw (oneAt-high 0 n (pow-pos n), digits-zero n)
+
 -- ---- a message and a stored parity
 
 pub remainder-stored : (f : Field) (t : ℕ) (m p : Word) → length p ≡ degree f * t
@@ -143,9 +149,6 @@ remainder-stored f t m p l =
     alone = let b : number p < 2 ^ (degree f * t) = rw (← l) (number-lt p) in
         sym (ap (remainder f t) (digits-number p)) ∙ remainder-digits f t (length p) (number p) b (number-lt p)
 
-    off : (k i : ℕ) → getD (replicate k false) i false ≡ false
-    off k i = elim (decLt i k) [ yes h ↦ getD-replicate k i false false h | no h ↦ List·getD-eq-default (replicate k false) false (rw (length-replicate k false) (omega arith)) ]
-
     left : (b : Bool) → b ≡ differ b false
     left true = unfold differ flip in refl
     left false = unfold differ flip in refl
@@ -153,9 +156,18 @@ remainder-stored f t m p l =
     each : (i : ℕ) → i < length (m ++ p) → getD (m ++ p) i false ≡ differ (getD (m ++ zeros) i false) (getD (replicate (length m) false ++ p) i false)
     each i h = elim (decLt i (length m)) [
       | yes k ↦ (let k' : i < length (replicate (length m) false) = rw (length-replicate (length m) false) k in
-          rw (List·getD-append m p false i k, List·getD-append m zeros false i k, List·getD-append (replicate (length m) false) p false i k', off (length m) i) (left (getD m i false)))
+          rw (List·getD-append m p false i k, List·getD-append m zeros false i k, List·getD-append (replicate (length m) false) p false i k', zeros-at (length m) i) (left (getD m i false)))
       | no k ↦ (let e : i ≡ length m + (i - length m) = omega arith in
           let second : getD (replicate (length m) false ++ p) (length m + (i - length m)) false ≡ getD p (i - length m) false =
-          ap (λ k. getD (replicate (length m) false ++ p) (k + (i - length m)) false) (sym (length-replicate (length m) false)) ∙ getD-append-add (replicate (length m) false) p (i - length m) false in
-          rw e (rw (second, getD-append-add m p (i - length m) false, getD-append-add m zeros (i - length m) false, off (degree f * t) (i - length m)) (unfold differ in refl)))
+          ap (λ k. getD (replicate (length m) false ++ p) (k + (i - length m)) false) (sym (length-replicate (length m) false))
+          ∙ getD-append-add (replicate (length m) false) p (i - length m) false in
+          rw e (rw (second, getD-append-add m p (i - length m) false, getD-append-add m zeros (i - length m) false, zeros-at (degree f * t) (i - length m)) (unfold differ in refl)))
     ]
+
+-- The parity of zeros is zeros.
+pub parity-zeros : (f : Field) (t k : ℕ) → parity f t (replicate k false) ≡ replicate (degree f * t) false
+unfolding parity
+parity-zeros f t k = rw (replicate-append-replicate k (degree f * t) false, none) (digits-zero (degree f * t))
+  where
+    none : remainder f t (replicate (k + degree f * t) false) ≡ 0
+    none = unfold remainder in rw (length-replicate (k + degree f * t) false) (remainderOf-zeros (degree f * t) (generator f t) (k + degree f * t) (k + degree f * t) (omega arith))

@@ -8,13 +8,17 @@ use mathlib.Core.List.{List, [], _∷_, _++_}
 use Prim.Native.Nat.{ℕ, zero, suc, _+_, _*_, _≤_, _<_}
 use native.Mathlib.Omega.{arith}
 use native.Mathlib.Decide.{decLt}
+use native.Mathlib.Nat.{one-mul}
 use borrow.Author.Tests.{eqb-true, eqb-false, eq-eqb, ne-eqb}
-use lib.ListN.{length, getD, length-append}
+use lib.ListN.{length, getD, replicate, length-append, length-replicate}
 use lib.Dec.{eqb}
-use lib.Bits.{bitXor}
+use lib.Bits.{bitXor, xor-self, xor-zero-r}
 use Rattle.bits.specs.Bits.{digit}
 use Rattle.field.specs.declared.Field.{Field}
 use Rattle.field.specs.Field.{a^}
+use Rattle.field.proofs.Xor.{xor-eq}
+use Rattle.field.proofs.Order.{a^-positive}
+use Rattle.field.proofs.Primitive.{primitive}
 use Rattle.field.proofs.Instance.{gf, a, el, el-nil, el-add, el-pow}
 use Rattle.algebra.specs.Field.{BinaryField}
 use Rattle.algebra.specs.Sum.{sum}
@@ -26,10 +30,10 @@ use Rattle.algebra.proofs.Sum.{sum-suc, sum-nil}
 use Rattle.algebra.proofs.Polynomial.{pow-pow}
 use Rattle.algebra.proofs.Word.{power-sum-cong, power-sum-both}
 use Rattle.code.specs.Word.{Word, ones, turned, flipped, ascending}
-use Rattle.code.specs.Code.{value}
+use Rattle.code.specs.Code.{value, Codeword}
 use Rattle.code.specs.Locations.{powerSum}
 use Rattle.code.proofs.Distance.{coefficient, coefficient-ext, coefficient-tail, coefficient-head}
-use Rattle.code.proofs.Codeword.{el-value, power-sum-value}
+use Rattle.code.proofs.Codeword.{value-el, power-sum-value, codeword-values, zeros-codeword}
 use Rattle.code.proofs.Repair.{repaired, repaired-length, repaired-coefficient}
 
 unfoldable pub marks : List ℕ → ℕ → Bool
@@ -95,7 +99,8 @@ pub flipped-coefficient : (w : Word) (ps : List ℕ) (p : ℕ) → p < length w 
 unfolding flipped marks
 flipped-coefficient w [] p l = sym (differ-right (coefficient w p))
 flipped-coefficient w (q ∷ ps) p l =
-    flipped-coefficient (turned w q) ps p (rw (turned-length w q) l) ∙ ap (λ b. differ b (marks ps p)) (turned-coefficient w q p l) ∙ differ-assoc (coefficient w p) (eqb p q) (marks ps p)
+    flipped-coefficient (turned w q) ps p (rw (turned-length w q) l) ∙ ap (λ b. differ b (marks ps p)) (turned-coefficient w q p l)
+    ∙ differ-assoc (coefficient w p) (eqb p q) (marks ps p)
 
 pub flipped-repaired : (w : Word) (ps : List ℕ) → flipped w ps ≡ repaired w (marks ps)
 flipped-repaired w ps = coefficient-ext _ _ (flipped-length w ps ∙ sym (repaired-length w (marks ps)))
@@ -118,7 +123,7 @@ unfolding marks
 marks-other true n p e = rw (ne-eqb p n e) (differ-right false)
 marks-other false n p e = refl
 
-marks-past : (w : Word) (p : ℕ) → length w ≤ p → marks (ascending w) p ≡ false
+pub marks-past : (w : Word) (p : ℕ) → length w ≤ p → marks (ascending w) p ≡ false
 unfolding ascending
 marks-past [] p l = unfold marks in refl
 marks-past (b ∷ w) p l =
@@ -129,7 +134,8 @@ unfolding ascending
 marks-ascending [] p l = absurd (omega arith)
 marks-ascending (b ∷ w) p l = marks-append (ascending w) _ p ∙ go (decLt p (length w)) (marks-ascending w p)
   where
-    go : Dec (p < length w) → (p < length w → marks (ascending w) p ≡ coefficient w p) → differ (marks (ascending w) p) (marks (cond b (length w ∷ []) []) p) ≡ coefficient (b ∷ w) p
+    go : Dec (p < length w) → (p < length w → marks (ascending w) p ≡ coefficient w p)
+        → differ (marks (ascending w) p) (marks (cond b (length w ∷ []) []) p) ≡ coefficient (b ∷ w) p
     go (yes m) h = rw (h m, marks-other b (length w) p (λ e. omega arith), coefficient-tail b w p m) (differ-right (coefficient w p))
     go (no m) h = let e : p ≡ length w = omega arith in rw (marks-past w p (omega arith), marks-last b (length w) p e, e, coefficient-head b w) (unfold differ in refl)
 
@@ -177,7 +183,8 @@ module _ (K : BinaryField) (g : ℕ → K .carrier) where
   sum-one zero q l = absurd (omega arith)
   sum-one (suc n) q l = sum-suc K n _ ∙ go (decLt q n) (sum-one n q)
     where
-      go : Dec (q < n) → (q < n → sum K n (λ p. K .mul (word.bit K (eqb p q)) (g p)) ≡ g q) → K .add (sum K n (λ p. K .mul (word.bit K (eqb p q)) (g p))) (K .mul (word.bit K (eqb n q)) (g n)) ≡ g q
+      go : Dec (q < n) → (q < n → sum K n (λ p. K .mul (word.bit K (eqb p q)) (g p)) ≡ g q)
+          → K .add (sum K n (λ p. K .mul (word.bit K (eqb p q)) (g p))) (K .mul (word.bit K (eqb n q)) (g n)) ≡ g q
       go (yes m) h = rw (h m, ne-eqb n q (λ e. omega arith)) (simp ring)
       go (no m) h = let e : n ≡ q = omega arith in
           rw (sum-nil K n (λ p. K .mul (word.bit K (eqb p q)) (g p)) (λ i k. rw (ne-eqb i q (λ e. omega arith)) (simp ring)), eq-eqb n q e, e) (simp ring)
@@ -199,14 +206,34 @@ module _ (f : Field) where
       ap (el f) (power-sum-both (gf f) (a f) (λ p. eqb p q) (marks ps) n j) ∙ el-add f _ _
       ∙ ap₂ bitXor (ap (el f) (power-sum-one n q j l) ∙ el-pow f (suc j * q)) (marks-power-sum n ps j b)
 
-  value-power-sum : (w : Word) (j : ℕ) → value f w (a^ f (suc j)) ≡ el f (power-sum (gf f) (a f) (coefficient w) (length w) j)
-  unfolding value
-  value-power-sum w j = rw (← el-pow f (suc j)) (sym (el-value f w (pow (gf f) (a f) (suc j)) (length w))) ∙ ap (el f) (sym (power-sum-value f w j))
+  pub value-power-sum : (w : Word) (j : ℕ) → value f w (a^ f (suc j)) ≡ el f (power-sum (gf f) (a f) (coefficient w) (length w) j)
+  value-power-sum w j = value-el f w (suc j) ∙ ap (el f) (sym (power-sum-value f w j))
 
   -- Flipping a list of exponents adds its power sum to the value of a word.
-  pub flipped-value : (w : Word) (ps : List ℕ) (j : ℕ) → Below (length w) ps → 0 < j → value f (flipped w ps) (a^ f j) ≡ bitXor (value f w (a^ f j)) (powerSum f ps j)
+  pub flipped-value : (w : Word) (ps : List ℕ) (j : ℕ) → Below (length w) ps → 0 < j
+      → value f (flipped w ps) (a^ f j) ≡ bitXor (value f w (a^ f j)) (powerSum f ps j)
   flipped-value w ps zero b l = absurd (omega arith)
   flipped-value w ps (suc j) b l =
       value-power-sum (flipped w ps) j
       ∙ ap (el f) (rw (flipped-length w ps) (power-sum-cong (gf f) (a f) _ _ (length w) j (flipped-coefficient w ps)) ∙ power-sum-both (gf f) (a f) (coefficient w) (marks ps) (length w) j)
       ∙ el-add f _ _ ∙ ap₂ bitXor (sym (value-power-sum w j)) (marks-power-sum (length w) ps j b)
+
+  -- The recheck of a list of exponents: its power sums are the odd syndromes of the word.
+  pub recheck-flipped : (t : ℕ) (w : Word) (ps : List ℕ) → Below (length w) ps
+      → ((i : ℕ) → i < t → value f w (a^ f (suc (i + i))) ≡ powerSum f ps (suc (i + i))) → Codeword f t (flipped w ps)
+  recheck-flipped t w ps b h = codeword-values f t (flipped w ps) (λ i l. flipped-value w ps (suc (i + i)) b (omega arith) ∙ rw (h i l) (xor-self (powerSum f ps (suc (i + i)))))
+
+  pub flipped-recheck : (t : ℕ) (w : Word) (ps : List ℕ) → Below (length w) ps → Codeword f t (flipped w ps) → (j : ℕ) → 0 < j → j ≤ 2 * t
+      → value f w (a^ f j) ≡ powerSum f ps j
+  flipped-recheck t w ps b c j l m = xor-eq _ _ (sym (flipped-value w ps j b l) ∙ c .zeros j l m)
+
+  -- A word with a single one is no codeword.
+  pub single-no-codeword : (t n p : ℕ) → 0 < t → p < n → Codeword f t (flipped (replicate n false) (p ∷ [])) → ⊥
+  unfolding powerSum
+  single-no-codeword t n p h l c =
+      let k : p < length (replicate n false) = rw (length-replicate n false) l in
+      let b : Below (length (replicate n false)) (p ∷ []) = one k none in
+      let z : value f (replicate n false) (a^ f 1) ≡ bitXor (a^ f (1 * p)) 0 = flipped-recheck t (replicate n false) (p ∷ []) b c 1 (omega arith) (omega arith) in
+      let e : value f (replicate n false) (a^ f 1) ≡ 0 = zeros-codeword f 1 n .zeros 1 (omega arith) (omega arith) in
+      let q : a^ f p ≡ 0 = sym (rw (xor-zero-r (a^ f (1 * p)), one-mul p) at z) ∙ e in
+      omega (arith, a^-positive (primitive f) p)

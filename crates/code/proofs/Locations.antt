@@ -10,7 +10,7 @@ use native.Mathlib.Omega.{arith}
 use native.Mathlib.Decide.{decLt}
 use native.Mathlib.Nat.{lt-of-lt-of-le}
 use lib.Pow.{pow-mono}
-use lib.ListN.{length, getD, take}
+use lib.ListN.{length, getD, take, replicate, length-replicate}
 use lib.Bits.{bitXor, xor-self, xor-zero-r}
 use Rattle.bits.specs.Bits.{digit, digits}
 use Rattle.bits.proofs.Numbers.{digits-length}
@@ -26,7 +26,7 @@ use Rattle.code.specs.Word.{Word, ones, flipped, ascending}
 use Rattle.code.specs.Code.{Codeword, Near, Fits, value}
 use Rattle.code.specs.Generator.{remainder}
 use Rattle.code.specs.Outcome.{good, ruined, judge}
-use Rattle.code.specs.Locations.{Locates, located, listed, exponents, nowhere, locateBy, locate}
+use Rattle.code.specs.Locations.{Locates, located, listed, exponents, nowhere, locateBy, locate, powerSum}
 use Rattle.code.proofs.Distance.{coefficient, coefficient-ext, coefficient-tail, coefficient-head, count-distance}
 use Rattle.code.proofs.Codeword.{elements, el-value, power-sum-value, near-unique}
 use Rattle.code.proofs.Outcome.{judge-gives, judge-refused, near-gives}
@@ -34,7 +34,8 @@ use Rattle.code.proofs.Polynomial.{digits-value}
 use Rattle.code.proofs.Remainder.{codeword-remainder, remainder-codeword, remainder-value}
 use Rattle.code.proofs.Dividend.{remainder-xor, remainder-digits}
 use Rattle.code.proofs.Repair.{repaired, repaired-length, repaired-at, repaired-coefficient, repaired-distance, repaired-near, recheck-codeword, codeword-recheck, near-repaired}
-use Rattle.code.proofs.Flips.{marks-ascending, flipped-repaired, ascending-length, ascending-below, Below}
+use Rattle.code.proofs.Flips.{Below, marks, marks-ascending, marks-power-sum, flipped-length, flipped-repaired, ascending-length, ascending-below}
+use Rattle.code.proofs.Ascending.{Rising, ascending-flipped}
 
 -- ---- the listing of a set: what holds of it in any order
 
@@ -48,11 +49,24 @@ listed-below s = ascending-below s
 
 repaired-cong : (w : Word) (e e' : ℕ → Bool) → ((p : ℕ) → p < length w → e p ≡ e' p) → repaired w e ≡ repaired w e'
 repaired-cong w e e' h = coefficient-ext _ _ (repaired-length w e ∙ sym (repaired-length w e')) (λ p l.
-    let k : p < length w = omega (arith, repaired-length w e') in repaired-coefficient w e p k ∙ ap (differ (coefficient w p)) (h p k) ∙ sym (repaired-coefficient w e' p k))
+    let k : p < length w = omega (arith, repaired-length w e') in repaired-coefficient w e p k ∙ ap (differ (coefficient w p)) (h p k)
+    ∙ sym (repaired-coefficient w e' p k))
 
 pub listed-flipped : (w s : Word) → length s ≡ length w → flipped w (listed s) ≡ repaired w (coefficient s)
 unfolding listed
 listed-flipped w s l = flipped-repaired w (ascending s) ∙ repaired-cong w _ _ (λ p k. marks-ascending s p (omega arith))
+
+pub listed-power-sum : (f : Field) (s : Word) (j : ℕ) → el f (power-sum (gf f) (a f) (coefficient s) (length s) j) ≡ powerSum f (listed s) (suc j)
+unfolding listed
+listed-power-sum f s j =
+    ap (el f) (sym (power-sum-cong (gf f) (a f) (marks (ascending s)) (coefficient s) (length s) j (marks-ascending s)))
+    ∙ marks-power-sum f (length s) (ascending s) j (ascending-below s)
+
+-- ---- and in the order of the listing
+
+pub listed-flips : (n : ℕ) (ps : List ℕ) → Rising 0 ps → Below n ps → listed (flipped (replicate n false) ps) ≡ ps
+unfolding listed
+listed-flips n ps r b = ascending-flipped n ps r b
 
 -- ---- a set and the word that it is flipped in
 
@@ -65,14 +79,16 @@ ones-count (b ∷ s) = rw (coefficient-head b s, count-cong _ (coefficient s) (l
     go true = unfold digit bump in omega arith
     go false = unfold digit bump in omega arith
 
-pub repaired-remainder : (f : Field) (t : ℕ) (w s : Word) → length s ≡ length w → remainder f t (repaired w (coefficient s)) ≡ bitXor (remainder f t w) (remainder f t s)
+pub repaired-remainder : (f : Field) (t : ℕ) (w s : Word) → length s ≡ length w
+    → remainder f t (repaired w (coefficient s)) ≡ bitXor (remainder f t w) (remainder f t s)
 repaired-remainder f t w s l = remainder-xor f t w s (repaired w (coefficient s)) (sym (repaired-length w (coefficient s))) (l ∙ sym (repaired-length w (coefficient s))) each
   where
     back : (i : ℕ) → i < length w → coefficient s (length w - suc i) ≡ getD s i false
     back i k = unfold coefficient in (let e : length s - suc (length w - suc i) ≡ i = omega arith in rw e)
 
     each : (i : ℕ) → i < length (repaired w (coefficient s)) → getD (repaired w (coefficient s)) i false ≡ differ (getD w i false) (getD s i false)
-    each i k = let k' : i < length w = omega (arith, repaired-length w (coefficient s)) in repaired-at w (coefficient s) i k' ∙ ap (differ (getD w i false)) (back i k')
+    each i k = let k' : i < length w = omega (arith, repaired-length w (coefficient s)) in repaired-at w (coefficient s) i k'
+        ∙ ap (differ (getD w i false)) (back i k')
 
 pub locates-near : (f : Field) (t : ℕ) (w s : Word) → t ≤ 62 → Locates f t (length w) (remainder f t w) s → Near f t w (repaired w (coefficient s))
 locates-near f t w s h x = repaired-near f t w (coefficient s)
@@ -189,6 +205,9 @@ marked-coefficient e (suc n) p l = go (decLt p n) (marked-coefficient e n p)
 pub marked-ones : (e : ℕ → Bool) (n : ℕ) → ones (marked e n) ≡ count e n
 marked-ones e n = ones-count (marked e n) ∙ rw (marked-length e n) (count-cong _ e n (marked-coefficient e n))
 
+pub marked-self : (s : Word) → marked (coefficient s) (length s) ≡ s
+marked-self s = coefficient-ext _ s (marked-length _ _) (λ p l. marked-coefficient (coefficient s) (length s) p l)
+
 -- ---- the decoder, from a remainder r: S are its values at a, a^2, .., a^(2t), and e are the roots of the polynomial that the decoder ends with
 
 module _ (f : Field) (t n r : ℕ) (fits : Fits f t n) (low : r < 2 ^ (degree f * t)) (room : degree f * t ≤ n) where
@@ -230,7 +249,8 @@ module _ (f : Field) (t n r : ℕ) (fits : Fits f t n) (low : r < 2 ^ (degree f 
         same = repaired-cong (digits r n) _ e (λ p l. marked-coefficient e n p (omega (arith, word-length)))
 
         zero-sum : bitXor r (remainder f t (marked e n)) ≡ 0
-        zero-sum = ap (λ x. bitXor x (remainder f t (marked e n))) (sym word-remainder) ∙ sym (repaired-remainder f t (digits r n) (marked e n) (marked-length e n ∙ sym word-length))
+        zero-sum = ap (λ x. bitXor x (remainder f t (marked e n))) (sym word-remainder)
+            ∙ sym (repaired-remainder f t (digits r n) (marked e n) (marked-length e n ∙ sym word-length))
             ∙ ap (remainder f t) same ∙ codeword-remainder f t _ (fits .level) code
 
     pub locates-recheck : Locates f t n r (marked e n) → (j : ℕ) → j < 2 * t → S j ≡ power-sum (gf f) (a f) e n j
@@ -251,3 +271,22 @@ module _ (f : Field) (t n r : ℕ) (fits : Fits f t n) (low : r < 2 ^ (degree f 
 
       pub roots-nowhere : (Locates f t n r (marked e n) → ⊥) → locate f t n r ≡ nowhere
       roots-nowhere h = locate-nowhere f t n r (λ s x. h (rw (locates-roots s x) at x))
+
+  -- The recheck in numbers: few exponents, whose power sums are the odd syndromes.
+  pub recheck-set : (s : Word) → length s ≡ n → ones s ≤ t
+      → ((i : ℕ) → i < t → value f (digits r (degree f * t)) (a^ f (suc (i + i))) ≡ powerSum f (listed s) (suc (i + i))) → Locates f t n r s
+  recheck-set s l few h = rw (← marked-self s, l) (recheck-locates syndrome (λ j k. el-syndrome j) (coefficient s) (rw (← l, ← ones-count s) few)
+      (λ i k. el-same f _ _ (el-syndrome (i + i) ∙ h i k ∙ sym (listed-power-sum f s (i + i)) ∙ rw l)))
+
+  pub set-recheck : (s : Word) → Locates f t n r s → (j : ℕ) → j < 2 * t → value f (digits r (degree f * t)) (a^ f (suc j)) ≡ powerSum f (listed s) (suc j)
+  set-recheck s x j l =
+      sym (el-syndrome j) ∙ ap (el f) (locates-recheck syndrome (λ j k. el-syndrome j) (coefficient s) (rw (← x .below, marked-self s) (rw (x .below) x)) j l)
+      ∙ ap (λ n. el f (power-sum (gf f) (a f) (coefficient s) n j)) (sym (x .below)) ∙ listed-power-sum f s j
+
+  -- A list that ascends and passes the recheck, whatever proposed it, is the answer.
+  pub locate-list : (ps : List ℕ) → Rising 0 ps → Below n ps → length ps ≤ t
+      → ((i : ℕ) → i < t → value f (digits r (degree f * t)) (a^ f (suc (i + i))) ≡ powerSum f ps (suc (i + i))) → locate f t n r ≡ exponents ps
+  locate-list ps rising below few h =
+      let s : Word = flipped (replicate n false) ps in
+      let e : listed s ≡ ps = listed-flips n ps rising below in
+      locate-exponents f t n r s fits (recheck-set s (flipped-length (replicate n false) ps ∙ length-replicate n false) (rw (← listed-length s, e) few) (λ i l. h i l ∙ rw e)) ∙ ap exponents e
