@@ -4,13 +4,12 @@
 -- a f      the element a
 -- el f x   the number of the element x
 -- num f    the numbers below 2^m as elements
-use mathlib.Core.Path.{_≡_, refl, sym, ap, ap₂, _∙_}
+use mathlib.Core.Path.{_≡_, refl, sym, ap, _∙_}
 use Prim.Native.Nat.{ℕ, zero, suc, _^_, _<_}
 use native.Mathlib.Nat.{pos-of-ne-zero}
 use native.Mathlib.Omega.{arith}
 use lib.Bits.{bitXor, xor-comm, xor-zero-r, xor-self, xor-lt}
 use Rattle.algebra.specs.Field.{BinaryField}
-use Rattle.algebra.specs.Number as Number
 use Rattle.algebra.specs.Number.{Below, Numbers, elem-same, field, el-is, numbers}
 use Rattle.algebra.specs.Polynomial as Polynomial
 use Rattle.algebra.specs.Polynomial.{Distinct}
