@@ -21,9 +21,12 @@
 pub mod bits;
 pub mod call;
 pub mod code;
+pub mod compare;
 pub mod decoder;
 pub mod field;
+pub mod guarded;
 pub mod layout;
+pub mod library;
 pub mod locate;
 pub mod page;
 pub mod random;

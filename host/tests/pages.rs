@@ -2,7 +2,7 @@
 
 use model::bits::{bit, bits_of};
 use model::random::Random;
-use model::samples::accepted_words;
+use model::samples::layouts::accepted_words;
 use model::samples::pages::{WrittenPage, damage, damage_tail};
 use model::*;
 

@@ -4,7 +4,7 @@ use crate::{Answer, Vectors};
 use model::call::Call;
 use model::layout::{Layout, LayoutWords};
 use model::random::Random;
-use model::samples::accepted_words;
+use model::samples::layouts::accepted_words;
 use model::samples::pages::{BEFORE, WrittenPage, spoil};
 use model::{Refusal, check_claim, judge_block, read_page, write_page};
 

@@ -1,0 +1,197 @@
+-- Document 01's cases about layouts, "Both sides of each edge": A to E, I and K, of the definitions.
+use mathlib.Core.Path.{_≡_, refl}
+use mathlib.Core.List.{List, [], _∷_}
+use mathlib.Core.Bool.{Bool, true, false, cond}
+use Prim.Native.Nat.{ℕ, suc, _+_, _-_, _*_, _/_, _%_, _≤_}
+use native.Mathlib.Omega.{arith}
+use borrow.Author.Tests.{le-ltb}
+use Rattle.field.specs.declared.Field.{Field}
+use Rattle.field.specs.declared.Field.the-variants.{Thirteen, Fourteen}
+use Rattle.field.specs.Field.{degree, longest}
+use Rattle.layout.specs.declared.BlockFields.{BlockFields}
+use Rattle.layout.specs.declared.Layout.{Layout}
+use Rattle.layout.specs.declared.Finding.the-variants.{Kept, Broken}
+use Rattle.layout.specs.declared.Rule.the-variants.{Level, Message, Length, Room}
+use Rattle.layout.specs.declared.Kind.the-variants.{First, Page}
+use Rattle.layout.specs.Record.{fieldOf, blockFields, layoutAt, layoutOf}
+use Rattle.layout.specs.Plan.{shapeOf, laterShape, dataBytes, planOf, coveredOf, shape, bits, level, covered, start, used}
+use Rattle.layout.specs.Acceptance.{test, levelRule, messageRule, lengthRule, roomRule, either, ofBlocks, findingOf, judged, acceptance}
+use Rattle.layout.specs.Bits.{within, blockBelow, blockOf, exponentAt, positionAt, located, bitIn, bitFor, bitAnswer, positionIn, positionFor, positionAnswer}
+use Rattle.layout.proofs.Plans.{degree-small, product-le}
+use Rattle.layout.proofs.Reasons.{level-first, level-later, length-first, length-later}
+use Rattle.layout.specs.declared.Acceptance.the-variants as answer
+use Rattle.layout.specs.declared.BitAnswer.the-variants as bit
+use Rattle.layout.specs.declared.PositionAnswer.the-variants as position
+use Rattle.layout.specs.declared.Refusal.the-variants as refusal
+
+-- a record of two words, word 0 first, most significant byte first
+unfoldable pub words : ℕ → ℕ → List ℕ
+words v w =
+    v / 0x1000000 ∷ v / 0x10000 % 256 ∷ v / 256 % 256 ∷ v % 256
+    ∷ w / 0x1000000 ∷ w / 0x10000 % 256 ∷ w / 256 % 256 ∷ w % 256 ∷ []
+
+unfoldable pub layoutA : Layout
+layoutA = record {
+  nblocks = 7;
+  metadata = 10;
+  first = record { ecc = 8; gf = Thirteen; units = 128 };
+  page = 4314;
+  later = record { ecc = 8; gf = Thirteen; units = 128 };
+}
+
+-- A: the reset state in document 000
+pub record CaseA : Type 0 where
+  pub accepted : acceptance (words 0x070A4080 0x10DA4080) ≡ answer.Accepted layoutA
+  pub level-first : level (planOf layoutA) 0 ≡ 16
+  pub level-later : (b : ℕ) → level (planOf layoutA) (suc b) ≡ 16
+  pub data-bytes : (b : ℕ) → bits (planOf layoutA) (suc b) ≡ 8 * 512
+  pub length-first : covered (planOf layoutA) 0 ≡ 4384
+  pub length-later : (b : ℕ) → covered (planOf layoutA) (suc b) ≡ 4304
+  pub start-last : start (planOf layoutA) 7 ≡ 30208
+  pub ends : used (planOf layoutA) ≡ 34512
+  pub no-tail : 8 * planOf layoutA .size ≡ 34512
+
+-- B: as A with PAGE_SIZE 4,313
+pub CaseB : Type 0
+CaseB =
+    acceptance (words 0x070A4080 0x10D94080)
+    ≡ answer.Refused (refusal.Rule (record { rule = Room; kind = Page; found = 34512; limit = 34504 }))
+
+-- one block, PAGE_SIZE 2,048; the fields of later blocks are anything
+unfoldable pub oneBlock : ℕ → ℕ → Field → ℕ → BlockFields → Layout
+oneBlock metadata ecc gf units later = record {
+  nblocks = 0;
+  metadata = metadata;
+  first = record { ecc = ecc; gf = gf; units = units };
+  page = 2048;
+  later = later;
+}
+
+-- C: m = 13, t = 40, 239 units of data
+pub record CaseC (later : BlockFields) : Type 0 where
+  pub longest : covered (planOf (oneBlock 2 20 Thirteen 239 later)) 0 ≡ 8184
+  pub accepted : findingOf (oneBlock 2 20 Thirteen 239 later) ≡ Kept
+  pub refused : findingOf (oneBlock 3 20 Thirteen 239 later) ≡ Broken (record { rule = Length; kind = First; found = 8192; limit = 8191 })
+
+-- D: m = 14, t = 40, 494 units of data
+pub record CaseD (later : BlockFields) : Type 0 where
+  pub longest : covered (planOf (oneBlock 1 20 Fourteen 494 later)) 0 ≡ 16376
+  pub accepted : findingOf (oneBlock 1 20 Fourteen 494 later) ≡ Kept
+  pub refused : findingOf (oneBlock 2 20 Fourteen 494 later) ≡ Broken (record { rule = Length; kind = First; found = 16384; limit = 16383 })
+
+unfoldable pub layoutE : Layout
+layoutE = record {
+  nblocks = 1;
+  metadata = 0;
+  first = record { ecc = 1; gf = Thirteen; units = 1 };
+  page = 15;
+  later = record { ecc = 1; gf = Thirteen; units = 1 };
+}
+
+-- E: two blocks of 58 bits, t = 2; block 1 starts in byte 7 at bit 5; four tail bits
+pub record CaseE : Type 0 where
+  pub accepted : acceptance (words 0x01000801 0x000F0801) ≡ answer.Accepted layoutE
+  pub blocks : planOf layoutE .blocks ≡ 2
+  pub length-first : covered (planOf layoutE) 0 ≡ 58
+  pub length-later : covered (planOf layoutE) 1 ≡ 58
+  pub level-first : level (planOf layoutE) 0 ≡ 2
+  pub level-later : level (planOf layoutE) 1 ≡ 2
+  pub start-byte : start (planOf layoutE) 1 / 8 ≡ 7
+  pub start-bit : 7 - start (planOf layoutE) 1 % 8 ≡ 5
+  pub tail : 8 * planOf layoutE .size - used (planOf layoutE) ≡ 4
+  pub first-bit : bitAnswer (words 0x01000801 0x000F0801) 0 ≡ bit.InBlock 0 57
+  pub before-start : bitAnswer (words 0x01000801 0x000F0801) 57 ≡ bit.InBlock 0 0
+  pub at-start : bitAnswer (words 0x01000801 0x000F0801) 58 ≡ bit.InBlock 1 57
+  pub last-bit : bitAnswer (words 0x01000801 0x000F0801) 115 ≡ bit.InBlock 1 0
+  pub first-tail : bitAnswer (words 0x01000801 0x000F0801) 116 ≡ bit.Tail
+  pub last-tail : bitAnswer (words 0x01000801 0x000F0801) 119 ≡ bit.Tail
+  pub past-page : bitAnswer (words 0x01000801 0x000F0801) 120 ≡ bit.Refused refusal.Range
+  pub flipped : positionAnswer (words 0x01000801 0x000F0801) 0 57 ≡ position.Position 0
+
+-- I: level field 0x15 with an empty block
+pub CaseI : Type 0
+CaseI = (gf : Field) (later : BlockFields) →
+    findingOf (oneBlock 0 21 gf 0 later) ≡ Broken (record { rule = Level; kind = First; found = 21; limit = 20 })
+
+-- K: metadata 0 or 1, DATA0_SIZE 0, any level field that is allowed
+pub record CaseK (ecc : ℕ) (gf : Field) (later : BlockFields) : Type 0 where
+  pub refused : findingOf (oneBlock 0 ecc gf 0 later) ≡ Broken (record { rule = Message; kind = First; found = 0; limit = 1 })
+  pub accepted : findingOf (oneBlock 1 ecc gf 0 later) ≡ Kept
+  pub message : bits (planOf (oneBlock 1 ecc gf 0 later)) 0 ≡ 8
+
+-- the table
+pub record LayoutCases : Type 0 where
+  pub a : CaseA
+  pub b : CaseB
+  pub c : (later : BlockFields) → CaseC later
+  pub d : (later : BlockFields) → CaseD later
+  pub e : CaseE
+  pub i : CaseI
+  pub k : (ecc : ℕ) (gf : Field) (later : BlockFields) → ecc ≤ 20 → CaseK ecc gf later
+
+cond-same : (t : Bool) → cond t false false ≡ false
+cond-same true = refl
+cond-same false = refl
+
+module _ (ecc : ℕ) (gf : Field) (later : BlockFields) (allowed : ecc ≤ 20) where
+  parity-small : degree gf * (2 * ecc) ≤ 560
+  parity-small = let p = product-le 14 40 {a = degree gf} {b = 2 * ecc} (degree-small gf) (omega arith) in omega arith
+
+  longest-large : 568 ≤ longest gf
+  unfolding longest
+  longest-large = go gf
+    where
+      go : (f : Field) → 568 ≤ longest f
+      go Thirteen = omega arith
+      go Fourteen = omega arith
+
+  case-k : CaseK ecc gf later
+  unfolding oneBlock shapeOf laterShape planOf coveredOf shape start used test levelRule messageRule lengthRule roomRule either ofBlocks findingOf
+  case-k =
+      let low = le-ltb 20 ecc allowed in
+      let short = le-ltb (longest gf) (8 + degree gf * (2 * ecc)) (omega (arith, parity-small, longest-large)) in
+      let fits = le-ltb 16384 (0 + (8 + degree gf * (2 * ecc))) (omega (arith, parity-small)) in
+      record { refused = simp low; accepted = simp (low, short, cond-same, fits); message = refl }
+
+pub layout-cases : LayoutCases
+unfolding CaseB CaseI words layoutA layoutE oneBlock fieldOf blockFields layoutAt layoutOf
+    shapeOf laterShape dataBytes planOf coveredOf shape start used degree longest
+    test levelRule messageRule lengthRule roomRule either ofBlocks findingOf judged acceptance
+    within blockBelow blockOf exponentAt positionAt located bitIn bitFor bitAnswer positionIn positionFor positionAnswer
+layout-cases = record {
+  a = record {
+    accepted = refl;
+    level-first = refl;
+    level-later = λ b. refl;
+    data-bytes = λ b. refl;
+    length-first = refl;
+    length-later = λ b. refl;
+    start-last = refl;
+    ends = refl;
+    no-tail = refl;
+  };
+  b = refl;
+  c = λ later. record { longest = refl; accepted = refl; refused = refl };
+  d = λ later. record { longest = refl; accepted = refl; refused = refl };
+  e = record {
+    accepted = refl;
+    blocks = refl;
+    length-first = refl;
+    length-later = refl;
+    level-first = refl;
+    level-later = refl;
+    start-byte = refl;
+    start-bit = refl;
+    tail = refl;
+    first-bit = refl;
+    before-start = refl;
+    at-start = refl;
+    last-bit = refl;
+    first-tail = refl;
+    last-tail = refl;
+    past-page = refl;
+    flipped = refl;
+  };
+  i = λ gf later. refl;
+  k = case-k;
+}

@@ -1,0 +1,7 @@
+-- Laws of layouts.
+pub mod Plans
+pub mod Reasons
+pub mod Accepting
+pub mod Placing
+pub mod Inverse
+pub mod Cases

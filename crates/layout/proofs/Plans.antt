@@ -1,0 +1,86 @@
+-- Laws of plans: how long blocks are and where they start.
+use mathlib.Core.Path.{_≡_, refl, sym}
+use mathlib.Core.Logic.{⊎-elim}
+use Prim.Native.Nat.{ℕ, zero, suc, _+_, _-_, _*_, _≤_, _<_}
+use native.Mathlib.Omega.{arith}
+use native.Mathlib.Nat.{suc-mul, zero-mul, mul-le-mul, eq-or-lt-of-le}
+use Rattle.field.specs.Field.{degree}
+use Rattle.field.specs.declared.Field.{Field}
+use Rattle.field.specs.declared.Field.the-variants.{Thirteen, Fourteen}
+use Rattle.layout.specs.declared.Shape.{Shape}
+use Rattle.layout.specs.declared.Plan.{Plan}
+use Rattle.layout.specs.Plan.{coveredOf, shape, covered, start, from}
+
+pub degree-small : (f : Field) → degree f ≤ 14
+unfolding degree
+degree-small Thirteen = omega arith
+degree-small Fourteen = omega arith
+
+-- a product of two bounded numbers
+pub product-le : (A B : ℕ) {a b : ℕ} → a ≤ A → b ≤ B → a * b ≤ A * B
+product-le A B h k = mul-le-mul h k
+
+pub covered-small : (s : Shape) → s .message < 4294967296 → s .level < 65536 → coveredOf s < 8589934592
+unfolding coveredOf
+covered-small s h k =
+    let d = product-le 14 65535 {a = degree (s .field)} {b = s .level} (degree-small (s .field)) (omega arith) in
+    omega arith
+
+module _ (q : Plan) where
+  -- the block after b starts where b ends
+  pub start-next : (b : ℕ) → start q (suc b) ≡ start q b + covered q b
+  unfolding start
+  start-next b = refl
+
+  pub start-zero : start q 0 ≡ 0
+  unfolding start
+  start-zero = refl
+
+  pub covered-zero : covered q 0 ≡ coveredOf (q .first)
+  unfolding shape
+  covered-zero = refl
+
+  pub covered-later : (b : ℕ) → covered q (suc b) ≡ coveredOf (q .later)
+  unfolding shape
+  covered-later b = refl
+
+  -- where a later block starts, by a product
+  pub start-later : (b : ℕ) → start q (suc b) ≡ coveredOf (q .first) + b * coveredOf (q .later)
+  unfolding start shape
+  start-later zero = omega (arith, zero-mul (coveredOf (q .later)))
+  start-later (suc b) = let r = start-later b in let e = suc-mul b (coveredOf (q .later)) in omega arith
+
+  -- the same of a block number as code has it
+  pub start-first : (b : ℕ) → b ≡ 0 → 0 ≡ start q b
+  start-first b h = rw h (sym start-zero)
+
+  pub start-product : (b : ℕ) → 0 < b → coveredOf (q .first) + (b - 1) * coveredOf (q .later) ≡ start q b
+  start-product zero h = absurd (omega arith)
+  start-product (suc b) h = let e : suc b - 1 ≡ b = omega arith in rw e (sym (start-later b))
+
+  pub shape-zero : (b : ℕ) → b ≡ 0 → q .first ≡ shape q b
+  unfolding shape
+  shape-zero b h = rw h
+
+  pub shape-later : (b : ℕ) → 0 < b → q .later ≡ shape q b
+  unfolding shape
+  shape-later zero h = absurd (omega arith)
+  shape-later (suc b) h = refl
+
+  -- blocks do not overlap
+  pub start-order : (b c : ℕ) → b < c → start q b + covered q b ≤ start q c
+  start-order b zero h = absurd (omega arith)
+  start-order b (suc c) h =
+      let e = start-next c in
+      ⊎-elim
+      (λ (p : b ≡ c). rw p (omega arith))
+      (λ (p : b < c). let r = start-order b c p in omega arith)
+      (eq-or-lt-of-le {n = b} {m = c} (omega arith))
+
+  pub start-up : (b c : ℕ) → b ≤ c → start q b ≤ start q c
+  start-up b c h = ⊎-elim (λ (p : b ≡ c). rw p (omega arith)) (λ (p : b < c). let r = start-order b c p in omega arith) (eq-or-lt-of-le h)
+
+  pub from-later : (n : ℕ) → from q (suc n) ≡ q .first .message + n * q .later .message
+  unfolding from shape
+  from-later zero = omega (arith, zero-mul (q .later .message))
+  from-later (suc n) = let r = from-later n in let e = suc-mul n (q .later .message) in omega arith

@@ -1,0 +1,237 @@
+-- A refused layout is refused for a true reason, and for the first one: smallest reply, block 0 before the later blocks.
+-- An accepted layout gives no reason.
+use mathlib.Core.Path.{_≡_, refl, sym, ap}
+use mathlib.Core.Logic.{_⊎_, inl, inr, ⊎-elim}
+use mathlib.Core.Bool.{Bool, true, false, cond}
+use Prim.Native.Nat.{ℕ, suc, _+_, _*_, _≤_, _<_}
+use native.Mathlib.Omega.{arith}
+use native.Mathlib.Nat.{eq-zero-or-pos}
+use lib.Dec.{eqb, ltb}
+use borrow.Author.Tests.{ltb-true, lt-ltb, eq-eqb, ne-eqb}
+use Rattle.field.specs.Field.{longest}
+use Rattle.layout.specs.declared.BlockFields.{BlockFields}
+use Rattle.layout.specs.declared.Layout.{Layout}
+use Rattle.layout.specs.declared.Plan.{Plan}
+use Rattle.layout.specs.declared.Shape.{Shape}
+use Rattle.layout.specs.declared.Rule.the-variants.{Level, Message, Length, Room}
+use Rattle.layout.specs.declared.Kind.{Kind}
+use Rattle.layout.specs.declared.Kind.the-variants.{First, Later, Page}
+use Rattle.layout.specs.declared.Reason.{Reason}
+use Rattle.layout.specs.declared.Finding.{Finding}
+use Rattle.layout.specs.declared.Finding.the-variants.{Kept, Broken}
+use Rattle.layout.specs.Plan.{planOf, coveredOf, used}
+use Rattle.layout.specs.Acceptance.{test, levelRule, messageRule, lengthRule, roomRule, either, ofBlocks, findingOf, ruleNumber}
+
+-- the reasons, with the two numbers compared
+unfoldable pub levelReason : Kind → BlockFields → Reason
+levelReason kind fields = record { rule = Level; kind = kind; found = fields .ecc; limit = 20 }
+
+unfoldable pub messageReason : Kind → Shape → Reason
+messageReason kind s = record { rule = Message; kind = kind; found = s .message; limit = 1 }
+
+unfoldable pub lengthReason : Kind → Shape → Reason
+lengthReason kind s = record { rule = Length; kind = kind; found = coveredOf s; limit = longest (s .field) }
+
+unfoldable pub roomReason : Plan → Reason
+roomReason q = record { rule = Room; kind = Page; found = used q; limit = 8 * q .size }
+
+-- r is a reason to refuse the layout l: what it names breaks its rule
+pub data Breaks (l : Layout) : Reason → Type 0 where
+  level-first : 20 < l .first .ecc → Breaks l (levelReason First (l .first))
+  level-later : 0 < l .nblocks → 20 < l .later .ecc → Breaks l (levelReason Later (l .later))
+  message-first : planOf l .first .message < 1 → Breaks l (messageReason First (planOf l .first))
+  message-later : 0 < l .nblocks → planOf l .later .message < 1 → Breaks l (messageReason Later (planOf l .later))
+  length-first : 0 < planOf l .first .level → longest (planOf l .first .field) < coveredOf (planOf l .first) →
+      Breaks l (lengthReason First (planOf l .first))
+  length-later : 0 < l .nblocks → 0 < planOf l .later .level → longest (planOf l .later .field) < coveredOf (planOf l .later) →
+      Breaks l (lengthReason Later (planOf l .later))
+  page-room : 8 * planOf l .size < used (planOf l) → Breaks l (roomReason (planOf l))
+
+-- the order of reasons: smallest reply first, block 0 before the later blocks
+unfoldable pub kindRank : Kind → ℕ
+kindRank First = 0
+kindRank Later = 1
+kindRank Page = 0
+
+unfoldable pub rank : Reason → ℕ
+rank r = 2 * ruleNumber (r .rule) + kindRank (r .kind)
+
+-- f is the first of the reasons P
+pub data Least (P : Reason → Type 0) : Finding → Type 0 where
+  none : ((r : Reason) → P r → ⊥) → Least P Kept
+  some : {r : Reason} → P r → ((s : Reason) → P s → (s ≡ r) ⊎ (rank r < rank s)) → Least P (Broken r)
+
+-- the same, where all reasons P have ranks from lo on and below hi
+record Decides (lo hi : ℕ) (P : Reason → Type 0) (f : Finding) : Type 0 where
+  low : (r : Reason) → P r → lo ≤ rank r
+  high : (r : Reason) → P r → rank r < hi
+  least : Least P f
+
+decide-test : (b : Bool) (r : Reason) {n : ℕ} {B : Type 0} → rank r ≡ n → (b ≡ true → B) → (B → b ≡ true) →
+    Decides n (suc n) (λ s. B × (s ≡ r)) (test b r)
+unfolding test
+decide-test true r e to from = record {
+  low = λ s h. rw (h .1) (omega arith);
+  high = λ s h. rw (h .1) (omega arith);
+  least = some (to refl, refl) (λ s h. inl (h .1));
+}
+decide-test false r e to from = record {
+  low = λ s h. rw (h .1) (omega arith);
+  high = λ s h. rw (h .1) (omega arith);
+  least = none (λ s h. let z : _≡_ {A = ℕ} 0 1 = cc (from (h .0)) in omega arith);
+}
+
+module _ {a b c : ℕ} {P Q : Reason → Type 0} (order : a ≤ b) (order' : b ≤ c) where
+  either-least : {f g : Finding} → ((r s : Reason) → P r → Q s → rank r < rank s) → Least P f → Least Q g →
+      Least (λ r. P r ⊎ Q r) (either f g)
+  unfolding either
+  either-least o (none p) (none q) = none (λ r h. ⊎-elim (p r) (q r) h)
+  either-least o (none p) (some h q) = some (inr h) (λ s x. ⊎-elim (λ (y : P s). absurd (p s y)) (q s) x)
+  either-least o (some {r} h p) q = some (inl h) (λ s x. ⊎-elim (p s) (λ (y : Q s). inr (o r s h y)) x)
+
+  decide-either : {f g : Finding} → Decides a b P f → Decides b c Q g → Decides a c (λ r. P r ⊎ Q r) (either f g)
+  decide-either p q = record {
+    low = λ r h. ⊎-elim (λ (x : P r). p .low r x) (λ (y : Q r). omega (arith, q .low r y)) h;
+    high = λ r h. ⊎-elim (λ (x : P r). omega (arith, p .high r x)) (λ (y : Q r). q .high r y) h;
+    least = either-least (λ r s x y. omega (arith, p .high r x, q .low s y)) (p .least) (q .least);
+  }
+
+least-map : {P Q : Reason → Type 0} {f : Finding} → ((r : Reason) → P r → Q r) → ((r : Reason) → Q r → P r) → Least P f → Least Q f
+least-map to from (none p) = none (λ r h. p r (from r h))
+least-map to from (some h p) = some (to _ h) (λ s x. p s (from s x))
+
+decide-map : {a b : ℕ} {P Q : Reason → Type 0} {f : Finding} → ((r : Reason) → P r → Q r) → ((r : Reason) → Q r → P r) →
+    Decides a b P f → Decides a b Q f
+decide-map to from d = record {
+  low = λ r h. d .low r (from r h);
+  high = λ r h. d .high r (from r h);
+  least = least-map to from (d .least);
+}
+
+decide-blocks : {a b c : ℕ} {P Q : Reason → Type 0} {f g : Finding} (n : ℕ) → a ≤ b → b ≤ c → Decides a b P f → Decides b c Q g →
+    Decides a c (λ r. P r ⊎ ((0 < n) × Q r)) (ofBlocks n f g)
+unfolding ofBlocks
+decide-blocks {P = P} {Q = Q} n x y p q =
+    ⊎-elim
+    (λ (e : n ≡ 0). simp (eq-eqb n 0 e)
+    (record {
+      low = λ r h. ⊎-elim (p .low r) (λ (k : (0 < n) × Q r). absurd (omega (arith, k .0))) h;
+      high = λ r h. ⊎-elim (λ (k : P r). omega (arith, p .high r k)) (λ (k : (0 < n) × Q r). absurd (omega (arith, k .0))) h;
+      least = least-map (λ r h. inl h) (λ r h. ⊎-elim (λ (k : P r). k) (λ (k : (0 < n) × Q r). absurd (omega (arith, k .0))) h) (p .least);
+    }))
+    (λ (h : 0 < n). simp (ne-eqb n 0 (λ e. omega arith))
+    (decide-map
+    (λ r k. ⊎-elim (λ (z : P r). inl z) (λ (z : Q r). inr (h, z)) k)
+    (λ r k. ⊎-elim (λ (z : P r). inl z) (λ (z : (0 < n) × Q r). inr (z .1)) k)
+    (decide-either x y p q)))
+    (eq-zero-or-pos n)
+
+decide-level : (kind : Kind) (fields : BlockFields) (n : ℕ) → 2 + kindRank kind ≡ n →
+    Decides n (suc n) (λ r. (20 < fields .ecc) × (r ≡ levelReason kind fields)) (levelRule kind fields)
+unfolding levelRule levelReason rank ruleNumber
+decide-level kind fields n e = decide-test _ _ e (λ h. ltb-true _ _ h) (λ h. lt-ltb _ _ h)
+
+decide-message : (kind : Kind) (s : Shape) (n : ℕ) → 4 + kindRank kind ≡ n →
+    Decides n (suc n) (λ r. (s .message < 1) × (r ≡ messageReason kind s)) (messageRule kind s)
+unfolding messageRule messageReason rank ruleNumber
+decide-message kind s n e = decide-test _ _ e (λ h. ltb-true _ _ h) (λ h. lt-ltb _ _ h)
+
+long-true : (t n m : ℕ) → cond (eqb t 0) false (ltb m n) ≡ true → (0 < t) × (m < n)
+long-true t n m h =
+    ⊎-elim
+    (λ (e : t ≡ 0). let z : false ≡ true = simp (eq-eqb t 0 e) at h in let y : _≡_ {A = ℕ} 0 1 = cc z in absurd (omega arith))
+    (λ (k : 0 < t). (k, ltb-true m n (simp (ne-eqb t 0 (λ e. omega arith)) at h)))
+    (eq-zero-or-pos t)
+
+true-long : (t n m : ℕ) → (0 < t) × (m < n) → cond (eqb t 0) false (ltb m n) ≡ true
+true-long t n m h = simp (ne-eqb t 0 (λ e. omega (arith, h .0)), lt-ltb m n (h .1))
+
+decide-length : (kind : Kind) (s : Shape) (n : ℕ) → 6 + kindRank kind ≡ n →
+    Decides n (suc n) (λ r. ((0 < s .level) × (longest (s .field) < coveredOf s)) × (r ≡ lengthReason kind s)) (lengthRule kind s)
+unfolding lengthRule lengthReason rank ruleNumber
+decide-length kind s n e = decide-test _ _ e (long-true _ _ _) (true-long _ _ _)
+
+decide-room : (q : Plan) → Decides 8 9 (λ r. (8 * q .size < used q) × (r ≡ roomReason q)) (roomRule q)
+unfolding roomRule roomReason rank ruleNumber kindRank
+decide-room q = decide-test _ _ refl (λ h. ltb-true _ _ h) (λ h. lt-ltb _ _ h)
+
+module _ (l : Layout) where
+  LevelBroken : Reason → Type 0
+  LevelBroken r =
+      ((20 < l .first .ecc) × (r ≡ levelReason First (l .first)))
+      ⊎ ((0 < l .nblocks) × ((20 < l .later .ecc) × (r ≡ levelReason Later (l .later))))
+
+  MessageBroken : Reason → Type 0
+  MessageBroken r =
+      ((planOf l .first .message < 1) × (r ≡ messageReason First (planOf l .first)))
+      ⊎ ((0 < l .nblocks) × ((planOf l .later .message < 1) × (r ≡ messageReason Later (planOf l .later))))
+
+  LengthBroken : Reason → Type 0
+  LengthBroken r =
+      (((0 < planOf l .first .level) × (longest (planOf l .first .field) < coveredOf (planOf l .first))) × (r ≡ lengthReason First (planOf l .first)))
+      ⊎ ((0 < l .nblocks)
+      × (((0 < planOf l .later .level) × (longest (planOf l .later .field) < coveredOf (planOf l .later))) × (r ≡ lengthReason Later (planOf l .later))))
+
+  RoomBroken : Reason → Type 0
+  RoomBroken r = (8 * planOf l .size < used (planOf l)) × (r ≡ roomReason (planOf l))
+
+  decide-finding : Decides 2 9 (λ r. LevelBroken r ⊎ (MessageBroken r ⊎ (LengthBroken r ⊎ RoomBroken r))) (findingOf l)
+  unfolding findingOf LevelBroken MessageBroken LengthBroken RoomBroken kindRank
+  decide-finding =
+      decide-either (omega arith) (omega arith)
+      (decide-blocks (l .nblocks) (omega arith) (omega arith) (decide-level First (l .first) 2 refl) (decide-level Later (l .later) 3 refl))
+      (decide-either (omega arith) (omega arith)
+      (decide-blocks (l .nblocks) (omega arith) (omega arith) (decide-message First (planOf l .first) 4 refl) (decide-message Later (planOf l .later) 5 refl))
+      (decide-either (omega arith) (omega arith)
+      (decide-blocks (l .nblocks) (omega arith) (omega arith) (decide-length First (planOf l .first) 6 refl) (decide-length Later (planOf l .later) 7 refl))
+      (decide-room (planOf l))))
+
+  All : Reason → Type 0
+  All r = LevelBroken r ⊎ (MessageBroken r ⊎ (LengthBroken r ⊎ RoomBroken r))
+
+  all-breaks : (r : Reason) → All r → Breaks l r
+  unfolding All LevelBroken MessageBroken LengthBroken RoomBroken
+  all-breaks r (inl (inl h)) = rw (h .1) (level-first (h .0))
+  all-breaks r (inl (inr h)) = rw (h .1 .1) (level-later (h .0) (h .1 .0))
+  all-breaks r (inr (inl (inl h))) = rw (h .1) (message-first (h .0))
+  all-breaks r (inr (inl (inr h))) = rw (h .1 .1) (message-later (h .0) (h .1 .0))
+  all-breaks r (inr (inr (inl (inl h)))) = rw (h .1) (length-first (h .0 .0) (h .0 .1))
+  all-breaks r (inr (inr (inl (inr h)))) = rw (h .1 .1) (length-later (h .0) (h .1 .0 .0) (h .1 .0 .1))
+  all-breaks r (inr (inr (inr h))) = rw (h .1) (page-room (h .0))
+
+  breaks-all : (r : Reason) → Breaks l r → All r
+  unfolding All LevelBroken MessageBroken LengthBroken RoomBroken
+  breaks-all r (level-first h) = inl (inl (h, refl))
+  breaks-all r (level-later n h) = inl (inr (n, (h, refl)))
+  breaks-all r (message-first h) = inr (inl (inl (h, refl)))
+  breaks-all r (message-later n h) = inr (inl (inr (n, (h, refl))))
+  breaks-all r (length-first t h) = inr (inr (inl (inl ((t, h), refl))))
+  breaks-all r (length-later n t h) = inr (inr (inl (inr (n, ((t, h), refl)))))
+  breaks-all r (page-room h) = inr (inr (inr (h, refl)))
+
+  -- The finding is the first of the reasons to refuse the layout.
+  pub finding-least : Least (Breaks l) (findingOf l)
+  unfolding All
+  finding-least = least-map all-breaks breaks-all (decide-finding .least)
+
+broken-injective : {r s : Reason} → Broken r ≡ Broken s → r ≡ s
+broken-injective e = cc
+
+-- A finding that is the first of the reasons P is given by them.
+module _ {P : Reason → Type 0} where
+  pub least-broken : {f : Finding} {r : Reason} → Least P f → f ≡ Broken r → P r
+  least-broken (none p) e = let z : _≡_ {A = ℕ} 0 1 = cc e in absurd (omega arith)
+  least-broken (some h p) e = rw (sym (broken-injective e)) h
+
+  pub least-kept : {f : Finding} → Least P f → f ≡ Kept → (r : Reason) → P r → ⊥
+  least-kept (none p) e r k = p r k
+  least-kept (some h p) e r k = let z : _≡_ {A = ℕ} 0 1 = cc e in omega arith
+
+  pub kept-least : {f : Finding} → Least P f → ((r : Reason) → P r → ⊥) → f ≡ Kept
+  kept-least (none p) h = refl
+  kept-least (some k p) h = absurd (h _ k)
+
+  pub broken-least : {f : Finding} {r : Reason} → Least P f → P r → ((s : Reason) → P s → rank r ≤ rank s) → f ≡ Broken r
+  broken-least (none p) k h = absurd (p _ k)
+  broken-least {r = r} (some {r = s} x p) k h =
+      ⊎-elim (λ (e : r ≡ s). ap Broken (sym e)) (λ (o : rank s < rank r). absurd (omega (arith, h s x))) (p r k)

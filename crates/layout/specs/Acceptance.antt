@@ -1,0 +1,88 @@
+-- Whether a layout is accepted, and the reason where it is not (document 01, "Replies", 1 to 4 and 6).
+--
+-- test broken r           the finding of one rule
+-- levelRule, messageRule, lengthRule, roomRule    what the rules of the replies 1, 2, 3 and 4 find
+-- either f g              the finding f, or g where f found nothing
+-- ofBlocks n f g          the finding f about block 0, then g about the n later blocks
+-- findingOf l             the first broken rule of a layout
+-- acceptance record       the answer to a layout record
+-- ruleNumber, refusalReply   document 01's number of a rule and of a refusal
+use Prim.Native.Nat.{ℕ, _+_, _*_}
+use mathlib.Core.List.{List}
+use mathlib.Core.Bool.{Bool, true, false, cond}
+use lib.ListN.{length}
+use lib.Dec.{eqb, ltb}
+use Rattle.field.specs.Field.{longest}
+use Rattle.layout.specs.declared.BlockFields.{BlockFields}
+use Rattle.layout.specs.declared.Layout.{Layout}
+use Rattle.layout.specs.declared.Shape.{Shape}
+use Rattle.layout.specs.declared.Plan.{Plan}
+use Rattle.layout.specs.declared.Rule.{Rule}
+use Rattle.layout.specs.declared.Rule.the-variants.{Level, Message, Length, Room}
+use Rattle.layout.specs.declared.Kind.{Kind}
+use Rattle.layout.specs.declared.Kind.the-variants.{First, Later, Page}
+use Rattle.layout.specs.declared.Reason.{Reason}
+use Rattle.layout.specs.declared.Finding.{Finding}
+use Rattle.layout.specs.declared.Finding.the-variants.{Kept, Broken}
+use Rattle.layout.specs.declared.Refusal.{Refusal}
+use Rattle.layout.specs.declared.Refusal.the-variants as refusal
+use Rattle.layout.specs.declared.Acceptance.{Acceptance}
+use Rattle.layout.specs.declared.Acceptance.the-variants.{Accepted, Refused}
+use Rattle.layout.specs.Record.{layoutOf}
+use Rattle.layout.specs.Plan.{planOf, coveredOf, used}
+
+unfoldable pub test : Bool → Reason → Finding
+test broken r = cond broken (Broken r) Kept
+
+-- 1: a level field above 0x14
+unfoldable pub levelRule : Kind → BlockFields → Finding
+levelRule kind fields = test (ltb 20 (fields .ecc)) (record { rule = Level; kind = kind; found = fields .ecc; limit = 20 })
+
+-- 2: an empty message
+unfoldable pub messageRule : Kind → Shape → Finding
+messageRule kind s = test (ltb (s .message) 1) (record { rule = Message; kind = kind; found = s .message; limit = 1 })
+
+-- 3: a block with t > 0 longer than 2^m - 1 bits
+unfoldable pub lengthRule : Kind → Shape → Finding
+lengthRule kind s =
+    test (cond (eqb (s .level) 0) false (ltb (longest (s .field)) (coveredOf s)))
+    (record { rule = Length; kind = kind; found = coveredOf s; limit = longest (s .field) })
+
+-- 4: the blocks need more than 8 times PAGE_SIZE bits
+unfoldable pub roomRule : Plan → Finding
+roomRule q = test (ltb (8 * q .size) (used q)) (record { rule = Room; kind = Page; found = used q; limit = 8 * q .size })
+
+unfoldable pub either : Finding → Finding → Finding
+either Kept g = g
+either (Broken r) g = Broken r
+
+-- Where NBLOCKS is 0 the fields of later blocks are not examined.
+unfoldable pub ofBlocks : ℕ → Finding → Finding → Finding
+ofBlocks n f g = cond (eqb n 0) f (either f g)
+
+-- The smallest number wins; of two kinds of block that break one rule, block 0 is named.
+unfoldable pub findingOf : Layout → Finding
+findingOf l =
+    either (ofBlocks (l .nblocks) (levelRule First (l .first)) (levelRule Later (l .later)))
+    (either (ofBlocks (l .nblocks) (messageRule First (planOf l .first)) (messageRule Later (planOf l .later)))
+    (either (ofBlocks (l .nblocks) (lengthRule First (planOf l .first)) (lengthRule Later (planOf l .later)))
+    (roomRule (planOf l))))
+
+unfoldable pub judged : Layout → Finding → Acceptance
+judged l Kept = Accepted l
+judged l (Broken r) = Refused (refusal.Rule r)
+
+-- A record of another length than eight is refused before anything is looked at.
+unfoldable pub acceptance : List ℕ → Acceptance
+acceptance rec = cond (eqb (length rec) 8) (judged (layoutOf rec) (findingOf (layoutOf rec))) (Refused refusal.RecordLength)
+
+unfoldable pub ruleNumber : Rule → ℕ
+ruleNumber Level = 1
+ruleNumber Message = 2
+ruleNumber Length = 3
+ruleNumber Room = 4
+
+unfoldable pub refusalReply : Refusal → ℕ
+refusalReply refusal.RecordLength = 6
+refusalReply (refusal.Rule r) = ruleNumber (r .rule)
+refusalReply refusal.Range = 7

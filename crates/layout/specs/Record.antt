@@ -1,0 +1,42 @@
+-- The fields of a layout record (document 01, "Layout words"): eight bytes, word 0 first, most significant byte and field first.
+--
+-- fieldOf bit             the field that a GF bit chooses
+-- blockFields high low    level field, GF and data size, from the low half of a word, whose bytes are `high` and `low`
+-- layoutAt b0 .. b7       the fields of eight bytes
+-- layoutOf record         the fields of a record of eight bytes
+use Prim.Native.Nat.{ℕ, _+_, _*_, _/_, _%_}
+use mathlib.Core.List.{List}
+use mathlib.Core.Bool.{cond}
+use lib.ListN.{getD}
+use lib.Dec.{eqb}
+use Rattle.field.specs.declared.Field.{Field}
+use Rattle.field.specs.declared.Field.the-variants.{Thirteen, Fourteen}
+use Rattle.layout.specs.declared.BlockFields.{BlockFields}
+use Rattle.layout.specs.declared.Layout.{Layout}
+
+-- GF: 0 is m = 13, 1 is m = 14
+unfoldable pub fieldOf : ℕ → Field
+fieldOf bit = cond (eqb bit 0) Thirteen Fourteen
+
+-- bits 15 to 11 are the level field, bit 10 is GF, bits 9 to 0 are the data size
+unfoldable pub blockFields : ℕ → ℕ → BlockFields
+blockFields high low = record {
+  ecc = high / 8;
+  gf = fieldOf (high / 4 % 2);
+  units = high % 4 * 256 + low;
+}
+
+-- bytes 0 to 3 are word 0, bytes 4 to 7 are word 1
+unfoldable pub layoutAt : ℕ → ℕ → ℕ → ℕ → ℕ → ℕ → ℕ → ℕ → Layout
+layoutAt b0 b1 b2 b3 b4 b5 b6 b7 = record {
+  nblocks = b0;
+  metadata = b1;
+  first = blockFields b2 b3;
+  page = b4 * 256 + b5;
+  later = blockFields b6 b7;
+}
+
+unfoldable pub layoutOf : List ℕ → Layout
+layoutOf rec =
+    layoutAt (getD rec 0 0) (getD rec 1 0) (getD rec 2 0) (getD rec 3 0)
+    (getD rec 4 0) (getD rec 5 0) (getD rec 6 0) (getD rec 7 0)

@@ -1,0 +1,153 @@
+// Layout words: what a page looks like, and whether it can look so (document 01, "Layout words", "Replies", "Bits").
+//
+//   check_layout     is this layout acceptable? The layout, or the reason why not
+//   locate_bit       where does a page bit belong? Block and exponent, or the tail
+//   bit_position     where does a code bit lie? Its position in the page
+//
+// Each takes the layout record as bytes of any length and asks nothing of its caller. The steps:
+// 1. fields.rt takes the eight bytes apart into the fields of document 01 (`Layout`).
+// 2. sums.rt works the sums out once: number of blocks, shape of block 0 and of a later block, lengths (`Plan`). Code and
+//    definitions above this crate know a plan and no layout words; block b starts where block b - 1 ends, at any bit.
+// 3. rules.rt looks for the first rule that the layout breaks (`Finding`), block 0 before the later blocks.
+// 4. places.rt finds the block of a position by one division; positions and exponents of a block run against each other.
+mod fields;
+mod places;
+mod rules;
+mod sums;
+
+use field::Field;
+pub use rules::refusal_reply;
+pub use rules::rule_number;
+pub use sums::block_covered;
+pub use sums::block_shape;
+pub use sums::block_start;
+pub use sums::covered;
+pub use sums::plan_of;
+ghost use mathlib.Core.Path.{_≡_};
+ghost use Rattle.layout.specs.Acceptance.{acceptance};
+ghost use Rattle.layout.specs.Bits.{bitAnswer, positionAnswer};
+
+// What a layout word stores of one kind of block: the level field, of which t is twice, the field choice, and the data in
+// units of 4 bytes. Document 01 calls them ECC0, GF and DATA0_SIZE in word 0, ECCN, GF and DATAN_SIZE in word 1.
+pub struct BlockFields {
+    pub ecc: u8,
+    pub gf: Field,
+    pub units: u16,
+}
+
+// The fields of the layout words: NBLOCKS, META_SIZE, those of block 0, PAGE_SIZE, those of the later blocks.
+pub struct Layout {
+    pub nblocks: u8,
+    pub metadata: u8,
+    pub first: BlockFields,
+    pub page: u16,
+    pub later: BlockFields,
+}
+
+// What a block is made of: message bits, and parity bits by field and level.
+pub struct Shape {
+    pub message: u32,
+    pub field: Field,
+    // t: how many flips the block's code corrects.
+    pub level: u16,
+}
+
+// What the layout words come to: how many blocks, how many bytes of page, metadata and data, and what a block is made of.
+// Block 0 has the shape `first`, every other block the shape `later`.
+pub struct Plan {
+    pub blocks: u16,
+    pub size: u16,
+    pub metadata: u8,
+    pub data: u32,
+    pub first: Shape,
+    pub later: Shape,
+}
+
+// The rules that a layout must keep, by their replies: 1, 2, 3 and 4.
+pub enum Rule {
+    Level,
+    Message,
+    Length,
+    Room,
+}
+
+// What breaks a rule: block 0, a later block, or the page.
+pub enum Kind {
+    First,
+    Later,
+    Page,
+}
+
+// Why a layout is refused: the rule, what breaks it, and the two numbers that were compared.
+pub struct Reason {
+    pub rule: Rule,
+    pub kind: Kind,
+    pub found: u64,
+    pub limit: u64,
+}
+
+// What looking at a rule finds.
+pub enum Finding {
+    Kept,
+    Broken(Reason),
+}
+
+// Why a call answers nothing: the record's length, a broken rule, a number out of its range.
+pub enum Refusal {
+    RecordLength,
+    Rule(Reason),
+    Range,
+}
+
+// The answer to a layout record.
+pub enum Acceptance {
+    Accepted(Layout),
+    Refused(Refusal),
+}
+
+// The answer to a page bit.
+pub enum BitAnswer {
+    InBlock { block: u64, exponent: u64 },
+    Tail,
+    Refused(Refusal),
+}
+
+// The answer to a code bit.
+pub enum PositionAnswer {
+    Position(u64),
+    Refused(Refusal),
+}
+
+// Is this layout acceptable?
+pub fn check_layout(words: &[u8]) -> Acceptance
+    ensures { λ r. ⌜ r ≡ acceptance (now (words .entry)) ⌝ }
+{
+    if words.len() != 8 {
+        return Acceptance::Refused(Refusal::RecordLength);
+    }
+    let layout = fields::layout_of(words);
+    match rules::finding_of(layout) {
+        Finding::Kept => Acceptance::Accepted(layout),
+        Finding::Broken(reason) => Acceptance::Refused(Refusal::Rule(reason)),
+    }
+}
+
+// Where does the page bit at `position` belong?
+pub fn locate_bit(words: &[u8], position: u64) -> BitAnswer
+    ensures { λ r. ⌜ r ≡ bitAnswer (now (words .entry)) position ⌝ }
+{
+    match check_layout(words) {
+        Acceptance::Accepted(layout) => places::bit_in(plan_of(layout), position),
+        Acceptance::Refused(refusal) => BitAnswer::Refused(refusal),
+    }
+}
+
+// Where does the coefficient of x^exponent of a block lie?
+pub fn bit_position(words: &[u8], block: u64, exponent: u64) -> PositionAnswer
+    ensures { λ r. ⌜ r ≡ positionAnswer (now (words .entry)) block exponent ⌝ }
+{
+    match check_layout(words) {
+        Acceptance::Accepted(layout) => places::position_in(plan_of(layout), block, exponent),
+        Acceptance::Refused(refusal) => PositionAnswer::Refused(refusal),
+    }
+}

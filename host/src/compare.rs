@@ -1,0 +1,193 @@
+//! Comparing a library with the model on seeded calls.
+
+use crate::call::Call;
+use crate::field::FieldChoice;
+use crate::guarded::GuardBroken;
+use crate::layout::{LayoutWords, check_layout};
+use crate::library::{Library, Model};
+use crate::random::Random;
+use crate::samples::layouts::{CASE_A, accepted_words, code_bits, positions, records};
+use crate::samples::pages::{WrittenPage, damage_tail, spoil};
+use crate::samples::remainders::{document_cases, random_remainder, spoilt, sums};
+
+/// A library beside the model.
+pub struct Comparison<'a> {
+    library: &'a dyn Library,
+    random: Random,
+    /// How many calls of each kind got each reply, in the order of the kinds of [`Call`].
+    pub replies: [[usize; 11]; 8],
+}
+
+/// A call in which the library and the model differ.
+#[derive(Debug)]
+pub struct Difference {
+    pub call: Call,
+    pub expected: (u64, Call),
+    pub found: Result<(u64, Call), GuardBroken>,
+}
+
+impl<'a> Comparison<'a> {
+    pub fn new(library: &'a dyn Library, seed: u64) -> Comparison<'a> {
+        Comparison {
+            library,
+            random: Random::new(seed),
+            replies: [[0; 11]; 8],
+        }
+    }
+
+    /// The number of calls compared.
+    pub fn calls(&self) -> usize {
+        self.replies.iter().flatten().sum()
+    }
+
+    /// One round of calls of every kind, some 9,000.
+    pub fn round(&mut self) -> Result<(), Box<Difference>> {
+        self.layouts()?;
+        self.remainders()?;
+        self.pages()
+    }
+
+    /// Performs a call with the library and with the model, and returns it as it is afterwards.
+    pub fn perform(&mut self, call: Call) -> Result<Call, Box<Difference>> {
+        let (mut expected, mut found) = (call.clone(), call.clone());
+        let expected_answer = expected.perform(&Model, &mut self.random).unwrap();
+        let found_answer = found.perform(self.library, &mut self.random);
+        if found_answer == Ok(expected_answer) && found == expected {
+            self.replies[expected.kind()][(expected_answer & 0xFF) as usize] += 1;
+            return Ok(found);
+        }
+        Err(Box::new(Difference {
+            call,
+            expected: (expected_answer, expected),
+            found: found_answer.map(|answer| (answer, found)),
+        }))
+    }
+
+    /// Performs a call with random content in its outputs.
+    fn perform_filled(&mut self, mut call: Call) -> Result<Call, Box<Difference>> {
+        call.fill_outputs(&mut self.random);
+        self.perform(call)
+    }
+
+    /// Layouts, and page bits in both directions.
+    pub fn layouts(&mut self) -> Result<(), Box<Difference>> {
+        for record in records(&mut self.random) {
+            self.perform(Call::CheckLayout {
+                record: record.clone(),
+            })?;
+            let (positions, code_bits) = match check_layout(&record) {
+                Ok(layout) => (
+                    positions(&layout, &mut self.random),
+                    code_bits(&layout, &mut self.random),
+                ),
+                Err(_) => (vec![0, u64::MAX], vec![(0, 0), (1, u64::MAX)]),
+            };
+            let first = self.random.below(4);
+            for position in positions.into_iter().skip(first).step_by(4) {
+                let record = record.clone();
+                self.perform(Call::LocateBit { record, position })?;
+            }
+            for (block, exponent) in code_bits.into_iter().skip(first).step_by(4) {
+                self.perform(Call::BitPosition {
+                    record: record.clone(),
+                    block,
+                    exponent,
+                })?;
+            }
+        }
+        Ok(())
+    }
+
+    /// Locating, at a few levels of both fields.
+    pub fn remainders(&mut self) -> Result<(), Box<Difference>> {
+        let mut samples = document_cases();
+        for choice in FieldChoice::ALL {
+            for _ in 0..3 {
+                let level_field = self.random.within(1, 0x14);
+                samples.extend(sums(choice, level_field, &mut self.random));
+                let small = self.random.within(1, 3);
+                for _ in 0..20 {
+                    samples.push(random_remainder(choice, small, &mut self.random));
+                }
+            }
+        }
+        samples.extend((0..200).map(|_| spoilt(&mut self.random)));
+        for sample in samples {
+            self.perform_filled(sample.into())?;
+        }
+        Ok(())
+    }
+
+    /// Pages of many layouts, most of them small.
+    pub fn pages(&mut self) -> Result<(), Box<Difference>> {
+        let mut layouts = Vec::new();
+        for most_page_bytes in [20, 40, 70, 120, 250, 600] {
+            layouts.extend((0..20).map(|_| accepted_words(&mut self.random, most_page_bytes)));
+        }
+        layouts.push(accepted_words(&mut self.random, 5000));
+        layouts.push(CASE_A);
+        layouts.push(edge_words(&mut self.random));
+        layouts.into_iter().try_for_each(|words| self.page(words))
+    }
+
+    /// Calls about one page: each by itself, some spoilt, then several on the same buffers.
+    fn page(&mut self, words: LayoutWords) -> Result<(), Box<Difference>> {
+        let written = WrittenPage::new(words, &mut self.random);
+        for call in written.calls(&mut self.random) {
+            let mut spoilt = call.clone();
+            self.perform_filled(call)?;
+            for _ in 0..self.random.within(1, 3) {
+                spoil(&mut spoilt, &mut self.random);
+            }
+            self.perform_filled(spoilt)?;
+        }
+        self.sequence(&written)
+    }
+
+    /// Writes a page, reads it damaged and then ruined into the same outputs, and writes what was
+    /// read over the ruined page.
+    fn sequence(&mut self, written: &WrittenPage) -> Result<(), Box<Difference>> {
+        self.perform_filled(written.write())?;
+        let damaged = written.damaged(&mut self.random);
+        let read = self.perform_filled(written.read(damaged))?;
+        let (mut ruined, block) = written.overdamaged(&mut self.random);
+        damage_tail(&mut ruined, &written.layout, &mut self.random);
+        self.perform(written.judge(ruined.clone(), block))?;
+        let reread = self.perform(with_page(read, &ruined))?;
+        if let Call::ReadPage {
+            record,
+            page,
+            metadata,
+            data,
+            ..
+        } = reread
+        {
+            self.perform(Call::WritePage {
+                record,
+                metadata,
+                data,
+                page,
+            })?;
+        }
+        Ok(())
+    }
+}
+
+/// Accepted words from the edges: the longest blocks, the most blocks, the largest pages.
+fn edge_words(random: &mut Random) -> LayoutWords {
+    let records = records(random);
+    loop {
+        let record = &records[random.below(records.len())];
+        if check_layout(record).is_ok() {
+            return LayoutWords::unpack(record.as_slice().try_into().unwrap());
+        }
+    }
+}
+
+/// A read call with the same outputs but another page.
+fn with_page(mut call: Call, other: &[u8]) -> Call {
+    if let Call::ReadPage { page, .. } = &mut call {
+        *page = other.to_vec();
+    }
+    call
+}

@@ -1,0 +1,108 @@
+//! The library as its C interface shows it, and the model in that form.
+
+use crate::layout::{BitPlace, bit_position, check_layout, locate_bit};
+use crate::locate::locate_errors;
+use crate::page::{check_claim, judge_block, read_page, write_page};
+use crate::reply::Refusal;
+
+/// The exported calls, on slices. Each answers one word: the reply in bits 0 to 7, its block in
+/// bits 8 to 23, a kind in bits 24 to 31 and a value in bits 32 to 63; kind and value are 0 on a
+/// refusal.
+pub trait Library {
+    fn check_layout(&self, record: &[u8]) -> u64;
+
+    /// Kind 0 is a covered bit, with the block times 2^16 plus the exponent; kind 1 is the tail.
+    fn locate_bit(&self, record: &[u8], position: u64) -> u64;
+
+    /// The value is the position.
+    fn bit_position(&self, record: &[u8], block: u64, exponent: u64) -> u64;
+
+    fn write_page(&self, record: &[u8], metadata: &[u8], data: &[u8], page: &mut [u8]) -> u64;
+
+    fn read_page(
+        &self,
+        record: &[u8],
+        page: &[u8],
+        metadata: &mut [u8],
+        data: &mut [u8],
+        counts: &mut [u8],
+    ) -> u64;
+
+    /// The value is the number of flips.
+    fn judge_block(&self, record: &[u8], page: &[u8], block: u64) -> u64;
+
+    /// The value is the number of exponents found.
+    fn locate_errors(
+        &self,
+        level_field: u64,
+        field_choice: u64,
+        n: u64,
+        remainder: &[u8],
+        places: &mut [u16],
+    ) -> u64;
+
+    fn check_claim(&self, record: &[u8], page: &[u8], block: u64, claims: &[u16]) -> u64;
+}
+
+/// The answer word of a call that is done with a kind and a value, or refused.
+fn answer(outcome: Result<(u8, usize), Refusal>) -> u64 {
+    match outcome {
+        Ok((kind, value)) => (kind as u64) << 24 | (value as u64) << 32,
+        Err(refusal) => refusal.number() as u64 | (refusal.block as u64) << 8,
+    }
+}
+
+/// The model of document 01.
+pub struct Model;
+
+impl Library for Model {
+    fn check_layout(&self, record: &[u8]) -> u64 {
+        answer(check_layout(record).map(|_| (0, 0)))
+    }
+
+    fn locate_bit(&self, record: &[u8], position: u64) -> u64 {
+        answer(locate_bit(record, position).map(|place| match place {
+            BitPlace::Covered { block, exponent } => (0, block << 16 | exponent),
+            BitPlace::Tail => (1, 0),
+        }))
+    }
+
+    fn bit_position(&self, record: &[u8], block: u64, exponent: u64) -> u64 {
+        answer(bit_position(record, block, exponent).map(|position| (0, position)))
+    }
+
+    fn write_page(&self, record: &[u8], metadata: &[u8], data: &[u8], page: &mut [u8]) -> u64 {
+        answer(write_page(record, metadata, data, page).map(|()| (0, 0)))
+    }
+
+    fn read_page(
+        &self,
+        record: &[u8],
+        page: &[u8],
+        metadata: &mut [u8],
+        data: &mut [u8],
+        counts: &mut [u8],
+    ) -> u64 {
+        answer(read_page(record, page, metadata, data, counts).map(|()| (0, 0)))
+    }
+
+    fn judge_block(&self, record: &[u8], page: &[u8], block: u64) -> u64 {
+        answer(judge_block(record, page, block).map(|flips| (0, flips)))
+    }
+
+    fn locate_errors(
+        &self,
+        level_field: u64,
+        field_choice: u64,
+        n: u64,
+        remainder: &[u8],
+        places: &mut [u16],
+    ) -> u64 {
+        let located = locate_errors(level_field, field_choice, n, remainder, places);
+        answer(located.map(|size| (0, size)))
+    }
+
+    fn check_claim(&self, record: &[u8], page: &[u8], block: u64, claims: &[u16]) -> u64 {
+        answer(check_claim(record, page, block, claims).map(|()| (0, 0)))
+    }
+}

@@ -1,0 +1,184 @@
+//! The comparison finds nothing against the model itself, provokes every reply, and finds faulty
+//! libraries out.
+
+use model::bits::flip;
+use model::check_layout;
+use model::compare::Comparison;
+use model::library::{Library, Model};
+
+/// The replies that each kind of call can give.
+const POSSIBLE: [&[usize]; 8] = [
+    &[0, 1, 2, 3, 4, 6],
+    &[0, 1, 2, 3, 4, 6, 7],
+    &[0, 1, 2, 3, 4, 6, 7],
+    &[0, 1, 2, 3, 4, 5, 6],
+    &[0, 1, 2, 3, 4, 5, 6, 9],
+    &[0, 1, 2, 3, 4, 5, 6, 7, 9],
+    &[0, 1, 2, 3, 6, 7, 8, 9],
+    &[0, 1, 2, 3, 4, 5, 6, 7, 10],
+];
+
+#[test]
+fn the_model_is_itself() {
+    let mut comparison = Comparison::new(&Model, 11);
+    for _ in 0..2 {
+        comparison.round().unwrap();
+    }
+    for (replies, possible) in comparison.replies.iter().zip(POSSIBLE) {
+        for (reply, &count) in replies.iter().enumerate() {
+            assert_eq!(
+                count > 0,
+                possible.contains(&reply),
+                "{:?}",
+                comparison.replies
+            );
+        }
+    }
+}
+
+/// One thing that a library does wrongly.
+#[derive(Clone, Copy, Debug, PartialEq)]
+enum Fault {
+    PositionCutShort,
+    BlockCutShort,
+    NothingWritten,
+    TailOfZeros,
+    EveryPageRefused,
+    PayloadOfZeros,
+    PayloadBeforeRefusal,
+    CountsOfBlock0Only,
+    RuinedBlockNotNamed,
+    FlipsOfJudgedBlockForgotten,
+    PlacesDescending,
+    PlacesAfterwardsCleared,
+    PlaceWrittenOnRefusal,
+    EqualClaimsAccepted,
+}
+
+/// The model with a fault.
+struct Faulty(Fault);
+
+const UNCORRECTABLE: u64 = 9;
+
+impl Library for Faulty {
+    fn check_layout(&self, record: &[u8]) -> u64 {
+        Model.check_layout(record)
+    }
+
+    fn locate_bit(&self, record: &[u8], position: u64) -> u64 {
+        match self.0 {
+            Fault::PositionCutShort => Model.locate_bit(record, position as u32 as u64),
+            _ => Model.locate_bit(record, position),
+        }
+    }
+
+    fn bit_position(&self, record: &[u8], block: u64, exponent: u64) -> u64 {
+        match self.0 {
+            Fault::BlockCutShort => Model.bit_position(record, block as u32 as u64, exponent),
+            _ => Model.bit_position(record, block, exponent),
+        }
+    }
+
+    fn write_page(&self, record: &[u8], metadata: &[u8], data: &[u8], page: &mut [u8]) -> u64 {
+        let held = page.to_vec();
+        let answer = Model.write_page(record, metadata, data, page);
+        match self.0 {
+            Fault::NothingWritten => page.copy_from_slice(&held),
+            Fault::TailOfZeros if answer == 0 => {
+                let used = check_layout(record).unwrap().used_bits();
+                (used..8 * page.len()).for_each(|position| flip(page, position));
+            }
+            _ => (),
+        }
+        answer
+    }
+
+    fn read_page(
+        &self,
+        record: &[u8],
+        page: &[u8],
+        metadata: &mut [u8],
+        data: &mut [u8],
+        counts: &mut [u8],
+    ) -> u64 {
+        let answer = Model.read_page(record, page, metadata, data, counts);
+        match (self.0, answer & 0xFF) {
+            (Fault::EveryPageRefused, 0) => return UNCORRECTABLE,
+            (Fault::PayloadOfZeros, 0) => data.fill(0),
+            (Fault::PayloadBeforeRefusal, UNCORRECTABLE) => metadata.fill(0),
+            (Fault::CountsOfBlock0Only, 0) => counts[1..].fill(0),
+            (Fault::RuinedBlockNotNamed, UNCORRECTABLE) => return UNCORRECTABLE,
+            _ => (),
+        }
+        answer
+    }
+
+    fn judge_block(&self, record: &[u8], page: &[u8], block: u64) -> u64 {
+        let answer = Model.judge_block(record, page, block);
+        match self.0 {
+            Fault::FlipsOfJudgedBlockForgotten => answer & 0xFFFF_FFFF,
+            _ => answer,
+        }
+    }
+
+    fn locate_errors(
+        &self,
+        level_field: u64,
+        field_choice: u64,
+        n: u64,
+        remainder: &[u8],
+        places: &mut [u16],
+    ) -> u64 {
+        let answer = Model.locate_errors(level_field, field_choice, n, remainder, places);
+        let size = (answer >> 32) as usize;
+        match (self.0, answer & 0xFF) {
+            (Fault::PlacesDescending, 0) => places[..size].reverse(),
+            (Fault::PlacesAfterwardsCleared, 0) => places[size..].fill(0),
+            (Fault::PlaceWrittenOnRefusal, UNCORRECTABLE) => places[0] ^= 1,
+            _ => (),
+        }
+        answer
+    }
+
+    fn check_claim(&self, record: &[u8], page: &[u8], block: u64, claims: &[u16]) -> u64 {
+        let mut claims = claims.to_vec();
+        if self.0 == Fault::EqualClaimsAccepted {
+            claims.sort();
+            claims.dedup();
+        }
+        Model.check_claim(record, page, block, &claims)
+    }
+}
+
+#[test]
+fn faulty_libraries_are_found_out() {
+    let layouts = [Fault::PositionCutShort, Fault::BlockCutShort];
+    let remainders = [
+        Fault::PlacesDescending,
+        Fault::PlacesAfterwardsCleared,
+        Fault::PlaceWrittenOnRefusal,
+    ];
+    let pages = [
+        Fault::NothingWritten,
+        Fault::TailOfZeros,
+        Fault::EveryPageRefused,
+        Fault::PayloadOfZeros,
+        Fault::PayloadBeforeRefusal,
+        Fault::CountsOfBlock0Only,
+        Fault::RuinedBlockNotNamed,
+        Fault::FlipsOfJudgedBlockForgotten,
+        Fault::EqualClaimsAccepted,
+    ];
+    for fault in layouts {
+        let found_out = Comparison::new(&Faulty(fault), 12).layouts().is_err();
+        assert!(found_out, "{fault:?}");
+    }
+    for fault in remainders {
+        let found_out = Comparison::new(&Faulty(fault), 12).remainders().is_err();
+        assert!(found_out, "{fault:?}");
+    }
+    for fault in pages {
+        let found_out = Comparison::new(&Faulty(fault), 12).pages().is_err();
+        assert!(found_out, "{fault:?}");
+    }
+}
