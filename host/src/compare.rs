@@ -6,7 +6,7 @@ use crate::guarded::GuardBroken;
 use crate::layout::{LayoutWords, check_layout};
 use crate::library::{Library, Model};
 use crate::random::Random;
-use crate::samples::layouts::{accepted_words, code_bits, positions, records};
+use crate::samples::layouts::{CASE_A, accepted_words, code_bits, positions, records};
 use crate::samples::pages::{WrittenPage, damage_tail, spoil};
 use crate::samples::remainders::{document_cases, random_remainder, spoilt, sums};
 
@@ -40,18 +40,11 @@ impl<'a> Comparison<'a> {
         self.replies.iter().flatten().sum()
     }
 
-    /// One round of calls of every kind; their number differs from round to round.
+    /// One round of calls of every kind, some 9,000.
     pub fn round(&mut self) -> Result<(), Box<Difference>> {
         self.layouts()?;
         self.remainders()?;
-        for most_page_bytes in [20, 40, 70, 120, 250, 600] {
-            for _ in 0..20 {
-                let words = accepted_words(&mut self.random, most_page_bytes);
-                self.page(words)?;
-            }
-        }
-        let words = accepted_words(&mut self.random, 5000);
-        self.page(words)
+        self.pages()
     }
 
     /// Performs a call with the library and with the model, and returns it as it is afterwards.
@@ -77,7 +70,7 @@ impl<'a> Comparison<'a> {
     }
 
     /// Layouts, and page bits in both directions.
-    fn layouts(&mut self) -> Result<(), Box<Difference>> {
+    pub fn layouts(&mut self) -> Result<(), Box<Difference>> {
         for record in records(&mut self.random) {
             self.perform(Call::CheckLayout {
                 record: record.clone(),
@@ -89,12 +82,12 @@ impl<'a> Comparison<'a> {
                 ),
                 Err(_) => (vec![0, u64::MAX], vec![(0, 0), (1, u64::MAX)]),
             };
-            let few = |random: &mut Random| random.below(4);
-            for position in positions.into_iter().skip(few(&mut self.random)).step_by(4) {
+            let first = self.random.below(4);
+            for position in positions.into_iter().skip(first).step_by(4) {
                 let record = record.clone();
                 self.perform(Call::LocateBit { record, position })?;
             }
-            for (block, exponent) in code_bits.into_iter().skip(few(&mut self.random)).step_by(4) {
+            for (block, exponent) in code_bits.into_iter().skip(first).step_by(4) {
                 self.perform(Call::BitPosition {
                     record: record.clone(),
                     block,
@@ -106,7 +99,7 @@ impl<'a> Comparison<'a> {
     }
 
     /// Locating, at a few levels of both fields.
-    fn remainders(&mut self) -> Result<(), Box<Difference>> {
+    pub fn remainders(&mut self) -> Result<(), Box<Difference>> {
         let mut samples = document_cases();
         for choice in FieldChoice::ALL {
             for _ in 0..3 {
@@ -123,6 +116,18 @@ impl<'a> Comparison<'a> {
             self.perform_filled(sample.into())?;
         }
         Ok(())
+    }
+
+    /// Pages of many layouts, most of them small.
+    pub fn pages(&mut self) -> Result<(), Box<Difference>> {
+        let mut layouts = Vec::new();
+        for most_page_bytes in [20, 40, 70, 120, 250, 600] {
+            layouts.extend((0..20).map(|_| accepted_words(&mut self.random, most_page_bytes)));
+        }
+        layouts.push(accepted_words(&mut self.random, 5000));
+        layouts.push(CASE_A);
+        layouts.push(edge_words(&mut self.random));
+        layouts.into_iter().try_for_each(|words| self.page(words))
     }
 
     /// Calls about one page: each by itself, some spoilt, then several on the same buffers.
@@ -165,6 +170,17 @@ impl<'a> Comparison<'a> {
             })?;
         }
         Ok(())
+    }
+}
+
+/// Accepted words from the edges: the longest blocks, the most blocks, the largest pages.
+fn edge_words(random: &mut Random) -> LayoutWords {
+    let records = records(random);
+    loop {
+        let record = &records[random.below(records.len())];
+        if check_layout(record).is_ok() {
+            return LayoutWords::unpack(record.as_slice().try_into().unwrap());
+        }
     }
 }
 

@@ -126,7 +126,7 @@ fn distance(left: &[bool], right: &[bool]) -> usize {
 fn short_codes_of_both_fields() {
     let mut random = Random::new(5);
     for choice in FieldChoice::ALL {
-        for (t, spare) in [(2, 1), (2, 30), (3, 1), (3, 12), (4, 1), (4, 4)] {
+        for (t, spare) in [(2, 1), (2, 30), (3, 1), (3, 12), (4, 1)] {
             let code = bch(choice, t);
             let n = code.parity_length() + spare;
             let all = AllSets::new(code, n);
@@ -209,8 +209,11 @@ fn search(code: &Code, syndromes: &[u16], n: usize) -> Option<Vec<usize>> {
             .iter()
             .fold(syndromes[0], |sum, &exponent| sum ^ power(exponent));
         let last = logarithm[rest as usize];
+        if last >= n || chosen.iter().any(|&exponent| exponent >= last) {
+            return None;
+        }
         let set = [chosen, &[last]].concat();
-        (last < n && chosen.iter().all(|&exponent| exponent < last) && fits(&set)).then_some(set)
+        fits(&set).then_some(set)
     };
     if let Some(set) = complete(&[]) {
         return Some(set);

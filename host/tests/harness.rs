@@ -152,9 +152,13 @@ impl Library for Faulty {
 
 #[test]
 fn faulty_libraries_are_found_out() {
-    for fault in [
-        Fault::PositionCutShort,
-        Fault::BlockCutShort,
+    let layouts = [Fault::PositionCutShort, Fault::BlockCutShort];
+    let remainders = [
+        Fault::PlacesDescending,
+        Fault::PlacesAfterwardsCleared,
+        Fault::PlaceWrittenOnRefusal,
+    ];
+    let pages = [
         Fault::NothingWritten,
         Fault::TailOfZeros,
         Fault::EveryPageRefused,
@@ -163,12 +167,18 @@ fn faulty_libraries_are_found_out() {
         Fault::CountsOfBlock0Only,
         Fault::RuinedBlockNotNamed,
         Fault::FlipsOfJudgedBlockForgotten,
-        Fault::PlacesDescending,
-        Fault::PlacesAfterwardsCleared,
-        Fault::PlaceWrittenOnRefusal,
         Fault::EqualClaimsAccepted,
-    ] {
-        let found_out = Comparison::new(&Faulty(fault), 12).round().is_err();
-        assert!(found_out, "{fault:?} passes");
+    ];
+    for fault in layouts {
+        let found_out = Comparison::new(&Faulty(fault), 12).layouts().is_err();
+        assert!(found_out, "{fault:?}");
+    }
+    for fault in remainders {
+        let found_out = Comparison::new(&Faulty(fault), 12).remainders().is_err();
+        assert!(found_out, "{fault:?}");
+    }
+    for fault in pages {
+        let found_out = Comparison::new(&Faulty(fault), 12).pages().is_err();
+        assert!(found_out, "{fault:?}");
     }
 }

@@ -6,24 +6,32 @@ use mathlib.Core.Bool.{Bool, true, false}
 use mathlib.Core.List.{_++_}
 use Prim.Native.Nat.{ℕ, zero, suc, _+_, _-_, _*_, _≤_, _<_}
 use native.Mathlib.Omega.{arith}
-use lib.ListN.{length, getD, length-append, List·getD-append}
+use native.Mathlib.Decide.{decLt}
+use lib.ListN.{length, getD, replicate, length-append, length-replicate, getD-replicate, List·getD-append, List·getD-eq-default}
 use lib.Seq.{getD-append-add}
 use lib.Bits.{bitXor}
 use Rattle.bits.specs.Bits.{digit}
 use Rattle.field.specs.declared.Field.{Field}
 use Rattle.field.specs.Field.{product, a^, longest}
+use Rattle.field.proofs.Multiply.{mul-zero-right}
+use Rattle.field.proofs.Primitive.{usable}
 use Rattle.field.proofs.Instance.{gf, a, el, el-same, el-nil, el-add, el-mul, el-pow, order, unit}
-use Rattle.algebra.specs.Field.{BinaryField}
 use Rattle.algebra.specs.Polynomial.{pow, horner}
-use Rattle.algebra.specs.Word.{bit, both, power-sum}
+use Rattle.algebra.specs.Word.{bit, power-sum}
 use Rattle.algebra.specs.Word as word
 use Rattle.algebra.proofs.Field.{mul-nil}
-use Rattle.algebra.proofs.Polynomial.{horner-zero, horner-suc, horner-cong, horner-append, horner-odd-zeros}
+use Rattle.algebra.proofs.Polynomial.{pow-add, horner-zero, horner-suc, horner-cong, horner-append, horner-square, horner-odd-zeros}
 use Rattle.algebra.proofs.Word.{power-sum-word}
 use Rattle.algebra.proofs.Word as words
 use Rattle.code.specs.Word.{Word, distance}
 use Rattle.code.specs.Code.{valueOf, value, Codeword, Fits, Near}
 use Rattle.code.proofs.Distance.{coefficient, coefficient-ext, count-distance, distance-comm, distance-triangle, distance-zero}
+
+pub zeros-at : (n i : ℕ) → getD (replicate n false) i false ≡ false
+zeros-at n i = elim (decLt i n) [
+  | yes h ↦ getD-replicate n i false false h
+  | no h ↦ List·getD-eq-default (replicate n false) false (rw (length-replicate n false) (omega arith))
+]
 
 module _ (f : Field) where
   unfoldable pub elements : Word → ℕ → gf f .carrier
@@ -40,14 +48,16 @@ module _ (f : Field) where
   el-value w y (suc n) =
       ap (el f) (horner-suc (gf f) _ y n) ∙ el-add f _ _ ∙ ap₂ bitXor (el-mul f _ _ ∙ ap (product f (el f y)) (el-value w y n)) (el-bit (getD w n false))
 
-  -- A value at a^j is 0 as a number exactly if it is 0 as an element.
-  pub value-element : (w : Word) (j : ℕ) → value f w (a^ f j) ≡ 0 → horner (gf f) (elements w) (pow (gf f) (a f) j) (length w) ≡ gf f .nil
+  -- A value at a^j as a number and as an element.
+  pub value-el : (w : Word) (j : ℕ) → value f w (a^ f j) ≡ el f (horner (gf f) (elements w) (pow (gf f) (a f) j) (length w))
   unfolding value
-  value-element w j e = el-same f _ _ (el-value w (pow (gf f) (a f) j) (length w) ∙ rw (el-pow f j) e ∙ sym (el-nil f))
+  value-el w j = rw (← el-pow f j) (sym (el-value w (pow (gf f) (a f) j) (length w)))
+
+  pub value-element : (w : Word) (j : ℕ) → value f w (a^ f j) ≡ 0 → horner (gf f) (elements w) (pow (gf f) (a f) j) (length w) ≡ gf f .nil
+  value-element w j e = el-same f _ _ (sym (value-el w j) ∙ e ∙ sym (el-nil f))
 
   pub element-value : (w : Word) (j : ℕ) → horner (gf f) (elements w) (pow (gf f) (a f) j) (length w) ≡ gf f .nil → value f w (a^ f j) ≡ 0
-  unfolding value
-  element-value w j e = rw (← el-pow f j) (sym (el-value w (pow (gf f) (a f) j) (length w)) ∙ ap (el f) e ∙ el-nil f)
+  element-value w j e = value-el w j ∙ ap (el f) e ∙ el-nil f
 
   -- The value of a word in two parts.
   pub value-append : (v w : Word) (y : gf f .carrier) (n : ℕ) → length w ≡ n
@@ -69,8 +79,26 @@ module _ (f : Field) where
       go true = unfold bit in gf f .mul-one _
       go false = unfold bit in mul-nil (gf f) _
 
+  pub value-square : (w : Word) (j : ℕ) → value f w (a^ f (j + j)) ≡ product f (value f w (a^ f j)) (value f w (a^ f j))
+  value-square w j =
+      value-el w (j + j) ∙ ap (el f) (rw (pow-add (gf f) (a f) j j) (horner-square (gf f) (elements w) (elements-square w) (pow (gf f) (a f) j) (length w)))
+      ∙ el-mul f _ _ ∙ sym (ap₂ (product f) (value-el w j) (value-el w j))
+
   pub codeword-odd : (t : ℕ) (w : Word) → ((i : ℕ) → i < t → horner (gf f) (elements w) (pow (gf f) (a f) (suc (i + i))) (length w) ≡ gf f .nil) → Codeword f t w
   codeword-odd t w h = record { zeros = λ j l m. element-value w j (horner-odd-zeros (gf f) (elements w) (elements-square w) (a f) (length w) t h j l (omega arith)) }
+
+  pub codeword-values : (t : ℕ) (w : Word) → ((i : ℕ) → i < t → value f w (a^ f (suc (i + i))) ≡ 0) → Codeword f t w
+  codeword-values t w h = codeword-odd t w (λ i l. value-element w (suc (i + i)) (h i l))
+
+  -- The word of zeros is a codeword of every level.
+  zeros-valueOf : (n y k : ℕ) → valueOf f (replicate n false) y k ≡ 0
+  unfolding valueOf digit
+  zeros-valueOf n y zero = refl
+  zeros-valueOf n y (suc k) = rw (zeros-valueOf n y k, mul-zero-right (usable f) y, zeros-at n k)
+
+  pub zeros-codeword : (t n : ℕ) → Codeword f t (replicate n false)
+  unfolding value
+  zeros-codeword t n = record { zeros = λ j l m. zeros-valueOf n _ _ }
 
   -- The syndromes of a word: its values at a, a^2, .. as sums over the exponents of its ones.
   pub power-sum-value : (w : Word) (j : ℕ) → power-sum (gf f) (a f) (coefficient w) (length w) j ≡ horner (gf f) (elements w) (pow (gf f) (a f) (suc j)) (length w)

@@ -5,13 +5,13 @@
 -- fresh n l         the numbers of the list l differ from each other and from the bits that n has
 -- differing g n     g 0, .., g (n - 1) differ
 use mathlib.Core.Path.{_≡_, refl, sym, ap, _∙_}
-use mathlib.Core.Bool.{Bool, true, false, _&&_, not}
+use mathlib.Core.Bool.{Bool, true, _&&_}
 use mathlib.Core.List.{List, [], _∷_}
-use Prim.Native.Nat.{ℕ, zero, suc, _+_, _-_, _*_, _/_, _%_, _^_, _≤_, _<_}
+use Prim.Native.Nat.{ℕ, zero, suc, _+_, _-_, _*_, _/_, _%_, _^_, _<_}
 use native.Mathlib.Omega.{arith}
 use native.Mathlib.Nat.{add-zero, div-add-mod', mod-lt, one-mul, add-mul}
 use native.Mathlib.Decide.{decLt}
-use lib.Pow.{pow-pos, shr-shr}
+use lib.Pow.{pow-pos}
 use lib.ListN.{length, getD}
 use lib.Dec.{T, eqb, eqb→eq}
 use Rattle.bits.specs.Bits.{bit, run}

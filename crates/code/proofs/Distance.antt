@@ -65,11 +65,11 @@ coefficient-ext v w l h = ext-getD false v w l (λ i k.
     let q : length v - suc (length w - suc i) ≡ i = omega arith in let r : length w - suc (length w - suc i) ≡ i = omega arith in
     rw (q, r) at (h (length w - suc i) (omega arith)))
 
-coefficient-tail : (x : Bool) (w : Word) (p : ℕ) → p < length w → coefficient (x ∷ w) p ≡ coefficient w p
+pub coefficient-tail : (x : Bool) (w : Word) (p : ℕ) → p < length w → coefficient (x ∷ w) p ≡ coefficient w p
 unfolding coefficient
 coefficient-tail x w p l = let e : suc (length w) - suc p ≡ suc (length w - suc p) = omega arith in rw e
 
-coefficient-head : (x : Bool) (w : Word) → coefficient (x ∷ w) (length w) ≡ x
+pub coefficient-head : (x : Bool) (w : Word) → coefficient (x ∷ w) (length w) ≡ x
 unfolding coefficient
 coefficient-head x w = let e : suc (length w) - suc (length w) ≡ 0 = omega arith in rw e
 

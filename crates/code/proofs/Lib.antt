@@ -11,4 +11,10 @@ pub mod Conjugates
 pub mod ConjugatesTest
 pub mod Generator
 pub mod Remainder
+pub mod Dividend
+pub mod Repair
+pub mod Flips
+pub mod Ascending
+pub mod Locations
+pub mod Unique
 pub mod Rows

@@ -5,9 +5,9 @@
 -- valueAt K n x y    the value at y of a polynomial x of degree below n
 use mathlib.Core.Path.{_≡_, refl, sym, ap, _∙_}
 use mathlib.Core.Bool.{Bool, true, false}
-use Prim.Native.Nat.{ℕ, zero, suc, _+_, _-_, _*_, _/_, _%_, _^_, _≤_, _<_}
+use Prim.Native.Nat.{ℕ, zero, suc, _+_, _*_, _/_, _%_, _^_, _≤_, _<_}
 use native.Mathlib.Omega.{arith}
-use native.Mathlib.Nat.{div-eq-of-lt, zero-mul, one-mul, add-zero, add-suc, pow-suc, lt-of-lt-of-le, div-one}
+use native.Mathlib.Nat.{div-eq-of-lt, zero-mul, one-mul, add-zero, add-suc, pow-suc, lt-of-lt-of-le}
 use lib.Pow.{shr-shr, pow-pos, pow-mono}
 use lib.ListN.{getD}
 use lib.Dec.{eqb}

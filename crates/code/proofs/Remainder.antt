@@ -1,36 +1,34 @@
 -- The remainder by the generator: a word is a codeword exactly if it is 0, a message followed by its parity is a codeword,
--- the values of a word at a, a^2, .. are those of its remainder, and the remainder is additive.
-use mathlib.Core.Path.{_≡_, refl, sym, ap, ap₂, _∙_}
+-- and the values of a word at a, a^2, .. are those of its remainder.
+use mathlib.Core.Path.{_≡_, refl, sym, ap, _∙_}
 use mathlib.Core.Bool.{Bool, true, false, cond}
 use mathlib.Core.List.{_++_}
-use Prim.Native.Nat.{ℕ, zero, suc, _+_, _-_, _*_, _/_, _%_, _^_, _≤_, _<_}
+use Prim.Native.Nat.{ℕ, zero, suc, _+_, _*_, _/_, _%_, _^_, _≤_, _<_}
 use native.Mathlib.Omega.{arith}
 use native.Mathlib.Nat.{pow-suc, div-lt-iff-lt-mul, one-mul}
 use lib.Pow.{pow-pos}
-use lib.ListN.{length, getD, replicate, length-append, length-replicate, getD-replicate}
+use lib.ListN.{length, getD, replicate, length-replicate, getD-replicate}
 use lib.Dec.{eqb}
-use lib.Bits.{bitXor, xor-shr, xor-self, xor-zero-l, xor-comm, xor-block}
+use lib.Bits.{bitXor, xor-shr}
 use Rattle.bits.specs.Bits.{bit, digit, digits}
-use Rattle.bits.proofs.Numbers.{digit-lt, digits-length, digits-at}
+use Rattle.bits.proofs.Numbers.{digit-lt, digits-length}
 use Rattle.field.specs.declared.Field.{Field}
 use Rattle.field.specs.declared.Field.the-variants.{Thirteen, Fourteen}
-use Rattle.field.specs.Field.{degree}
-use Rattle.field.proofs.Xor.{xor-assoc, xor-swap}
-use Rattle.field.proofs.Instance.{gf, a}
+use Rattle.field.specs.Field.{degree, a^}
+use Rattle.field.proofs.Instance.{gf, a, el}
 use Rattle.algebra.specs.Field.{BinaryField}
 use Rattle.algebra.specs.Series.{cons}
 use Rattle.algebra.specs.Polynomial.{pow, horner, low}
 use Rattle.algebra.specs.Remainder.{Zero, next, run}
-use Rattle.algebra.specs.Word.{flip, differ}
 use Rattle.algebra.specs.Word as word
 use Rattle.algebra.proofs.Field.{ring, add-nil-eq, one-mul as one-mul-of}
 use Rattle.algebra.proofs.Polynomial.{horner-zero, horner-suc, low-suc}
 use Rattle.algebra.proofs.Remainder.{run-value, zeros-run-nil}
 use Rattle.code.specs.Word.{Word}
-use Rattle.code.specs.Code.{Codeword}
+use Rattle.code.specs.Code.{Codeword, value}
 use Rattle.code.specs.Generator.{generator, remainderStep, remainderOf, remainder, parity}
-use Rattle.code.proofs.Codeword.{elements, value-element, value-append, codeword-odd}
-use Rattle.code.proofs.Polynomial.{oneAt, oneAt-xor, oneAt-next, oneAt-none, terms, terms-next, terms-xor, terms-high, low-cong, valueAt, valueAt-zero, digits-value}
+use Rattle.code.proofs.Codeword.{elements, value-el, value-element, value-append, codeword-odd}
+use Rattle.code.proofs.Polynomial.{oneAt, oneAt-next, oneAt-none, terms, terms-next, terms-xor, terms-high, low-cong, valueAt, valueAt-zero, digits-value}
 use Rattle.code.proofs.Conjugates.{exponent}
 use Rattle.code.proofs.Generator.{bit-off, generator-monic, generator-zero, generator-codeword, conjugate-zero, conjugates-distinct}
 
@@ -110,7 +108,8 @@ module _ (K : BinaryField) (e g : ℕ) where
       go (suc p) l h k = unfold cons in rw (h, k p (omega arith))
 
   -- At a zero of g the remainder has the word's value.
-  run-valueAt : (w : Word) (n : ℕ) (y : F) → Zero K e (terms K g) y → valueAt K (suc e) (remainderOf (suc e) g w n) y ≡ horner K (λ i. word.bit K (getD w i false)) y n
+  run-valueAt : (w : Word) (n : ℕ) (y : F) → Zero K e (terms K g) y
+      → valueAt K (suc e) (remainderOf (suc e) g w n) y ≡ horner K (λ i. word.bit K (getD w i false)) y n
   unfolding valueAt
   run-valueAt w n y z = low-cong K (suc e) _ _ y (λ p l. terms-run w n p (omega arith)) ∙ run-value K e (terms K g) _ n y z
 
@@ -165,7 +164,8 @@ module _ (f : Field) (t : ℕ) (h : t ≤ 62) (e : ℕ) (d : degree f * t ≡ su
       R : ℕ
       R = remainderOf (suc e) (generator f t) Z (length Z)
 
-      each : (y : gf f .carrier) → Zero (gf f) e (terms (gf f) (generator f t)) y → horner (gf f) (elements f (m ++ digits R (suc e))) y (length (m ++ digits R (suc e))) ≡ gf f .nil
+      each : (y : gf f .carrier) → Zero (gf f) e (terms (gf f) (generator f t)) y
+          → horner (gf f) (elements f (m ++ digits R (suc e))) y (length (m ++ digits R (suc e))) ≡ gf f .nil
       each y z =
           value-append f m (digits R (suc e)) y (suc e) (digits-length R (suc e))
           ∙ rw (
@@ -217,38 +217,11 @@ remainder-value f t w j h l m = go (degree f * t) refl
     go zero e = absurd (omega (arith, level-positive f t 0 (omega arith)))
     go (suc e) d = rw d (same-value f t h e d w j l m)
 
--- ---- additive
-
-xor-digit : (b c : Bool) → bitXor (digit b) (digit c) ≡ digit (differ b c)
-unfolding digit differ flip
-xor-digit true true = refl
-xor-digit true false = refl
-xor-digit false true = refl
-xor-digit false false = refl
-
-next-xor : (r s : ℕ) (b c : Bool) → bitXor r s * 2 + digit (differ b c) ≡ bitXor (r * 2 + digit b) (s * 2 + digit c)
-next-xor r s b c = sym (xor-block 1 r s (digit b) (digit c) (digit-lt b) (digit-lt c) ∙ ap (λ x. bitXor r s * 2 + x) (xor-digit b c))
-
-step-xor : (d g r s : ℕ) (b c : Bool) → remainderStep d g (bitXor r s) (differ b c) ≡ bitXor (remainderStep d g r b) (remainderStep d g s c)
-unfolding remainderStep
-step-xor d g r s b c =
-    rw (next-xor r s b c, oneAt-xor (r * 2 + digit b) (s * 2 + digit c) d) (go (r * 2 + digit b) (s * 2 + digit c) (oneAt (r * 2 + digit b) d) (oneAt (s * 2 + digit c) d))
-  where
-    go : (x y : ℕ) (u v : Bool) → cond (differ u v) (bitXor g (bitXor x y)) (bitXor x y) ≡ bitXor (cond u (bitXor g x) x) (cond v (bitXor g y) y)
-    go x y true true = unfold differ flip in (sym (xor-swap g x g y ∙ rw (xor-self g, xor-zero-l (bitXor x y))))
-    go x y true false = unfold differ flip in sym (xor-assoc g x y)
-    go x y false true = unfold differ flip in (sym (sym (xor-assoc x g y) ∙ rw (xor-comm x g) (xor-assoc g x y)))
-    go x y false false = unfold differ flip in refl
-
-pub remainderOf-xor : (d g : ℕ) (u v w : Word) (n : ℕ) → ((i : ℕ) → i < n → getD w i false ≡ differ (getD u i false) (getD v i false))
-    → remainderOf d g w n ≡ bitXor (remainderOf d g u n) (remainderOf d g v n)
-unfolding remainderOf
-remainderOf-xor d g u v w zero h = refl
-remainderOf-xor d g u v w (suc n) h =
-    rw (h n (omega arith), remainderOf-xor d g u v w n (λ i l. h i (omega arith))) (step-xor d g (remainderOf d g u n) (remainderOf d g v n) (getD u n false) (getD v n false))
-
--- Where w is the sum of u and v, place by place.
-pub remainder-xor : (f : Field) (t : ℕ) (u v w : Word) → length u ≡ length w → length v ≡ length w
-    → ((i : ℕ) → i < length w → getD w i false ≡ differ (getD u i false) (getD v i false)) → remainder f t w ≡ bitXor (remainder f t u) (remainder f t v)
-unfolding remainder
-remainder-xor f t u v w k l h = rw (k, l) (remainderOf-xor (degree f * t) (generator f t) u v w (length w) h)
+-- The same of numbers.
+pub remainder-syndrome : (f : Field) (t : ℕ) (w : Word) (j : ℕ) → t ≤ 62 → 0 < j → j ≤ 2 * t
+    → value f (digits (remainder f t w) (degree f * t)) (a^ f j) ≡ value f w (a^ f j)
+unfolding elements
+remainder-syndrome f t w j h l m =
+    value-el f (digits (remainder f t w) (degree f * t)) j
+    ∙ ap (el f) (rw (digits-length (remainder f t w) (degree f * t)) (digits-value (gf f) (degree f * t) (remainder f t w) _ ∙ remainder-value f t w j h l m))
+    ∙ sym (value-el f w j)

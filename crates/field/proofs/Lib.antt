@@ -1,5 +1,6 @@
 -- The laws of the fields.
 pub mod Chosen
+pub mod Test
 pub mod Xor
 pub mod Additive
 pub mod Multiply

@@ -1,7 +1,7 @@
 -- The order of a, once over m: where the powers of a = 2 come back to 1 after 2^m - 1 steps and not before, they are all elements but 0.
 -- `primitive` makes this of a walk over the powers that the checker computes.
 use mathlib.Core.Path.{_≡_, refl, sym, ap, _∙_, subst}
-use mathlib.Core.Bool.{Bool, true, false, not}
+use mathlib.Core.Bool.{Bool, not}
 use mathlib.Core.Logic.{_≢_}
 use Prim.Native.Nat.{ℕ, zero, suc, pred, _+_, _-_, _*_, _/_, _^_, _<_}
 use native.Mathlib.Nat.{add-comm, suc-mul, pos-of-ne-zero, suc-pred-eq-of-pos, one-mul, mul-comm as times-comm}
@@ -10,6 +10,7 @@ use native.Mathlib.Omega.{arith}
 use lib.Arith.{digits-div}
 use lib.Dec.{T, T-not, eqb, eqb→eq, eqb-refl}
 use Rattle.field.specs.Field.{mulX, mul, pow, Usable}
+use Rattle.field.proofs.Test.{both, both-left, both-right}
 use Rattle.field.proofs.Multiply.{shifted, shifted-inside, mulX-small, mulX-below, two-below, mul-one-left, mul-zero-left, mul-zero-right, mul-comm, mul-assoc}
 use Rattle.field.proofs.Exponents.{pow-below, pow-add, pow-of-one, pow-of-power, pow-shifted}
 use Rattle.field.proofs.Fast.{fastX, fastX-mulX}
@@ -23,18 +24,6 @@ pub record Primitive (m P N : ℕ) : Type 0 where
   pub fresh : (k : ℕ) → zero < k → k < N → pow m P 2 k ≡ 1 → ⊥
 
 -- ---- the walk
-
-abbrev pub both : Bool → Bool → Bool
-both true b = b
-both false b = false
-
-pub both-left : (a b : Bool) → T (both a b) → T a
-both-left true b t = tt
-both-left false b t = t
-
-pub both-right : (a b : Bool) → T (both a b) → T b
-both-right true b t = t
-both-right false b t = absurd t
 
 -- x and what comes of it by the step s, k numbers in all, are not 1, and the next is
 unfoldable pub walk : (ℕ → ℕ) → ℕ → ℕ → Bool

@@ -1,2 +1,3 @@
 pub mod Words
 pub mod Fold
+pub mod Bytes

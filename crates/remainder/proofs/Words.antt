@@ -5,12 +5,12 @@ use Prim.Native.Nat.{ℕ, zero, suc, _+_, _-_, _*_, _/_, _%_, _^_, _<_, _≤_}
 use native.Mathlib.Omega.{arith}
 use native.Mathlib.Numerals.{add-one}
 use native.Mathlib.Decide.{decLt}
-use native.Mathlib.Nat.{add-zero, add-comm, le-refl, mul-le-mul-right, div-eq-of-lt, div-lt-iff-lt-mul, pow-suc}
+use native.Mathlib.Nat.{add-zero, add-comm, le-refl, mul-le-mul-right, div-eq-of-lt, div-lt-iff-lt-mul, pow-suc, mod-lt, mul-le-mul-left, mul-mod-left}
 use mir.Syntax.{w64}
 use mir.Val.{Fits}
 use lib.ListN.{length, getD, set}
 use lib.Seq.{getD-set-same, getD-set-other}
-use lib.Pow.{pow-pos, pow-add, pow-mono}
+use lib.Pow.{split, mod-pow-add, shr-lt, shr-shr, shl-shr, pow-pos, pow-add, pow-mono}
 use lib.Arith.{digits-lt}
 use lib.Bits.{bitXor, xor-block}
 use Rattle.bits.specs.Bits.{bit}
@@ -149,28 +149,55 @@ pub register-bit : (ws : List ℕ) → Words ws → (p : ℕ) → p < 64 * lengt
 unfolding register
 register-bit ws h p l = low-bit ws h (length ws) p l
 
--- what the loops over words do, one word at a time: doubling with a carry, and exclusive or
+-- what the loops over words do, one word at a time: a shift with a carry, and exclusive or
 
-pub double-next : (ws vs : List ℕ) (i c b : ℕ) → i < length ws → low ws i + c * 2 ^ (64 * i) ≡ low vs i * 2 + b → getD ws i 0 ≡ getD vs i 0
-    → low (set ws i (getD ws i 0 % 9223372036854775808 * 2 + c)) (i + 1) + getD ws i 0 / 9223372036854775808 * 2 ^ (64 * (i + 1)) ≡ low vs (i + 1) * 2 + b
-double-next ws vs i c b h inv e =
-    let w : ℕ = getD ws i 0 in
-    let P : ℕ = 2 ^ (64 * i) in
-    let d : w % 9223372036854775808 * 2 + c + w / 9223372036854775808 * 18446744073709551616 ≡ w * 2 + c = omega arith in
-    let dP : (w % 9223372036854775808 * 2 + c + w / 9223372036854775808 * 18446744073709551616) * P ≡ (w * 2 + c) * P = ap (λ (x : ℕ). x * P) d in
-    let s = low-store ws i (w % 9223372036854775808 * 2 + c) h in
-    let n : low vs (i + 1) ≡ w * P + low vs i = low-next vs i ∙ ap (λ (x : ℕ). x * P + low vs i) (sym e) in
-    let q : w / 9223372036854775808 * 2 ^ (64 * (i + 1)) ≡ w / 9223372036854775808 * (18446744073709551616 * P) = ap (λ (x : ℕ). w / 9223372036854775808 * x) (next-power i) in
+-- a word times 2^k, in two words
+shift-word : (w k : ℕ) → k ≤ 64 → w * 2 ^ k % 18446744073709551616 + w / 2 ^ (64 - k) * 18446744073709551616 ≡ w * 2 ^ k
+shift-word w k l =
+    let e : k + (64 - k) ≡ 64 = omega arith in
+    let q : w * 2 ^ k / 18446744073709551616 ≡ w / 2 ^ (64 - k) =
+    ap (λ (n : ℕ). w * 2 ^ k / 2 ^ n) (sym e) ∙ sym (shr-shr (w * 2 ^ k) k (64 - k)) ∙ ap (λ (n : ℕ). n / 2 ^ (64 - k)) (shl-shr w k) in
+    let s = split (w * 2 ^ k) 64 in
+    rw (← q) (omega arith)
+
+pub shift-fits : (w k c : ℕ) → k ≤ 64 → c < 2 ^ k → w * 2 ^ k % 18446744073709551616 + c < 18446744073709551616
+shift-fits w k c l h =
+    let e : 64 - k + k ≡ 64 = omega arith in
+    let p : 2 ^ (64 - k) * 2 ^ k ≡ 18446744073709551616 = sym (pow-add 2 (64 - k) k) ∙ ap (λ (n : ℕ). 2 ^ n) e in
+    let m : w * 2 ^ k % 18446744073709551616 ≡ w % 2 ^ (64 - k) * 2 ^ k + 0 =
+    ap (λ (n : ℕ). w * 2 ^ k % 2 ^ n) (sym e) ∙ mod-pow-add (w * 2 ^ k) (64 - k) k
+    ∙ ap₂ (λ (x y : ℕ). x % 2 ^ (64 - k) * 2 ^ k + y) (shl-shr w k) (mul-mod-left w (2 ^ k)) in
+    let d = digits-lt (mod-lt w (pow-pos (64 - k))) h in
     omega arith
 
-pub double-end : (ws vs : List ℕ) (n c b : ℕ) → n ≤ length vs → length ws ≡ length vs → low ws n + c * 2 ^ (64 * n) ≡ low vs n * 2 + b
-    → ((k : ℕ) → n ≤ k → getD ws k 0 ≡ getD vs k 0) → register vs * 2 + b < 2 ^ (64 * n) → register ws ≡ register vs * 2 + b
+pub carry-below : (w k : ℕ) → k ≤ 64 → w < 18446744073709551616 → w / 2 ^ (64 - k) < 2 ^ k
+carry-below w k l h = let e : k + (64 - k) ≡ 64 = omega arith in shr-lt k (64 - k) (rw e h)
+
+pub shift-next : (ws vs : List ℕ) (i k c b : ℕ) → k ≤ 64 → i < length ws → low ws i + c * 2 ^ (64 * i) ≡ low vs i * 2 ^ k + b → getD ws i 0 ≡ getD vs i 0
+    → low (set ws i (getD ws i 0 * 2 ^ k % 18446744073709551616 + c)) (i + 1) + getD ws i 0 / 2 ^ (64 - k) * 2 ^ (64 * (i + 1)) ≡ low vs (i + 1) * 2 ^ k + b
+shift-next ws vs i k c b l h inv e =
+    let w : ℕ = getD ws i 0 in
+    let P : ℕ = 2 ^ (64 * i) in
+    let K : ℕ = 2 ^ k in
+    let u : ℕ = w * K % 18446744073709551616 in
+    let v : ℕ = w / 2 ^ (64 - k) in
+    let d : (u + v * 18446744073709551616) * P ≡ w * K * P = ap (λ (x : ℕ). x * P) (shift-word w k l) in
+    let s : low (set ws i (u + c)) (i + 1) ≡ (u + c) * P + low ws i = low-store ws i (u + c) h in
+    let n : low vs (i + 1) ≡ w * P + low vs i = low-next vs i ∙ ap (λ (x : ℕ). x * P + low vs i) (sym e) in
+    let q : v * 2 ^ (64 * (i + 1)) ≡ v * (18446744073709551616 * P) = ap (λ (x : ℕ). v * x) (next-power i) in
+    let g : low vs (i + 1) * K ≡ (w * P + low vs i) * K = ap (λ (x : ℕ). x * K) n in
+    omega arith
+
+pub shift-end : (ws vs : List ℕ) (n k c b : ℕ) → n ≤ length vs → length ws ≡ length vs → low ws n + c * 2 ^ (64 * n) ≡ low vs n * 2 ^ k + b
+    → ((j : ℕ) → n ≤ j → getD ws j 0 ≡ getD vs j 0) → register vs * 2 ^ k + b < 2 ^ (64 * n) → register ws ≡ register vs * 2 ^ k + b
 unfolding register
-double-end ws vs n c b l es inv above h =
+shift-end ws vs n k c b l es inv above h =
     let e : length vs ≡ n + (length vs - n) = omega arith in
+    let p : register vs * 1 ≤ register vs * 2 ^ k = mul-le-mul-left (register vs) (pow-pos k) in
     let s : low vs (length vs) ≡ low vs n = register-short vs n l (omega arith) in
+    let m : low vs (length vs) * 2 ^ k ≡ low vs n * 2 ^ k = ap (λ (x : ℕ). x * 2 ^ k) s in
     let z : c ≡ 0 = no-carry c (2 ^ (64 * n)) (low ws n) (omega arith) in
-    let y : c * 2 ^ (64 * n) ≡ 0 = ap (λ (k : ℕ). k * 2 ^ (64 * n)) z ∙ omega arith in
+    let y : c * 2 ^ (64 * n) ≡ 0 = ap (λ (x : ℕ). x * 2 ^ (64 * n)) z ∙ omega arith in
     let a : low ws (length vs) + low vs n ≡ low vs (length vs) + low ws n = rw e (low-above ws vs n above (length vs - n)) in
     rw es (omega arith)
 

@@ -3,14 +3,19 @@
 --
 -- remainderFrom d g r w    the remainder by g of degree d, from the remainder r on, after the coefficients w
 -- Divisor d g              g is monic of degree d, and d is within the room of a register
--- numberOf bytes           the number that bytes write, the highest byte first
--- bytesOf n x              the n bytes that write the lowest 8n digits of x, the highest byte first
+-- Row f t words            the words hold the generator of the level t
+-- numberOf l               the number whose binary digits are the bits of the bytes l
+-- bytesOf n x              the n bytes whose bits are the lowest 8n binary digits of x
 use mathlib.Core.Path.{_≡_}
+use mathlib.Core.Bool.{false}
 use mathlib.Core.List.{List, [], _∷_}
-use Prim.Native.Nat.{ℕ, zero, suc, _+_, _*_, _/_, _%_, _^_, _<_}
-use lib.ListN.{length}
+use Prim.Native.Nat.{ℕ, _*_, _/_, _^_, _<_, _≤_}
+use lib.ListN.{length, getD}
+use Rattle.bits.specs.Bits.{bitOf, run, number, digits, bytes}
+use Rattle.field.specs.declared.Field.{Field}
 use Rattle.code.specs.Word.{Word}
-use Rattle.code.specs.Generator.{remainderStep}
+use Rattle.code.specs.Generator.{generator, remainderStep}
+use Rattle.code.specs.Register.{register}
 
 -- One step of the division for each bit of the word, the first bit first.
 unfoldable pub remainderFrom : ℕ → ℕ → ℕ → Word → ℕ
@@ -22,11 +27,14 @@ pub record Divisor (d g : ℕ) : Type 0 where
   pub room : d < 896
   pub monic : g / 2 ^ d ≡ 1
 
--- A remainder handed in: the highest coefficient first, the lowest one in the last byte's bit 0.
+-- The rows of generators are stated for t up to 62.
+pub record Row (f : Field) (t : ℕ) (words : List ℕ) : Type 0 where
+  pub level : t ≤ 62
+  pub generates : register words ≡ generator f t
+
+-- A remainder handed in as bytes: the highest coefficient first, and the lowest one in the last bit of the last byte.
 unfoldable pub numberOf : List ℕ → ℕ
-numberOf [] = 0
-numberOf (b ∷ bytes) = b * 2 ^ (8 * length bytes) + numberOf bytes
+numberOf l = number (run (bitOf l) 0 (8 * length l))
 
 unfoldable pub bytesOf : ℕ → ℕ → List ℕ
-bytesOf zero x = []
-bytesOf (suc n) x = x / 2 ^ (8 * n) % 256 ∷ bytesOf n x
+bytesOf n x = bytes (λ p. getD (digits x (8 * n)) p false) n

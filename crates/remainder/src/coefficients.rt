@@ -47,12 +47,12 @@ pub fn is_below(state: Register, degree: usize) -> bool
     if words[k] >> (degree % 64) != 0 {
         return false;
     }
-    let mut i = k + 1;
-    while i < 14 {
-        if words[i] != 0 {
+    let mut j = k + 1;
+    while j < 14 {
+        if words[j] != 0 {
             return false;
         }
-        i += 1;
+        j += 1;
     }
     true
 }

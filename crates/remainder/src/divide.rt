@@ -9,18 +9,18 @@ ghost use Rattle.remainder.specs.Remainder.{Divisor};
 use crate::Register;
 use crate::coefficients::coefficient;
 
-// The number in the first words of a register, doubled, with b as its lowest digit.
-fn doubled(state: Register, used: usize, b: u64) -> Register
-    requires { ⌜ (used ≤ 14) × (b < 2) × (register (state .words) * 2 + b < 2 ^ (64 * used)) ⌝ }
-    ensures { λ r. ⌜ register (r .words) ≡ register (state .words) * 2 + b ⌝ }
+// Internal: the number in the first words of a register times 2^k, with `lowest` as its k lowest digits.
+pub fn shifted(state: Register, used: usize, k: usize, lowest: u64) -> Register
+    requires { ⌜ (used ≤ 14) × (0 < k) × (k < 64) × (lowest < 2 ^ k) × (register (state .words) * 2 ^ k + lowest < 2 ^ (64 * used)) ⌝ }
+    ensures { λ r. ⌜ register (r .words) ≡ register (state .words) * 2 ^ k + lowest ⌝ }
 {
     let mut words = state.words;
-    let mut carry = b;
+    let mut carry = lowest;
     let mut i = 0;
     while i < used {
         let w = words[i];
-        words[i] = w % 9223372036854775808 * 2 + carry;
-        carry = w / 9223372036854775808;
+        words[i] = (w << k) + carry;
+        carry = w >> (64 - k);
         i += 1;
     }
     Register { words: words }
@@ -46,7 +46,7 @@ pub fn step(state: Register, row: [u64; 14], degree: usize, b: u64) -> Register
     ensures { λ r. ⌜ register (r .words) ≡ remainderStep degree (register row) (register (state .words)) (eqb b 1) ⌝ }
 {
     let used = degree / 64 + 1;
-    let next = doubled(state, used, b);
+    let next = shifted(state, used, 1, b);
     if coefficient(next, degree) == 1 {
         return added(next, row, used);
     }

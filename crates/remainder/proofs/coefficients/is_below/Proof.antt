@@ -11,10 +11,10 @@ use Rattle.remainder.proofs.coefficients.is_below.Statement.{statement}
 use Rattle.remainder.proofs.coefficients.is_below.Tie as tie
 
 abbrev Inv-loop : tie.InvT-loop
-Inv-loop degree words k i₀ i = (degree < 64 * i) × (i ≤ 14) × (low words i < 2 ^ degree)
+Inv-loop degree words k j₀ j = (degree < 64 * j) × (j ≤ 14) × (low words j < 2 ^ degree)
 
 abbrev μ-loop : tie.MeasureT-loop
-μ-loop degree words k i₀ i = 14 - i
+μ-loop degree words k j₀ j = 14 - j
 
 mul-if1 : tie.Need-mul-if1 Inv-loop μ-loop
 mul-if1 c = search needs
@@ -34,8 +34,8 @@ returns c =
     let r = low-register w (d / 64 + 1) (omega arith) in
     sym (le-ltb (register w) (2 ^ d) (omega arith))
 
-add-i : tie.Need-add-i Inv-loop μ-loop
-add-i c = search needs
+add-j : tie.Need-add-j Inv-loop μ-loop
+add-j c = search needs
 
 loop-holds : tie.Need-loop-holds Inv-loop μ-loop
 loop-holds c = (omega arith, omega arith, low-below (c .before .before .args .state .words) (λ k. search needs) (c .before .before .args .degree) (search needs))
@@ -50,15 +50,15 @@ returns-2 : tie.Need-returns-2 Inv-loop μ-loop
 returns-2 c =
     let w = c .before .before .before .before .before .args .state .words in
     let d = c .before .before .before .before .before .args .degree in
-    let i = c .before .before .loop .i in
+    let i = c .before .before .loop .j in
     let l : length w ≡ 14 = search needs in
     let o = low-one w i (c .if2 .taken) in
     let p : 2 ^ d < 2 ^ (64 * i) = pow-lt (omega arith) in
     let r = low-register w (i + 1) (omega arith) in
     sym (le-ltb (register w) (2 ^ d) (omega arith))
 
-add-i-2 : tie.Need-add-i-2 Inv-loop μ-loop
-add-i-2 c = search needs
+add-j-2 : tie.Need-add-j-2 Inv-loop μ-loop
+add-j-2 c = search needs
 
 loop-less : tie.Need-loop-less Inv-loop μ-loop
 loop-less c = search needs
@@ -66,7 +66,7 @@ loop-less c = search needs
 loop-again : tie.Need-loop-again Inv-loop μ-loop
 loop-again c =
     let s = c .before .before .loop in
-    (omega arith, omega arith, rw (low-zero (c .before .before .before .before .before .args .state .words) (s .i) (search needs)) (s .inv .2))
+    (omega arith, omega arith, rw (low-zero (c .before .before .before .before .before .args .state .words) (s .j) (search needs)) (s .inv .2))
 
 returns-3 : tie.Need-returns-3 Inv-loop μ-loop
 unfolding register
@@ -74,7 +74,7 @@ returns-3 c =
     let w = c .before .before .before .before .args .state .words in
     let d = c .before .before .before .before .args .degree in
     let l : length w ≡ 14 = search needs in
-    let e : length w ≡ c .before .loop .i = omega arith in
+    let e : length w ≡ c .before .loop .j = omega arith in
     sym (lt-ltb (register w) (2 ^ d) (rw e (c .before .loop .inv .2)))
 
 pub is-below-spec : {M : Type 1} → statement M
@@ -87,12 +87,12 @@ is-below-spec =
     array-read-if1
     shr-if1
     returns
-    add-i
+    add-j
     loop-holds
     mul-if2
     array-read-if2
     returns-2
-    add-i-2
+    add-j-2
     loop-less
     loop-again
     returns-3)

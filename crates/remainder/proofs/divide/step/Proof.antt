@@ -8,8 +8,8 @@ use Rattle.remainder.proofs.divide.step.Tie as tie
 add-used : tie.Need-add-used
 add-used c = search needs
 
-doubled-requires : tie.Need-doubled-requires
-doubled-requires c κs = (omega arith, c .pre .2, room _ _ _ (c .pre .1) (c .pre .2))
+shifted-requires : tie.Need-shifted-requires
+shifted-requires c κs = (omega arith, search needs, search needs, c .pre .2, room _ _ _ (c .pre .1) (c .pre .2))
 
 coefficient-requires : tie.Need-coefficient-requires
 coefficient-requires c κs = search needs
@@ -18,19 +18,19 @@ added-requires : tie.Need-added-requires
 added-requires c κs =
     let a = c .before .before .before in
     let h = room (a .args .degree) _ _ (a .pre .1) (a .pre .2) in
-    (omega arith, rw (c .before .before .doubled .ensures) h, divisor-room _ _ (a .pre .0 .monic))
+    (omega arith, rw (c .before .before .shifted .ensures) h, divisor-room _ _ (a .pre .0 .monic))
 
 returns : tie.Need-returns
 returns c =
     let a = c .before .before .before .before in
-    step-reduced _ _ _ (a .args .b) (a .pre .2) (c .before .before .before .doubled .ensures) (c .before .before .coefficient .ensures) (c .before .if1 .taken) (c .added .ensures)
+    step-reduced _ _ _ (a .args .b) (a .pre .2) (c .before .before .before .shifted .ensures) (c .before .before .coefficient .ensures) (c .before .if1 .taken) (c .added .ensures)
 
 returns-2 : tie.Need-returns-2
 returns-2 c =
     let a = c .before .before .before in
-    step-kept _ _ _ (a .args .b) (a .pre .2) (c .before .before .doubled .ensures) (c .before .coefficient .ensures) (c .if1 .left)
+    step-kept _ _ _ (a .args .b) (a .pre .2) (c .before .before .shifted .ensures) (c .before .coefficient .ensures) (c .if1 .left)
 
 pub step-spec : {M : Type 1} → statement M
 step-spec =
     tie.close
-    (tie.spec add-used doubled-requires coefficient-requires added-requires returns returns-2)
+    (tie.spec add-used shifted-requires coefficient-requires added-requires returns returns-2)

@@ -1,0 +1,70 @@
+-- Laws of damage: a block with at most t bits turned over still has its written word within t flips, and gives its message.
+use mathlib.Core.Path.{_≡_, refl, sym, ap₂, _∙_}
+use mathlib.Core.Bool.{Bool, true, false}
+use mathlib.Core.List.{List, [], _∷_, _++_}
+use Prim.Native.Nat.{ℕ, zero, suc, _+_, _*_, _<_}
+use native.Mathlib.Omega.{arith}
+use lib.ListN.{length}
+use Rattle.bits.specs.Bits.{bitOf, run, digit}
+use Rattle.bits.proofs.Runs.{run-length}
+use Rattle.layout.specs.declared.Plan.{Plan}
+use Rattle.layout.specs.Plan.{bits, field, level, covered, start, payload, Valid}
+use Rattle.algebra.specs.Word.{flip}
+use Rattle.code.specs.Word.{Word, apart, distance}
+use Rattle.code.specs.Code.{Near}
+use Rattle.code.proofs.Outcome.{near-gives}
+use Rattle.page_theory.specs.Page.{message, written, pageOf, blockWord}
+use Rattle.page_theory.specs.Reading.{GivesAt, reading, done}
+use Rattle.page_theory.specs.Damage.{size, flips, turn, Damaged}
+use Rattle.page_theory.proofs.Blocks.{run-last, written-length, written-message, written-code, blockWord-length, page-block}
+use Rattle.page_theory.proofs.Reading.{gives-reading}
+
+-- turning over a set of bits moves a word as far as the set is large
+
+apart-turn : (x b : Bool) → apart (turn x b) b ≡ digit x
+unfolding apart turn digit flip
+apart-turn true true = refl
+apart-turn true false = refl
+apart-turn false true = refl
+apart-turn false false = refl
+
+distance-last : (v w : Word) (x y : Bool) → length v ≡ length w
+    → distance (v ++ (x ∷ [])) (w ++ (y ∷ [])) ≡ distance v w + apart x y
+unfolding distance
+distance-last [] [] x y h = omega arith
+distance-last [] (b ∷ w) x y h = absurd (omega arith)
+distance-last (a ∷ v) [] x y h = absurd (omega arith)
+distance-last (a ∷ v) (b ∷ w) x y h = let r = distance-last v w x y (omega arith) in omega arith
+
+distance-turned : (f g s : ℕ → Bool) (p n : ℕ) → ((j : ℕ) → j < n → f (p + j) ≡ turn (s j) (g (p + j)))
+    → distance (run f p n) (run g p n) ≡ size s n
+unfolding size
+distance-turned f g s p zero h = unfold distance run in refl
+distance-turned f g s p (suc n) h =
+    rw (run-last f p n, run-last g p n)
+    (distance-last (run f p n) (run g p n) _ _ (run-length f p n ∙ sym (run-length g p n))
+    ∙ ap₂ _+_ (distance-turned f g s p n (λ j l. h j (omega arith))) (rw (h n (omega arith)) (apart-turn (s n) (g (p + n)))))
+
+module _ (q : Plan) (before after : List ℕ) (s : ℕ → ℕ → Bool) (h : Damaged q before after s) where
+  -- a block is as far from what it was as its set is large
+  pub damaged-distance : (b : ℕ) → b < q .blocks → distance (blockWord q after b) (blockWord q before b) ≡ flips q s b
+  unfolding blockWord flips
+  damaged-distance b l = distance-turned (bitOf after) (bitOf before) (s b) (start q b) (covered q b) (λ j k. h .turned b j l k)
+
+module _ (q : Plan) (v : Valid q) (d page : List ℕ) (s : ℕ → ℕ → Bool) (h : Damaged q (pageOf q d) page s) where
+  pub damaged-flips : (b : ℕ) → b < q .blocks → distance (blockWord q page b) (written q d b) ≡ flips q s b
+  damaged-flips b l = rw (page-block q d v b l) at (damaged-distance q (pageOf q d) page s h b l)
+
+  -- a damaged block has the written one within its level
+  pub damaged-near : (b : ℕ) → b < q .blocks → Near (field q b) (level q b) (blockWord q page b) (written q d b)
+  damaged-near b l = record {
+    same = written-length q d b ∙ sym (blockWord-length q page b);
+    code = written-code q d b (v .strong b l);
+    close = rw (damaged-flips b l) (h .few b l);
+  }
+
+  pub damaged-gives : (b : ℕ) → b < q .blocks → GivesAt q page b (message q d b) (flips q s b)
+  damaged-gives b l = rw (← damaged-flips b l, ← written-message q d b) (near-gives _ _ (bits q b) _ _ (damaged-near b l))
+
+  pub damaged-reading : reading q page ≡ done (run (bitOf d) 0 (8 * payload q)) (run (flips q s) 0 (q .blocks))
+  damaged-reading = gives-reading q v d page (flips q s) damaged-gives

@@ -1,0 +1,67 @@
+-- Judging one block. "It depends on the block number, the layout words, the page's length and that block's own bits, on no
+-- other page bit" (document 01, "One block").
+use mathlib.Core.Path.{_≡_, refl, sym, _∙_}
+use mathlib.Core.List.{List}
+use Prim.Native.Nat.{ℕ, _+_, _<_}
+use lib.ListN.{length}
+use borrow.Author.Tests.{eq-eqb, lt-ltb}
+use Rattle.bits.specs.Bits.{bitOf}
+use Rattle.layout.specs.declared.Plan.{Plan}
+use Rattle.layout.specs.declared.Acceptance.{Acceptance}
+use Rattle.layout.specs.declared.Acceptance.the-variants.{Accepted, Refused}
+use Rattle.layout.specs.Record.{layoutOf}
+use Rattle.layout.specs.Plan.{planOf, covered, start, Valid}
+use Rattle.layout.specs.Acceptance.{acceptance}
+use Rattle.code.specs.Word.{Word}
+use Rattle.page_theory.specs.Reading.{GivesAt, RefusedAt, outcome}
+use Rattle.page_theory.specs.Damage.{Accepts}
+use Rattle.page_theory.specs.Calls.{blockReply, judgeEnded, judgeBy, judgeIn, judgeFor, judgeOf}
+use Rattle.page_theory.proofs.Blocks.{blockWord-cong}
+use Rattle.page_theory.proofs.Reading.{outcome-gives, outcome-ruined}
+use Rattle.page_theory.proofs.Accepted.{accepted-accepts, accepts-valid, judge-accepted}
+
+judge-block : (q : Plan) (page other : List ℕ) (b : ℕ) → length page ≡ length other
+    → ((j : ℕ) → j < covered q b → bitOf page (start q b + j) ≡ bitOf other (start q b + j)) → judgeIn q page b ≡ judgeIn q other b
+unfolding judgeIn outcome
+judge-block q page other b l h = rw (l, blockWord-cong q page other b h)
+
+-- Two pages of one length that agree on the covered bits of the block judge the same, under any record at all.
+pub judge-own : (rec page other : List ℕ) (b : ℕ) → length page ≡ length other
+    → ((q : Plan) → Accepts rec q → (j : ℕ) → j < covered q b → bitOf page (start q b + j) ≡ bitOf other (start q b + j))
+    → judgeOf rec page b ≡ judgeOf rec other b
+unfolding judgeOf judgeFor
+judge-own rec page other b l h = go (acceptance rec) refl
+  where
+    go : (a : Acceptance) → acceptance rec ≡ a → judgeOf rec page b ≡ judgeOf rec other b
+    go (Refused r) e = rw e
+    go (Accepted x) e =
+        let q = planOf (layoutOf rec) in
+        let a = accepted-accepts rec x e in
+        judge-accepted rec q a page b ∙ judge-block q page other b l (h q a) ∙ sym (judge-accepted rec q a other b)
+
+module _ (q : Plan) (page : List ℕ) (b : ℕ) (size : length page ≡ q .size) (inside : b < q .blocks) where
+  pub blockReply-right : blockReply q (length page) b ≡ 0
+  unfolding blockReply
+  blockReply-right = rw (eq-eqb (length page) (q .size) size, lt-ltb b (q .blocks) inside)
+
+  judge-outcome : judgeIn q page b ≡ judgeBy b (outcome q page b)
+  unfolding judgeIn
+  judge-outcome = rw blockReply-right
+
+  -- a block with a codeword within t flips answers how many
+  pub judge-gives : Valid q → (m : Word) (n : ℕ) → GivesAt q page b m n → judgeIn q page b ≡ judgeEnded 0 0 n
+  unfolding judgeBy
+  judge-gives v m n g = judge-outcome ∙ rw (outcome-gives q page v b m n inside g)
+
+  -- a block with none answers 9 and its number
+  pub judge-refuses : RefusedAt q page b → judgeIn q page b ≡ judgeEnded 9 b 0
+  unfolding judgeBy
+  judge-refuses h = judge-outcome ∙ rw (outcome-ruined q page b h)
+
+-- "Answers the flip count, or 9 with that block's number."
+module _ (rec : List ℕ) (q : Plan) (accepted : Accepts rec q) (page : List ℕ) (b : ℕ) (size : length page ≡ q .size) (inside : b < q .blocks) where
+  pub judge-flips : (m : Word) (n : ℕ) → GivesAt q page b m n → judgeOf rec page b ≡ judgeEnded 0 0 n
+  judge-flips m n g = judge-accepted rec q accepted page b ∙ judge-gives q page b size inside (accepts-valid rec q accepted) m n g
+
+  pub judge-nine : RefusedAt q page b → judgeOf rec page b ≡ judgeEnded 9 b 0
+  judge-nine h = judge-accepted rec q accepted page b ∙ judge-refuses q page b size inside h

@@ -1,0 +1,212 @@
+-- Laws of reading a page: what each block gives, and when and where a page is refused.
+use mathlib.Core.Path.{_≡_, refl, sym, ap, ap₂, _∙_, subst₂}
+use mathlib.Core.Bool.{false}
+use mathlib.Core.List.{List, [], _∷_, _++_}
+use Prim.Native.Nat.{ℕ, zero, suc, _+_, _*_, _≤_, _<_}
+use native.Mathlib.Omega.{arith}
+use native.Mathlib.Decide.{decLt}
+use native.Mathlib.Nat.{zero-add}
+use lib.ListN.{length, getD, length-append, List·getD-append}
+use lib.Seq.{getD-append-seam, getD-append-add}
+use Rattle.bits.specs.Bits.{bitOf, run}
+use Rattle.bits.proofs.Runs.{run-ext, run-cong, run-append}
+use Rattle.layout.specs.declared.Plan.{Plan}
+use Rattle.layout.specs.Plan.{bits, coveredOf, from, payload, Valid}
+use Rattle.code.specs.Word.{Word}
+use Rattle.code.specs.Outcome.{Outcome, good, ruined}
+use Rattle.code.proofs.Outcome.{judge-gives, gives-judge, judge-refused, refused-judge, gives-length}
+use Rattle.page_theory.specs.Page.{message, blockWord}
+use Rattle.page_theory.specs.Reading.{GivesAt, RefusedAt, Lowest, outcome, Reading, done, refused, more, readingOf, reading}
+use Rattle.page_theory.proofs.Blocks.{run-last, blockWord-length, blockWord-fits}
+
+module _ (q : Plan) (page : List ℕ) where
+  -- the outcome of a block is what it gives, or that it is ruined
+
+  pub outcome-gives : Valid q → (b : ℕ) (m : Word) (n : ℕ) → b < q .blocks → GivesAt q page b m n → outcome q page b ≡ good m n
+  unfolding outcome
+  outcome-gives v b m n l g = judge-gives _ _ (bits q b) _ _ _ (blockWord-fits q v page b l) g
+
+  pub gives-outcome : (b : ℕ) (m : Word) (n : ℕ) → outcome q page b ≡ good m n → GivesAt q page b m n
+  unfolding outcome
+  gives-outcome b m n e = gives-judge _ _ (bits q b) _ m n e
+
+  pub outcome-ruined : (b : ℕ) → RefusedAt q page b → outcome q page b ≡ ruined
+  unfolding outcome
+  outcome-ruined b h = judge-refused _ _ _ _ h
+
+  pub ruined-outcome : (b : ℕ) → outcome q page b ≡ ruined → RefusedAt q page b
+  unfolding outcome
+  ruined-outcome b e = refused-judge _ _ _ _ e
+
+  -- one block more
+
+  pub reading-start : readingOf q page 0 ≡ done [] []
+  unfolding readingOf
+  reading-start = refl
+
+  pub reading-good : (b : ℕ) (w m : Word) (l : List ℕ) (n : ℕ) → readingOf q page b ≡ done w l
+      → outcome q page b ≡ good m n → readingOf q page (suc b) ≡ done (w ++ m) (l ++ (n ∷ []))
+  unfolding readingOf more
+  reading-good b w m l n e f = rw (e, f)
+
+  pub reading-ruined : (b : ℕ) (w : Word) (l : List ℕ) → readingOf q page b ≡ done w l → outcome q page b ≡ ruined
+      → readingOf q page (suc b) ≡ refused b
+  unfolding readingOf more
+  reading-ruined b w l e f = rw (e, f)
+
+  pub reading-refused : (b a : ℕ) → readingOf q page b ≡ refused a → readingOf q page (suc b) ≡ refused a
+  unfolding readingOf more
+  reading-refused b a e = rw e
+
+  -- A page is refused exactly where some block is ruined, and the lowest is named.
+
+  -- no ruined block among the first n
+  abbrev Sound : ℕ → Type 0
+  Sound n = (c : ℕ) → c < n → RefusedAt q page c → ⊥
+
+  pub record Done (n : ℕ) : Type 0 where
+    pub word : Word
+    pub counts : List ℕ
+    pub same : readingOf q page n ≡ done word counts
+
+  reading-sound : (n : ℕ) → Sound n → Done n
+  reading-sound zero h = record { word = []; counts = []; same = reading-start }
+  reading-sound (suc n) h = go (reading-sound n (λ c l. h c (omega arith))) (outcome q page n) refl
+    where
+      go : Done n → (o : Outcome) → outcome q page n ≡ o → Done (suc n)
+      go r (good m k) f = record { word = r .word ++ m; counts = r .counts ++ (k ∷ []); same = reading-good n _ m _ k (r .same) f }
+      go r ruined f = absurd (h n (omega arith) (ruined-outcome n f))
+
+  pub reading-lowest : (n b : ℕ) → b < n → RefusedAt q page b → Sound b → readingOf q page n ≡ refused b
+  reading-lowest zero b l r h = absurd (omega arith)
+  reading-lowest (suc n) b l r h = elim (decLt b n) [
+    | yes p ↦ reading-refused n b (reading-lowest n b p r h)
+    | no p ↦ (let e : b ≡ n = omega arith in let s = reading-sound b h in rw (← e) (reading-ruined b _ _ (s .same) (outcome-ruined b r)))
+  ]
+
+  -- what a reading says of the blocks read
+
+  pub record Last (n : ℕ) (w : Word) (l : List ℕ) : Type 0 where
+    pub word : Word
+    pub counts : List ℕ
+    pub text : Word
+    pub flips : ℕ
+    pub before : readingOf q page n ≡ done word counts
+    pub last : outcome q page n ≡ good text flips
+    pub words : w ≡ word ++ text
+    pub numbers : l ≡ counts ++ (flips ∷ [])
+
+  done-last : (n : ℕ) (w : Word) (l : List ℕ) → readingOf q page (suc n) ≡ done w l → Last n w l
+  done-last n w l e = go (readingOf q page n) refl (outcome q page n) refl
+    where
+      go : (r : Reading) → readingOf q page n ≡ r → (o : Outcome) → outcome q page n ≡ o → Last n w l
+      go (done v k) f (good m c) g = let t = reading-good n v m k c f g in
+          record { word = v; counts = k; text = m; flips = c; before = f; last = g; words = cc; numbers = cc }
+      go (done v k) f ruined g = let t = reading-ruined n v k f g in let z : _≡_ {A = ℕ} 0 1 = cc in absurd (omega arith)
+      go (refused a) f o g = let t = reading-refused n a f in let z : _≡_ {A = ℕ} 0 1 = cc in absurd (omega arith)
+
+  pub done-sound : (n : ℕ) (w : Word) (l : List ℕ) → readingOf q page n ≡ done w l → Sound n
+  done-sound zero w l e c k r = omega arith
+  done-sound (suc n) w l e c k r = let s = done-last n w l e in elim (decLt c n) [
+    | yes p ↦ done-sound n (s .word) (s .counts) (s .before) c p r
+    | no p ↦ (let i : c ≡ n = omega arith in let f : outcome q page n ≡ ruined = rw (← i) (outcome-ruined c r) in
+        let g = s .last in let z : _≡_ {A = ℕ} 0 1 = cc in omega arith)
+  ]
+
+  pub record Named (n b : ℕ) : Type 0 where
+    pub inside : b < n
+    pub ruins : RefusedAt q page b
+    pub lower : Sound b
+
+  refused-named : (n b : ℕ) → readingOf q page n ≡ refused b → Named n b
+  refused-named zero b e = let t = reading-start in let z : _≡_ {A = ℕ} 0 1 = cc in absurd (omega arith)
+  refused-named (suc n) b e = go (refused-named n b) (readingOf q page n) refl (outcome q page n) refl
+    where
+      go : (readingOf q page n ≡ refused b → Named n b) → (r : Reading) → readingOf q page n ≡ r → (o : Outcome)
+          → outcome q page n ≡ o → Named (suc n) b
+      go h (done v k) f (good m c) g = let t = reading-good n v m k c f g in let z : _≡_ {A = ℕ} 0 1 = cc in absurd (omega arith)
+      go h (done v k) f ruined g = let t = reading-ruined n v k f g in let i : b ≡ n = cc in
+          record { inside = omega arith; ruins = rw i (ruined-outcome n g); lower = rw i (done-sound n v k f) }
+      go h (refused a) f o g = let t = reading-refused n a f in let i : a ≡ b = cc in let r = h (f ∙ ap refused i) in
+          record { inside = omega (arith, r .inside); ruins = r .ruins; lower = r .lower }
+
+  pub lowest-refused : (b : ℕ) → Lowest q page b → reading q page ≡ refused b
+  unfolding reading
+  lowest-refused b h = reading-lowest (q .blocks) b (h .inside) (h .ruins) (h .lower)
+
+  pub refused-lowest : (b : ℕ) → reading q page ≡ refused b → Lowest q page b
+  unfolding reading
+  refused-lowest b e = let r = refused-named (q .blocks) b e in record { inside = r .inside; ruins = r .ruins; lower = r .lower }
+
+  -- where some block is ruined, one is the lowest
+  pub ruined-lowest : (b : ℕ) → b < q .blocks → RefusedAt q page b → (c : ℕ) × Lowest q page c
+  unfolding reading
+  ruined-lowest b l h = go (reading q page) refl
+    where
+      go : (r : Reading) → readingOf q page (q .blocks) ≡ r → (c : ℕ) × Lowest q page c
+      go (done w k) e = absurd (done-sound (q .blocks) w k e b l h)
+      go (refused c) e = (c, refused-lowest c e)
+
+-- What is read, block by block.
+
+pub from-order : (q : Plan) (b n : ℕ) → b < n → from q b + bits q b ≤ from q n
+unfolding from
+from-order q b zero l = absurd (omega arith)
+from-order q b (suc n) l = elim (decLt b n) [
+  | yes p ↦ (let h = from-order q b n p in omega arith)
+  | no p ↦ (let e : b ≡ n = omega arith in rw e (omega arith))
+]
+
+module _ (q : Plan) (v : Valid q) (d page : List ℕ) (flips : ℕ → ℕ) (g : (b : ℕ) → b < q .blocks → GivesAt q page b (message q d b) (flips b)) where
+  given-reading : (n : ℕ) → n ≤ q .blocks → readingOf q page n ≡ done (run (bitOf d) 0 (from q n)) (run flips 0 n)
+  unfolding from message
+  given-reading zero l = reading-start q page ∙ (unfold run in refl)
+  given-reading (suc n) l =
+      reading-good q page n _ _ _ _ (given-reading n (omega arith)) (outcome-gives q page v n _ _ l (g n l))
+      ∙ ap₂ done (sym (run-append (bitOf d) 0 (from q n) (bits q n) ∙ rw (zero-add (from q n)))) (sym (run-last flips 0 n ∙ rw (zero-add n)))
+
+  pub gives-reading : reading q page ≡ done (run (bitOf d) 0 (8 * payload q)) (run flips 0 (q .blocks))
+  unfolding reading
+  gives-reading = given-reading (q .blocks) (omega arith) ∙ rw (v .whole)
+
+-- The messages w and the counts l are those of the first n blocks.
+pub record Parts (q : Plan) (page : List ℕ) (n : ℕ) (w : Word) (l : List ℕ) : Type 0 where
+  pub words : length w ≡ from q n
+  pub numbers : length l ≡ n
+  pub each : (b : ℕ) → b < n → GivesAt q page b (run (λ p. getD w p false) (from q b) (bits q b)) (getD l b 0)
+
+module _ (q : Plan) (page : List ℕ) where
+  gives-bits : (b : ℕ) (m : Word) (n : ℕ) → GivesAt q page b m n → length m ≡ bits q b
+  unfolding coveredOf
+  gives-bits b m n g = gives-length _ _ _ (blockWord q page b) m n (rw (blockWord-length q page b) (omega arith)) g
+
+  parts-next : (n : ℕ) (w m : Word) (l : List ℕ) (c : ℕ) → Parts q page n w l → GivesAt q page n m c
+      → Parts q page (suc n) (w ++ m) (l ++ (c ∷ []))
+  unfolding from
+  parts-next n w m l c r g =
+      let lw = r .words in let ll = r .numbers in let lm = gives-bits n m c g in
+      record {
+        words = length-append w m ∙ omega arith;
+        numbers = length-append l (c ∷ []) ∙ omega arith;
+        each = λ b k. elim (decLt b n) [
+          | yes p ↦ (let o = from-order q b n p in
+              subst₂ (GivesAt q page b)
+              (run-cong _ _ _ _ _ (λ j i. sym (List·getD-append w m false (from q b + j) (omega arith))))
+              (sym (List·getD-append l (c ∷ []) 0 b (omega arith))) (r .each b p))
+          | no p ↦ (let e : b ≡ n = omega arith in rw e (subst₂ (GivesAt q page n)
+              (sym (run-ext (λ p. getD (w ++ m) p false) (from q n) m (bits q n) false lm (λ j i. rw (← lw) (getD-append-add w m j false))))
+              (sym (rw (← ll) (getD-append-seam l c [] 0))) g))
+        ];
+      }
+
+  done-parts : (n : ℕ) (w : Word) (l : List ℕ) → readingOf q page n ≡ done w l → Parts q page n w l
+  unfolding from
+  done-parts zero w l e = let s = reading-start q page in let a : w ≡ [] = cc in let b : l ≡ [] = cc in
+      rw (a, b) (record { words = refl; numbers = refl; each = λ b k. absurd (omega arith) })
+  done-parts (suc n) w l e = let s = done-last q page n w l e in
+      subst₂ (Parts q page (suc n)) (sym (s .words)) (sym (s .numbers)) (parts-next n (s .word) (s .text) (s .counts) (s .flips)
+      (done-parts n (s .word) (s .counts) (s .before)) (gives-outcome q page n (s .text) (s .flips) (s .last)))
+
+  pub reading-parts : (w : Word) (l : List ℕ) → reading q page ≡ done w l → Parts q page (q .blocks) w l
+  unfolding reading
+  reading-parts w l e = done-parts (q .blocks) w l e

@@ -1,0 +1,177 @@
+-- What the four page calls answer and leave (document 01, "Replies", "One block" and "Claim").
+-- Each is a function of everything that is lent, and gives the reply, the block number, the values, and what the buffers that
+-- the call may write to hold afterwards, on refusals too. Of several replies the first in the order 6 for the record, 1, 2, 3,
+-- 4, 5, 6, 7, 9, 10 is given. Numbers that are handed in have no bound. The block is 0 except in reply 9; beside a refusal
+-- every other value is 0.
+--
+-- among x xs                  x is one of the numbers of a list
+-- unless ok reply rest        the reply, unless ok; then the rest decides
+-- bytesAt w s n               the n bytes whose bits are those of a word from its bit s on
+-- Written, writeEnded, writeReply, writeIn, writeFor, writeOf             writing a page
+-- Read, readEnded, readReply, readBy, readIn, readFor, readOf             reading a page
+-- blockReply                                                              the replies about a page and a block number
+-- Judged, judgeEnded, judgeBy, judgeIn, judgeFor, judgeOf                 judging one block
+-- Claimed, claimEnded, claimBy, claimIn, claimFor, claimOf                claimed locations
+--
+-- Of each call: `..Ended` is what it ends with; `..Reply` the reply about lengths and numbers under a plan, 0 where they are
+-- right; `..By` how it ends by what the page, the block or the claim turns out to be; `..In` the call under a plan, `..For`
+-- with the answer to a layout record, `..Of` with the record itself.
+use mathlib.Core.Bool.{Bool, true, false, cond}
+use mathlib.Core.List.{List, [], _∷_, _++_}
+use Prim.Native.Nat.{ℕ, _+_, _*_}
+use lib.ListN.{length, getD}
+use lib.Dec.{eqb, ltb}
+use Rattle.field.specs.declared.Field.{Field}
+use Rattle.bits.specs.Bits.{bytes}
+use Rattle.layout.specs.declared.Plan.{Plan}
+use Rattle.layout.specs.declared.Acceptance.{Acceptance}
+use Rattle.layout.specs.declared.Acceptance.the-variants.{Accepted, Refused}
+use Rattle.layout.specs.Plan.{planOf, field, level}
+use Rattle.layout.specs.Acceptance.{acceptance, refusalReply}
+use Rattle.code.specs.Word.{Word}
+use Rattle.code.specs.Outcome.{Outcome, good, ruined}
+use Rattle.page_theory.specs.Page.{pageOf, blockWord}
+use Rattle.page_theory.specs.Reading.{Reading, done, refused, outcome, reading}
+use Rattle.page_theory.specs.Claim.{Right, right?}
+
+unfoldable pub among : ℕ → List ℕ → Bool
+among x [] = false
+among x (y ∷ ys) = cond (eqb x y) true (among x ys)
+
+abbrev pub unless : Bool → ℕ → ℕ → ℕ
+unless ok reply rest = cond ok rest reply
+
+-- Writing a page from metadata and data.
+
+pub record Written : Type 0 where
+  pub reply : ℕ
+  pub block : ℕ
+  pub page : List ℕ
+
+abbrev pub writeEnded : ℕ → ℕ → List ℕ → Written
+writeEnded reply block page = record { reply = reply; block = block; page = page }
+
+-- 5: the lent page. 6: another lent buffer.
+unfoldable pub writeReply : Plan → ℕ → ℕ → ℕ → ℕ
+writeReply q metadata «data» page =
+    unless (eqb page (q .size)) 5
+    (unless (eqb metadata (q .metadata)) 6
+    (unless (eqb «data» (q .«data»)) 6
+    0))
+
+unfoldable pub writeIn : Plan → List ℕ → List ℕ → List ℕ → Written
+writeIn q metadata «data» page =
+    cond (eqb (writeReply q (length metadata) (length «data») (length page)) 0)
+    (writeEnded 0 0 (pageOf q (metadata ++ «data»)))
+    (writeEnded (writeReply q (length metadata) (length «data») (length page)) 0 page)
+
+unfoldable pub writeFor : Acceptance → List ℕ → List ℕ → List ℕ → Written
+writeFor (Accepted l) metadata «data» page = writeIn (planOf l) metadata «data» page
+writeFor (Refused r) metadata «data» page = writeEnded (refusalReply r) 0 page
+
+unfoldable pub writeOf : List ℕ → List ℕ → List ℕ → List ℕ → Written
+writeOf rec metadata «data» page = writeFor (acceptance rec) metadata «data» page
+
+-- Reading a page into metadata, data and counts.
+
+pub record Read : Type 0 where
+  pub reply : ℕ
+  pub block : ℕ
+  pub metadata : List ℕ
+  pub «data» : List ℕ
+  pub counts : List ℕ
+
+abbrev pub readEnded : ℕ → ℕ → List ℕ → List ℕ → List ℕ → Read
+readEnded reply block metadata «data» counts =
+    record { reply = reply; block = block; metadata = metadata; «data» = «data»; counts = counts }
+
+-- 5: the lent page. 6: another lent buffer.
+unfoldable pub readReply : Plan → ℕ → ℕ → ℕ → ℕ → ℕ
+readReply q page metadata «data» counts =
+    unless (eqb page (q .size)) 5
+    (unless (eqb metadata (q .metadata)) 6
+    (unless (eqb «data» (q .«data»)) 6
+    (unless (eqb counts (q .blocks)) 6
+    0)))
+
+unfoldable pub bytesAt : Word → ℕ → ℕ → List ℕ
+bytesAt w s n = bytes (λ p. getD w (s + p) false) n
+
+-- The messages of the blocks, one after the other, are the payload. A ruined page leaves what was lent.
+unfoldable pub readBy : Plan → Reading → List ℕ → List ℕ → List ℕ → Read
+readBy q (done w counts) metadata «data» lent =
+    readEnded 0 0 (bytesAt w 0 (q .metadata)) (bytesAt w (8 * q .metadata) (q .«data»)) counts
+readBy q (refused b) metadata «data» lent = readEnded 9 b metadata «data» lent
+
+unfoldable pub readIn : Plan → List ℕ → List ℕ → List ℕ → List ℕ → Read
+readIn q page metadata «data» counts =
+    cond (eqb (readReply q (length page) (length metadata) (length «data») (length counts)) 0)
+    (readBy q (reading q page) metadata «data» counts)
+    (readEnded (readReply q (length page) (length metadata) (length «data») (length counts)) 0 metadata «data» counts)
+
+unfoldable pub readFor : Acceptance → List ℕ → List ℕ → List ℕ → List ℕ → Read
+readFor (Accepted l) page metadata «data» counts = readIn (planOf l) page metadata «data» counts
+readFor (Refused r) page metadata «data» counts = readEnded (refusalReply r) 0 metadata «data» counts
+
+unfoldable pub readOf : List ℕ → List ℕ → List ℕ → List ℕ → List ℕ → Read
+readOf rec page metadata «data» counts = readFor (acceptance rec) page metadata «data» counts
+
+-- Judging one block.
+
+-- 5: the lent page. 7: a block number outside its range.
+unfoldable pub blockReply : Plan → ℕ → ℕ → ℕ
+blockReply q page b =
+    unless (eqb page (q .size)) 5
+    (unless (ltb b (q .blocks)) 7
+    0)
+
+pub record Judged : Type 0 where
+  pub reply : ℕ
+  pub block : ℕ
+  pub flips : ℕ
+
+abbrev pub judgeEnded : ℕ → ℕ → ℕ → Judged
+judgeEnded reply block flips = record { reply = reply; block = block; flips = flips }
+
+unfoldable pub judgeBy : ℕ → Outcome → Judged
+judgeBy b (good m n) = judgeEnded 0 0 n
+judgeBy b ruined = judgeEnded 9 b 0
+
+unfoldable pub judgeIn : Plan → List ℕ → ℕ → Judged
+judgeIn q page b =
+    cond (eqb (blockReply q (length page) b) 0)
+    (judgeBy b (outcome q page b))
+    (judgeEnded (blockReply q (length page) b) 0 0)
+
+unfoldable pub judgeFor : Acceptance → List ℕ → ℕ → Judged
+judgeFor (Accepted l) page b = judgeIn (planOf l) page b
+judgeFor (Refused r) page b = judgeEnded (refusalReply r) 0 0
+
+unfoldable pub judgeOf : List ℕ → List ℕ → ℕ → Judged
+judgeOf rec page b = judgeFor (acceptance rec) page b
+
+-- Claimed locations of one block.
+
+pub record Claimed : Type 0 where
+  pub reply : ℕ
+  pub block : ℕ
+
+abbrev pub claimEnded : ℕ → Claimed
+claimEnded reply = record { reply = reply; block = 0 }
+
+unfoldable pub claimBy : {f : Field} {t : ℕ} {w : Word} {claims : List ℕ} → Dec (Right f t w claims) → Claimed
+claimBy (yes right) = claimEnded 0
+claimBy (no wrong) = claimEnded 10
+
+unfoldable pub claimIn : Plan → List ℕ → ℕ → List ℕ → Claimed
+claimIn q page b claims =
+    cond (eqb (blockReply q (length page) b) 0)
+    (claimBy (right? (field q b) (level q b) (blockWord q page b) claims))
+    (claimEnded (blockReply q (length page) b))
+
+unfoldable pub claimFor : Acceptance → List ℕ → ℕ → List ℕ → Claimed
+claimFor (Accepted l) page b claims = claimIn (planOf l) page b claims
+claimFor (Refused r) page b claims = claimEnded (refusalReply r)
+
+unfoldable pub claimOf : List ℕ → List ℕ → ℕ → List ℕ → Claimed
+claimOf rec page b claims = claimFor (acceptance rec) page b claims

@@ -1,0 +1,53 @@
+-- What demand 3 speaks of (document 01, "Damage"): accepted layouts, payloads, damaged pages, and outputs to read them into.
+-- A set of numbers is given by its test. Sets of covered bits: `s b j` says whether bit j of block b, counted from the block's
+-- start, is in the set of block b.
+--
+-- Accepts rec q           the layout record is accepted, and q is its plan
+-- Payload q m d           m and d are metadata and data of the lengths that the plan gives
+-- Outputs q m d c         m, d and c have the lengths of metadata, data and counts
+-- size s n                how many numbers below n are in the set s
+-- flips q s b             how many covered bits of block b are in its set
+-- turn x b                the bit b, turned over where x is true
+-- Damaged q before after s    after may have become of the page before when the bits in the sets s were turned over
+use mathlib.Core.Path.{_≡_}
+use mathlib.Core.Bool.{Bool, cond}
+use mathlib.Core.List.{List}
+use Prim.Native.Nat.{ℕ, zero, suc, _+_, _≤_, _<_}
+use lib.ListN.{length}
+use Rattle.algebra.specs.Word.{flip}
+use Rattle.bits.specs.Bits.{bitOf, digit, Bytes}
+use Rattle.layout.specs.declared.Plan.{Plan}
+use Rattle.layout.specs.Record.{layoutOf}
+use Rattle.layout.specs.Plan.{planOf, level, covered, start}
+use Rattle.layout.specs.Acceptance.{acceptance}
+use Rattle.layout.specs.Answers.{acceptanceNumbers}
+
+-- No reply about the layout alone applies.
+pub record Accepts (rec : List ℕ) (q : Plan) : Type 0 where
+  pub reply : acceptanceNumbers (acceptance rec) .reply ≡ 0
+  pub plan : q ≡ planOf (layoutOf rec)
+
+pub record Payload (q : Plan) (m d : List ℕ) : Type 0 where
+  pub metadata : Bytes (q .metadata) m
+  pub «data» : Bytes (q .«data») d
+
+pub record Outputs (q : Plan) (m d c : List ℕ) : Type 0 where
+  pub metadata : length m ≡ q .metadata
+  pub «data» : length d ≡ q .«data»
+  pub counts : length c ≡ q .blocks
+
+unfoldable pub size : (ℕ → Bool) → ℕ → ℕ
+size s zero = 0
+size s (suc n) = size s n + digit (s n)
+
+unfoldable pub flips : Plan → (ℕ → ℕ → Bool) → ℕ → ℕ
+flips q s b = size (s b) (covered q b)
+
+unfoldable pub turn : Bool → Bool → Bool
+turn x b = cond x (flip b) b
+
+-- In each block the bits of its set are turned over, at most t of them. Nothing is said of the tail: its bits become anything.
+pub record Damaged (q : Plan) (before after : List ℕ) (s : ℕ → ℕ → Bool) : Type 0 where
+  pub page : Bytes (q .size) after
+  pub turned : (b j : ℕ) → b < q .blocks → j < covered q b → bitOf after (start q b + j) ≡ turn (s b j) (bitOf before (start q b + j))
+  pub few : (b : ℕ) → b < q .blocks → flips q s b ≤ level q b

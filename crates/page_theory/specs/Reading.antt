@@ -1,0 +1,49 @@
+-- What reading a page gives (document 01, "Replies" and "The code"). The rule is distance: a block with a codeword within t
+-- flips is repaired to that codeword, a block with none is ruined, and the lowest ruined block refuses the page.
+--
+-- GivesAt q page b m n    block b holds, n flips away, a codeword with the message m
+-- RefusedAt q page b       block b is ruined: no codeword of its shortened length is within t flips
+-- Lowest q page b         block b is ruined, and no lower block is
+-- outcome q page b        the outcome of block b
+-- Reading                 the messages one after the other and the counts of all blocks, or the block that refuses the page
+-- more b r o              a reading r of the blocks before b, and the outcome o of block b
+-- readingOf q page n      the reading of the first n blocks
+-- reading q page          the reading of the page
+use mathlib.Core.List.{List, [], _∷_, _++_}
+use Prim.Native.Nat.{ℕ, zero, suc, _<_}
+use Rattle.layout.specs.declared.Plan.{Plan}
+use Rattle.layout.specs.Plan.{bits, field, level}
+use Rattle.code.specs.Word.{Word}
+use Rattle.code.specs.Outcome.{Outcome, good, ruined, judge, Gives, Refused}
+use Rattle.page_theory.specs.Page.{blockWord}
+
+abbrev pub GivesAt : Plan → List ℕ → ℕ → Word → ℕ → Type 0
+GivesAt q page b m n = Gives (field q b) (level q b) (bits q b) (blockWord q page b) m n
+
+abbrev pub RefusedAt : Plan → List ℕ → ℕ → Type 0
+RefusedAt q page b = Refused (field q b) (level q b) (blockWord q page b)
+
+pub record Lowest (q : Plan) (page : List ℕ) (b : ℕ) : Type 0 where
+  pub inside : b < q .blocks
+  pub ruins : RefusedAt q page b
+  pub lower : (c : ℕ) → c < b → RefusedAt q page c → ⊥
+
+unfoldable pub outcome : Plan → List ℕ → ℕ → Outcome
+outcome q page b = judge (field q b) (level q b) (bits q b) (blockWord q page b)
+
+pub data Reading : Type 0 where
+  done : Word → List ℕ → Reading
+  refused : ℕ → Reading
+
+-- The message and the count of block b follow those before it; the first ruined block decides.
+unfoldable pub more : ℕ → Reading → Outcome → Reading
+more b (done w counts) (good m n) = done (w ++ m) (counts ++ (n ∷ []))
+more b (done w counts) ruined = refused b
+more b (refused a) o = refused a
+
+unfoldable pub readingOf : Plan → List ℕ → ℕ → Reading
+readingOf q page zero = done [] []
+readingOf q page (suc b) = more b (readingOf q page b) (outcome q page b)
+
+unfoldable pub reading : Plan → List ℕ → Reading
+reading q page = readingOf q page (q .blocks)

@@ -1,0 +1,16 @@
+// Pages: how they are written, what may become of them, and what reading them gives (document 01). There is no code here: the
+// crate holds definitions (specs/) and the owner's three demands as theorems of the definitions (proofs/). The code that
+// writes and reads pages stands in a crate above and promises that each of its calls equals the definition of that call.
+//
+// The definitions, from bottom to top:
+//   1. Page: the message of a block, the block as it is written, the written page with its tail; the word in a block of a page.
+//   2. Reading: what becomes of each block, and of the page: all messages and counts, or the lowest ruined block.
+//   3. Damage: accepted layouts, payloads, and the pages that damage may make of a written page.
+//   4. Claim: which claimed locations are right.
+//   5. Calls: what the four page calls answer and leave, for everything that may be lent to them.
+//
+// The theorems:
+//   Demand1, Demand2, Demand3    the owner's demands, sentence by sentence
+//   OneBlock, Claims             what judging one block depends on, and which claims are accepted
+//   Cases                        document 01's cases A to L, in one table
+//   Blocks, Writing, Reading, Damage, Calls, Accepted    the laws behind them, and what a writer and a reader have to show
