@@ -1,24 +1,20 @@
 -- Laws of the blocks of a page, and of the blocks and the tail of a written page.
-use mathlib.Core.Path.{_≡_, refl, sym, ap, _∙_}
-use mathlib.Core.Bool.{true, cond}
+use mathlib.Core.Path.{_≡_, sym, ap, _∙_}
+use mathlib.Core.Bool.{true}
 use mathlib.Core.List.{List, [], _∷_, _++_}
-use Prim.Native.Nat.{ℕ, zero, suc, _+_, _-_, _*_, _≤_, _<_}
+use Prim.Native.Nat.{ℕ, suc, _+_, _-_, _*_, _≤_, _<_}
 use native.Mathlib.Omega.{arith}
 use native.Mathlib.Numerals.{add-one}
-use lib.ListN.{length, getD, take, length-append}
+use lib.ListN.{length, take, length-append}
 use lib.Seq.{take-at}
-use lib.Dec.{ltb}
 use borrow.Author.Tests.{lt-ltb, le-ltb}
-use Rattle.bits.specs.Bits.{bitOf, run, bytes}
+use Rattle.bits.specs.Bits.{bitOf, run}
 use Rattle.bits.proofs.Runs.{run-length, run-ext, run-cong, run-append}
 use Rattle.bits.proofs.Pages.{bytes-bit}
 use Rattle.layout.specs.declared.Plan.{Plan}
 use Rattle.layout.specs.Plan.{coveredOf, bits, field, level, covered, start, used, Valid}
-use Rattle.layout.specs.Bits.{blockOf}
 use Rattle.layout.proofs.Placing.{Lies, block-lies, block-past}
-use Rattle.code.specs.Word.{Word}
 use Rattle.code.specs.Code.{Codeword, Fits}
-use Rattle.code.specs.Generator.{parity}
 use Rattle.code.proofs.Remainder.{parity-length, parity-codeword}
 use Rattle.page_theory.specs.Page.{message, written, pageBit, pageOf, blockWord}
 

@@ -1,23 +1,22 @@
 -- Laws of the page calls under a plan: what a call has to show to end as its definition says.
-use mathlib.Core.Path.{_≡_, refl, sym, ap, ap₂, _∙_}
-use mathlib.Core.Bool.{Bool, true, false, cond}
+use mathlib.Core.Path.{_≡_, sym, ap, ap₂, _∙_}
+use mathlib.Core.Bool.{false}
 use mathlib.Core.List.{List, _++_}
-use Prim.Native.Nat.{ℕ, zero, suc, _+_, _-_, _*_, _/_, _%_, _≤_, _<_}
+use Prim.Native.Nat.{ℕ, _+_, _-_, _*_, _/_, _%_, _<_}
 use native.Mathlib.Omega.{arith}
 use native.Mathlib.Decide.{decLt}
 use native.Mathlib.Nat.{zero-add}
-use lib.ListN.{length, getD, length-append, List·getD-append, List·getD-eq-default}
+use lib.ListN.{length, getD, length-append, List·getD-append}
 use lib.Seq.{getD-append-add}
-use lib.Dec.{eqb, ltb}
-use borrow.Author.Tests.{eq-eqb, lt-ltb, eqb-true}
-use Rattle.bits.specs.Bits.{bit, bitAt, bitOf, run, bytes, Bytes}
+use borrow.Author.Tests.{eq-eqb}
+use Rattle.bits.specs.Bits.{bitAt, bitOf, run, Bytes}
 use Rattle.bits.proofs.Runs.{run-at, run-ext}
 use Rattle.bits.proofs.Pages.{bytes-bytes, bytes-bit, bytes-ext}
 use Rattle.layout.specs.declared.Plan.{Plan}
-use Rattle.layout.specs.Plan.{bits, from, payload, Valid}
+use Rattle.layout.specs.Plan.{payload, Valid}
 use Rattle.code.specs.Word.{Word}
 use Rattle.page_theory.specs.Page.{message, pageOf}
-use Rattle.page_theory.specs.Reading.{GivesAt, Lowest, reading, done, refused}
+use Rattle.page_theory.specs.Reading.{GivesAt, Lowest, reading, done}
 use Rattle.page_theory.specs.Damage.{Payload, Outputs}
 use Rattle.page_theory.specs.Calls.{writeEnded, writeReply, writeIn, readEnded, readReply, bytesAt, readBy, readIn}
 use Rattle.page_theory.proofs.Reading.{gives-reading, lowest-refused}

@@ -1,11 +1,11 @@
 -- Laws of damage: a block with at most t bits turned over still has its written word within t flips, and gives its message.
-use mathlib.Core.Path.{_≡_, refl, sym, ap, ap₂, _∙_}
+use mathlib.Core.Path.{_≡_, refl, sym, ap₂, _∙_}
 use mathlib.Core.Bool.{Bool, true, false}
 use mathlib.Core.List.{List, [], _∷_, _++_}
-use Prim.Native.Nat.{ℕ, zero, suc, _+_, _*_, _≤_, _<_}
+use Prim.Native.Nat.{ℕ, zero, suc, _+_, _*_, _<_}
 use native.Mathlib.Omega.{arith}
 use lib.ListN.{length}
-use Rattle.bits.specs.Bits.{bitOf, run, digit, Bytes}
+use Rattle.bits.specs.Bits.{bitOf, run, digit}
 use Rattle.bits.proofs.Runs.{run-length}
 use Rattle.layout.specs.declared.Plan.{Plan}
 use Rattle.layout.specs.Plan.{bits, field, level, covered, start, payload, Valid}

@@ -2,13 +2,13 @@
 -- A page that is read gives, block by block, the message of a codeword at most t bit flips away, and the reported flips are
 -- exactly that distance."
 use mathlib.Core.Path.{_≡_, refl, sym, ap, _∙_, subst}
-use mathlib.Core.Bool.{Bool, true, false, cond}
+use mathlib.Core.Bool.{true, false, cond}
 use mathlib.Core.List.{List, _++_}
 use Prim.Native.Nat.{ℕ, zero, suc, _+_, _*_, _≤_, _<_}
 use native.Mathlib.Omega.{arith}
 use lib.ListN.{length, getD}
 use lib.Dec.{eqb, eqb·suc-zero}
-use Rattle.bits.specs.Bits.{bitOf, run, Bytes}
+use Rattle.bits.specs.Bits.{bitOf}
 use Rattle.bits.proofs.Runs.{run-cong}
 use Rattle.layout.specs.declared.Plan.{Plan}
 use Rattle.layout.specs.Plan.{bits, field, level, used, from, payload, Valid}
@@ -18,9 +18,9 @@ use Rattle.code.specs.Generator.{parity}
 use Rattle.page_theory.specs.Page.{message, written, pageOf, blockWord}
 use Rattle.page_theory.specs.Reading.{GivesAt, Reading, done, refused, reading}
 use Rattle.page_theory.specs.Damage.{Accepts, Payload}
-use Rattle.page_theory.specs.Calls.{Written, writeEnded, writeOf, Read, readEnded, readReply, bytesAt, readBy, readIn, readOf}
+use Rattle.page_theory.specs.Calls.{writeEnded, writeOf, Read, readEnded, readReply, bytesAt, readBy, readIn, readOf}
 use Rattle.page_theory.proofs.Blocks.{written-code, page-block, page-tail}
-use Rattle.page_theory.proofs.Reading.{Parts, from-order, reading-parts}
+use Rattle.page_theory.proofs.Reading.{from-order, reading-parts}
 use Rattle.page_theory.proofs.Calls.{bytesAt-bytes, bytesAt-join, write-right}
 use Rattle.page_theory.proofs.Accepted.{accepts-valid, write-accepted, read-accepted}
 

@@ -1,17 +1,17 @@
 -- Demand 3, of any accepted layout. Two payloads "are different if any byte differs", two pages "are the same if all their bytes are".
-use mathlib.Core.Path.{_≡_, refl, sym, ap, ap₂, _∙_}
+use mathlib.Core.Path.{_≡_, refl, sym, ap, _∙_}
 use mathlib.Core.Bool.{Bool}
 use mathlib.Core.List.{List, _++_}
-use Prim.Native.Nat.{ℕ, zero, suc, _+_, _*_, _≤_, _<_}
+use Prim.Native.Nat.{ℕ, _<_}
 use native.Mathlib.Omega.{arith}
-use lib.ListN.{length, getD}
-use Rattle.bits.specs.Bits.{run, Bytes}
+use lib.ListN.{length}
+use Rattle.bits.specs.Bits.{run}
 use Rattle.bits.proofs.Runs.{run-length}
 use Rattle.layout.specs.declared.Plan.{Plan}
 use Rattle.page_theory.specs.Page.{pageOf}
 use Rattle.page_theory.specs.Reading.{RefusedAt, Lowest, Reading, done, refused, reading}
 use Rattle.page_theory.specs.Damage.{Accepts, Payload, Outputs, flips, Damaged}
-use Rattle.page_theory.specs.Calls.{writeOf, Read, readEnded, readBy, readIn, readOf}
+use Rattle.page_theory.specs.Calls.{writeOf, Read, readEnded, readBy, readOf}
 use Rattle.page_theory.proofs.Reading.{refused-lowest, ruined-lowest}
 use Rattle.page_theory.proofs.Damage.{damaged-reading}
 use Rattle.page_theory.proofs.Calls.{read-right, read-refuses, readBy-payload}

@@ -10,4 +10,6 @@ pub mod Demand2
 pub mod Demand3
 pub mod OneBlock
 pub mod Claims
+pub mod Zeros
+pub mod Single
 pub mod Cases

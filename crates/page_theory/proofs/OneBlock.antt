@@ -1,12 +1,9 @@
 -- Judging one block. "It depends on the block number, the layout words, the page's length and that block's own bits, on no
 -- other page bit" (document 01, "One block").
 use mathlib.Core.Path.{_≡_, refl, sym, _∙_}
-use mathlib.Core.Bool.{cond}
 use mathlib.Core.List.{List}
-use Prim.Native.Nat.{ℕ, zero, suc, _+_, _<_}
-use native.Mathlib.Omega.{arith}
-use lib.ListN.{length, getD}
-use lib.Dec.{eqb, ltb}
+use Prim.Native.Nat.{ℕ, _+_, _<_}
+use lib.ListN.{length}
 use borrow.Author.Tests.{eq-eqb, lt-ltb}
 use Rattle.bits.specs.Bits.{bitOf}
 use Rattle.layout.specs.declared.Plan.{Plan}
@@ -16,7 +13,6 @@ use Rattle.layout.specs.Record.{layoutOf}
 use Rattle.layout.specs.Plan.{planOf, covered, start, Valid}
 use Rattle.layout.specs.Acceptance.{acceptance}
 use Rattle.code.specs.Word.{Word}
-use Rattle.page_theory.specs.Page.{blockWord}
 use Rattle.page_theory.specs.Reading.{GivesAt, RefusedAt, outcome}
 use Rattle.page_theory.specs.Damage.{Accepts}
 use Rattle.page_theory.specs.Calls.{blockReply, judgeEnded, judgeBy, judgeIn, judgeFor, judgeOf}

@@ -1,6 +1,6 @@
 -- Laws of reading a page: what each block gives, and when and where a page is refused.
 use mathlib.Core.Path.{_≡_, refl, sym, ap, ap₂, _∙_, subst₂}
-use mathlib.Core.Bool.{Bool, false}
+use mathlib.Core.Bool.{false}
 use mathlib.Core.List.{List, [], _∷_, _++_}
 use Prim.Native.Nat.{ℕ, zero, suc, _+_, _*_, _≤_, _<_}
 use native.Mathlib.Omega.{arith}
@@ -9,11 +9,11 @@ use native.Mathlib.Nat.{zero-add}
 use lib.ListN.{length, getD, length-append, List·getD-append}
 use lib.Seq.{getD-append-seam, getD-append-add}
 use Rattle.bits.specs.Bits.{bitOf, run}
-use Rattle.bits.proofs.Runs.{run-length, run-at, run-ext, run-cong, run-append}
+use Rattle.bits.proofs.Runs.{run-ext, run-cong, run-append}
 use Rattle.layout.specs.declared.Plan.{Plan}
-use Rattle.layout.specs.Plan.{bits, field, level, covered, coveredOf, from, payload, Valid}
+use Rattle.layout.specs.Plan.{bits, coveredOf, from, payload, Valid}
 use Rattle.code.specs.Word.{Word}
-use Rattle.code.specs.Outcome.{Outcome, good, ruined, judge}
+use Rattle.code.specs.Outcome.{Outcome, good, ruined}
 use Rattle.code.proofs.Outcome.{judge-gives, gives-judge, judge-refused, refused-judge, gives-length}
 use Rattle.page_theory.specs.Page.{message, blockWord}
 use Rattle.page_theory.specs.Reading.{GivesAt, RefusedAt, Lowest, outcome, Reading, done, refused, more, readingOf, reading}

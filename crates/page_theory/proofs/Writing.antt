@@ -8,7 +8,7 @@ use native.Mathlib.Omega.{arith}
 use native.Mathlib.Decide.{decLt}
 use lib.ListN.{length, getD, replicate, length-append, length-replicate, getD-replicate, List·getD-append}
 use lib.Seq.{getD-append-add}
-use Rattle.bits.specs.Bits.{bitOf, run, bytes, Bytes, placed}
+use Rattle.bits.specs.Bits.{bitOf, bytes, Bytes, placed}
 use Rattle.bits.proofs.Runs.{run-at, run-ext}
 use Rattle.bits.proofs.Pages.{bits-ext, bytes-bytes, bytes-bit}
 use Rattle.bits.proofs.Placed.{placed-whole}
