@@ -106,3 +106,6 @@ bytes-self n l b = bytes-ext (bitOf l) n l b (λ p h. refl)
 
 pub bytes-cong : (f g : ℕ → Bool) (n : ℕ) → ((p : ℕ) → p < 8 * n → f p ≡ g p) → bytes f n ≡ bytes g n
 bytes-cong f g n h = bytes-ext f n (bytes g n) (bytes-bytes g n) (λ p k. bytes-bit g n p k ∙ sym (h p k))
+
+pub bytes-run : (f : ℕ → Bool) (n s k : ℕ) → s + k ≤ 8 * n → run (bitOf (bytes f n)) s k ≡ run f s k
+bytes-run f n s k h = run-cong _ f s s k (λ j l. bytes-bit f n (s + j) (omega arith))

@@ -30,9 +30,13 @@ module _ {A : Type 0} where
   run-cong f g s r zero h = refl
   run-cong f g s r (suc n) h =
       let z : f s ≡ g r = ap f (sym (add-zero s)) ∙ h 0 (omega arith) ∙ ap g (add-zero r) in
-      ap₂ _∷_ z (run-cong f g (suc s) (suc r) n (λ j l. rw (suc-add, suc-add, ← add-suc, ← add-suc) (h (suc j) (omega arith))))
+      ap₂ _∷_ z (run-cong f g (suc s) (suc r) n (λ j l. rw (suc-add s j, suc-add r j, ← add-suc s j, ← add-suc r j) (h (suc j) (omega arith))))
 
   pub run-append : (f : ℕ → A) (s n k : ℕ) → run f s (n + k) ≡ run f s n ++ run f (s + n) k
   unfolding run
   run-append f s zero k = rw (zero-add k, add-zero s)
   run-append f s (suc n) k = rw (suc-add n k, run-append f (suc s) n k, suc-add s n, add-suc s n)
+
+  -- a list is the run of its elements
+  pub run-self : (w : List A) (d : A) → run (λ p. getD w p d) 0 (length w) ≡ w
+  run-self w d = run-ext (λ p. getD w p d) 0 w (length w) d refl (λ j l. ap (λ (i : ℕ). getD w i d) (zero-add j))

@@ -72,7 +72,7 @@ placedBit page s w p = cond (leb s p) (getD w (p - s) (bitOf page p)) (bitOf pag
 unfoldable pub placed : List ℕ → ℕ → List Bool → List ℕ
 placed page s w = bytes (placedBit page s w) (length page)
 
--- The n bits from position s on lie inside a page, and their positions fit 64 bits (a page longer than 2^61 bytes has others).
+-- The n bits from position s on lie inside a page, and the position after them is a number of 64 bits.
 pub record Inside (page : List ℕ) (s n : ℕ) : Type 0 where
   pub ends : s + n ≤ 8 * length page
   pub fits : s + n < 18446744073709551616

@@ -1,6 +1,6 @@
 // Filling with ones from any position on: whole bytes at once, the odd bits at both ends apart.
 ghost use mathlib.Core.Path.{_≡_};
-ghost use Prim.Native.Nat.{_+_, _-_, _*_, _%_, _^_, _≤_, _<_};
+ghost use Prim.Native.Nat.{_+_, _-_, _*_, _%_, _^_, _≤_};
 ghost use lib.ListN.{length};
 ghost use Rattle.bits.specs.Bits.{ones, placed, Inside};
 use super::read::byte_of;

@@ -11,7 +11,7 @@ pub fn bit_at(page: &[u8], p: usize) -> u8
     (byte_or_zero(page, p / 8) >> (7 - p % 8)) % 2
 }
 
-// The byte that position p lies in.
+// Internal: the byte that position p lies in.
 pub fn byte_of(p: usize) -> usize
     ensures { λ r. ⌜ r ≡ p / 8 ⌝ }
 {
@@ -25,7 +25,7 @@ fn byte_or_zero(page: &[u8], i: usize) -> u8
     if i < page.len() { page[i] } else { 0 }
 }
 
-// The eight bits from bit k on, counted from the highest, of two bytes that follow each other.
+// Internal: the eight bits from bit k on, counted from the highest, of two bytes that follow each other.
 pub fn joined(high: u8, low: u8, k: usize) -> u8
     requires { ⌜ k < 8 ⌝ }
     ensures { λ r. ⌜ r ≡ high * 2 ^ k % 256 + low / 2 ^ (8 - k) ⌝ }

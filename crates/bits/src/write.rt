@@ -1,10 +1,9 @@
 // Writing: words put at any position of a page, every other bit left as it was. What would lie past the end is lost.
 ghost use mathlib.Core.Path.{_≡_};
-ghost use mathlib.Core.Bool.{not, true};
+ghost use mathlib.Core.Bool.{not};
 ghost use mathlib.Core.List.{[], _∷_};
-ghost use Prim.Native.Nat.{_+_, _-_, _*_, _/_, _%_, _^_, _≤_, _<_};
-ghost use lib.ListN.{length, getD, replicate};
-ghost use Rattle.bits.specs.Bits.{bitOf, run, number, digits, placed};
+ghost use Prim.Native.Nat.{_+_, _*_, _/_, _%_, _^_, _≤_, _<_};
+ghost use Rattle.bits.specs.Bits.{bitOf, digits, placed};
 use super::read::bit_at;
 
 // The byte x with the n bits above its k lowest replaced by the number v.

@@ -112,5 +112,6 @@ ascending-flipped n ps r b = rising-ext 0 _ ps (ascending-rising s) r (λ p. eac
     off p = unfold coefficient in zeros-at n _
 
     each : (p : ℕ) → Dec (p < n) → marks (ascending (flipped (replicate n false) ps)) p ≡ marks ps p
-    each p (yes l) = marks-ascending _ p (rw size l) ∙ flipped-coefficient (replicate n false) ps p (rw (length-replicate n false) l) ∙ rw (off p) (unfold differ in refl)
+    each p (yes l) = marks-ascending _ p (rw size l) ∙ flipped-coefficient (replicate n false) ps p (rw (length-replicate n false) l)
+        ∙ rw (off p) (unfold differ in refl)
     each p (no l) = marks-past _ p (rw size (omega arith)) ∙ sym (marks-above n ps p b (omega arith))

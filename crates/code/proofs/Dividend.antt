@@ -159,7 +159,8 @@ remainder-stored f t m p l =
           rw (List·getD-append m p false i k, List·getD-append m zeros false i k, List·getD-append (replicate (length m) false) p false i k', zeros-at (length m) i) (left (getD m i false)))
       | no k ↦ (let e : i ≡ length m + (i - length m) = omega arith in
           let second : getD (replicate (length m) false ++ p) (length m + (i - length m)) false ≡ getD p (i - length m) false =
-          ap (λ k. getD (replicate (length m) false ++ p) (k + (i - length m)) false) (sym (length-replicate (length m) false)) ∙ getD-append-add (replicate (length m) false) p (i - length m) false in
+          ap (λ k. getD (replicate (length m) false ++ p) (k + (i - length m)) false) (sym (length-replicate (length m) false))
+          ∙ getD-append-add (replicate (length m) false) p (i - length m) false in
           rw e (rw (second, getD-append-add m p (i - length m) false, getD-append-add m zeros (i - length m) false, zeros-at (degree f * t) (i - length m)) (unfold differ in refl)))
     ]
 

@@ -99,7 +99,8 @@ pub flipped-coefficient : (w : Word) (ps : List ℕ) (p : ℕ) → p < length w 
 unfolding flipped marks
 flipped-coefficient w [] p l = sym (differ-right (coefficient w p))
 flipped-coefficient w (q ∷ ps) p l =
-    flipped-coefficient (turned w q) ps p (rw (turned-length w q) l) ∙ ap (λ b. differ b (marks ps p)) (turned-coefficient w q p l) ∙ differ-assoc (coefficient w p) (eqb p q) (marks ps p)
+    flipped-coefficient (turned w q) ps p (rw (turned-length w q) l) ∙ ap (λ b. differ b (marks ps p)) (turned-coefficient w q p l)
+    ∙ differ-assoc (coefficient w p) (eqb p q) (marks ps p)
 
 pub flipped-repaired : (w : Word) (ps : List ℕ) → flipped w ps ≡ repaired w (marks ps)
 flipped-repaired w ps = coefficient-ext _ _ (flipped-length w ps ∙ sym (repaired-length w (marks ps)))
@@ -133,7 +134,8 @@ unfolding ascending
 marks-ascending [] p l = absurd (omega arith)
 marks-ascending (b ∷ w) p l = marks-append (ascending w) _ p ∙ go (decLt p (length w)) (marks-ascending w p)
   where
-    go : Dec (p < length w) → (p < length w → marks (ascending w) p ≡ coefficient w p) → differ (marks (ascending w) p) (marks (cond b (length w ∷ []) []) p) ≡ coefficient (b ∷ w) p
+    go : Dec (p < length w) → (p < length w → marks (ascending w) p ≡ coefficient w p)
+        → differ (marks (ascending w) p) (marks (cond b (length w ∷ []) []) p) ≡ coefficient (b ∷ w) p
     go (yes m) h = rw (h m, marks-other b (length w) p (λ e. omega arith), coefficient-tail b w p m) (differ-right (coefficient w p))
     go (no m) h = let e : p ≡ length w = omega arith in rw (marks-past w p (omega arith), marks-last b (length w) p e, e, coefficient-head b w) (unfold differ in refl)
 
@@ -181,7 +183,8 @@ module _ (K : BinaryField) (g : ℕ → K .carrier) where
   sum-one zero q l = absurd (omega arith)
   sum-one (suc n) q l = sum-suc K n _ ∙ go (decLt q n) (sum-one n q)
     where
-      go : Dec (q < n) → (q < n → sum K n (λ p. K .mul (word.bit K (eqb p q)) (g p)) ≡ g q) → K .add (sum K n (λ p. K .mul (word.bit K (eqb p q)) (g p))) (K .mul (word.bit K (eqb n q)) (g n)) ≡ g q
+      go : Dec (q < n) → (q < n → sum K n (λ p. K .mul (word.bit K (eqb p q)) (g p)) ≡ g q)
+          → K .add (sum K n (λ p. K .mul (word.bit K (eqb p q)) (g p))) (K .mul (word.bit K (eqb n q)) (g n)) ≡ g q
       go (yes m) h = rw (h m, ne-eqb n q (λ e. omega arith)) (simp ring)
       go (no m) h = let e : n ≡ q = omega arith in
           rw (sum-nil K n (λ p. K .mul (word.bit K (eqb p q)) (g p)) (λ i k. rw (ne-eqb i q (λ e. omega arith)) (simp ring)), eq-eqb n q e, e) (simp ring)
@@ -207,7 +210,8 @@ module _ (f : Field) where
   value-power-sum w j = value-el f w (suc j) ∙ ap (el f) (sym (power-sum-value f w j))
 
   -- Flipping a list of exponents adds its power sum to the value of a word.
-  pub flipped-value : (w : Word) (ps : List ℕ) (j : ℕ) → Below (length w) ps → 0 < j → value f (flipped w ps) (a^ f j) ≡ bitXor (value f w (a^ f j)) (powerSum f ps j)
+  pub flipped-value : (w : Word) (ps : List ℕ) (j : ℕ) → Below (length w) ps → 0 < j
+      → value f (flipped w ps) (a^ f j) ≡ bitXor (value f w (a^ f j)) (powerSum f ps j)
   flipped-value w ps zero b l = absurd (omega arith)
   flipped-value w ps (suc j) b l =
       value-power-sum (flipped w ps) j
@@ -215,10 +219,12 @@ module _ (f : Field) where
       ∙ el-add f _ _ ∙ ap₂ bitXor (sym (value-power-sum w j)) (marks-power-sum (length w) ps j b)
 
   -- The recheck of a list of exponents: its power sums are the odd syndromes of the word.
-  pub recheck-flipped : (t : ℕ) (w : Word) (ps : List ℕ) → Below (length w) ps → ((i : ℕ) → i < t → value f w (a^ f (suc (i + i))) ≡ powerSum f ps (suc (i + i))) → Codeword f t (flipped w ps)
+  pub recheck-flipped : (t : ℕ) (w : Word) (ps : List ℕ) → Below (length w) ps
+      → ((i : ℕ) → i < t → value f w (a^ f (suc (i + i))) ≡ powerSum f ps (suc (i + i))) → Codeword f t (flipped w ps)
   recheck-flipped t w ps b h = codeword-values f t (flipped w ps) (λ i l. flipped-value w ps (suc (i + i)) b (omega arith) ∙ rw (h i l) (xor-self (powerSum f ps (suc (i + i)))))
 
-  pub flipped-recheck : (t : ℕ) (w : Word) (ps : List ℕ) → Below (length w) ps → Codeword f t (flipped w ps) → (j : ℕ) → 0 < j → j ≤ 2 * t → value f w (a^ f j) ≡ powerSum f ps j
+  pub flipped-recheck : (t : ℕ) (w : Word) (ps : List ℕ) → Below (length w) ps → Codeword f t (flipped w ps) → (j : ℕ) → 0 < j → j ≤ 2 * t
+      → value f w (a^ f j) ≡ powerSum f ps j
   flipped-recheck t w ps b c j l m = xor-eq _ _ (sym (flipped-value w ps j b l) ∙ c .zeros j l m)
 
   -- A word with a single one is no codeword.

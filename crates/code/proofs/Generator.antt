@@ -123,7 +123,8 @@ module _ (f : Field) where
   degree-positive : 0 < degree f
   degree-positive = omega (arith, usable f .two)
 
-  pub conjugate-zero : (t : ℕ) (w : Word) → Codeword f t w → (i : ℕ) → i < degree f * t → horner (gf f) (elements f w) (pow (gf f) (a f) (exponent f i)) (length w) ≡ gf f .nil
+  pub conjugate-zero : (t : ℕ) (w : Word) → Codeword f t w → (i : ℕ) → i < degree f * t
+      → horner (gf f) (elements f w) (pow (gf f) (a f) (exponent f i)) (length w) ≡ gf f .nil
   unfolding exponent
   conjugate-zero t w c i l =
       let q : i / degree f < t = div-lt-iff-lt-mul degree-positive .1 (rw (mul-comm (degree f) t) at l) in

@@ -49,7 +49,8 @@ listed-below s = ascending-below s
 
 repaired-cong : (w : Word) (e e' : ℕ → Bool) → ((p : ℕ) → p < length w → e p ≡ e' p) → repaired w e ≡ repaired w e'
 repaired-cong w e e' h = coefficient-ext _ _ (repaired-length w e ∙ sym (repaired-length w e')) (λ p l.
-    let k : p < length w = omega (arith, repaired-length w e') in repaired-coefficient w e p k ∙ ap (differ (coefficient w p)) (h p k) ∙ sym (repaired-coefficient w e' p k))
+    let k : p < length w = omega (arith, repaired-length w e') in repaired-coefficient w e p k ∙ ap (differ (coefficient w p)) (h p k)
+    ∙ sym (repaired-coefficient w e' p k))
 
 pub listed-flipped : (w s : Word) → length s ≡ length w → flipped w (listed s) ≡ repaired w (coefficient s)
 unfolding listed
@@ -58,7 +59,8 @@ listed-flipped w s l = flipped-repaired w (ascending s) ∙ repaired-cong w _ _ 
 pub listed-power-sum : (f : Field) (s : Word) (j : ℕ) → el f (power-sum (gf f) (a f) (coefficient s) (length s) j) ≡ powerSum f (listed s) (suc j)
 unfolding listed
 listed-power-sum f s j =
-    ap (el f) (sym (power-sum-cong (gf f) (a f) (marks (ascending s)) (coefficient s) (length s) j (marks-ascending s))) ∙ marks-power-sum f (length s) (ascending s) j (ascending-below s)
+    ap (el f) (sym (power-sum-cong (gf f) (a f) (marks (ascending s)) (coefficient s) (length s) j (marks-ascending s)))
+    ∙ marks-power-sum f (length s) (ascending s) j (ascending-below s)
 
 -- ---- and in the order of the listing
 
@@ -77,14 +79,16 @@ ones-count (b ∷ s) = rw (coefficient-head b s, count-cong _ (coefficient s) (l
     go true = unfold digit bump in omega arith
     go false = unfold digit bump in omega arith
 
-pub repaired-remainder : (f : Field) (t : ℕ) (w s : Word) → length s ≡ length w → remainder f t (repaired w (coefficient s)) ≡ bitXor (remainder f t w) (remainder f t s)
+pub repaired-remainder : (f : Field) (t : ℕ) (w s : Word) → length s ≡ length w
+    → remainder f t (repaired w (coefficient s)) ≡ bitXor (remainder f t w) (remainder f t s)
 repaired-remainder f t w s l = remainder-xor f t w s (repaired w (coefficient s)) (sym (repaired-length w (coefficient s))) (l ∙ sym (repaired-length w (coefficient s))) each
   where
     back : (i : ℕ) → i < length w → coefficient s (length w - suc i) ≡ getD s i false
     back i k = unfold coefficient in (let e : length s - suc (length w - suc i) ≡ i = omega arith in rw e)
 
     each : (i : ℕ) → i < length (repaired w (coefficient s)) → getD (repaired w (coefficient s)) i false ≡ differ (getD w i false) (getD s i false)
-    each i k = let k' : i < length w = omega (arith, repaired-length w (coefficient s)) in repaired-at w (coefficient s) i k' ∙ ap (differ (getD w i false)) (back i k')
+    each i k = let k' : i < length w = omega (arith, repaired-length w (coefficient s)) in repaired-at w (coefficient s) i k'
+        ∙ ap (differ (getD w i false)) (back i k')
 
 pub locates-near : (f : Field) (t : ℕ) (w s : Word) → t ≤ 62 → Locates f t (length w) (remainder f t w) s → Near f t w (repaired w (coefficient s))
 locates-near f t w s h x = repaired-near f t w (coefficient s)
@@ -245,7 +249,8 @@ module _ (f : Field) (t n r : ℕ) (fits : Fits f t n) (low : r < 2 ^ (degree f 
         same = repaired-cong (digits r n) _ e (λ p l. marked-coefficient e n p (omega (arith, word-length)))
 
         zero-sum : bitXor r (remainder f t (marked e n)) ≡ 0
-        zero-sum = ap (λ x. bitXor x (remainder f t (marked e n))) (sym word-remainder) ∙ sym (repaired-remainder f t (digits r n) (marked e n) (marked-length e n ∙ sym word-length))
+        zero-sum = ap (λ x. bitXor x (remainder f t (marked e n))) (sym word-remainder)
+            ∙ sym (repaired-remainder f t (digits r n) (marked e n) (marked-length e n ∙ sym word-length))
             ∙ ap (remainder f t) same ∙ codeword-remainder f t _ (fits .level) code
 
     pub locates-recheck : Locates f t n r (marked e n) → (j : ℕ) → j < 2 * t → S j ≡ power-sum (gf f) (a f) e n j

@@ -53,7 +53,8 @@ refused-judge f t k w h = go (nearest f t w) h
 -- A codeword gives its own message and no flips.
 pub judge-codeword : (f : Field) (t k : ℕ) (w : Word) → Fits f t (length w) → Codeword f t w → judge f t k w ≡ good (take k w) 0
 judge-codeword f t k w h c =
-    judge-gives f t k w _ _ h (near-gives f t k w w (record { same = refl; code = c; close = omega (arith, distance-self w) })) ∙ ap (good (take k w)) (distance-self w)
+    judge-gives f t k w _ _ h (near-gives f t k w w (record { same = refl; code = c; close = omega (arith, distance-self w) }))
+    ∙ ap (good (take k w)) (distance-self w)
 
 -- A block damaged past its level, and read all the same, reports at least 2t + 1 less the number of its flips.
 pub judge-worn : (f : Field) (t k : ℕ) (w c m : Word) (n : ℕ) → Fits f t (length w) → length c ≡ length w → Codeword f t c → t < distance w c

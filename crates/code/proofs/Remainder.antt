@@ -108,7 +108,8 @@ module _ (K : BinaryField) (e g : ℕ) where
       go (suc p) l h k = unfold cons in rw (h, k p (omega arith))
 
   -- At a zero of g the remainder has the word's value.
-  run-valueAt : (w : Word) (n : ℕ) (y : F) → Zero K e (terms K g) y → valueAt K (suc e) (remainderOf (suc e) g w n) y ≡ horner K (λ i. word.bit K (getD w i false)) y n
+  run-valueAt : (w : Word) (n : ℕ) (y : F) → Zero K e (terms K g) y
+      → valueAt K (suc e) (remainderOf (suc e) g w n) y ≡ horner K (λ i. word.bit K (getD w i false)) y n
   unfolding valueAt
   run-valueAt w n y z = low-cong K (suc e) _ _ y (λ p l. terms-run w n p (omega arith)) ∙ run-value K e (terms K g) _ n y z
 
@@ -163,7 +164,8 @@ module _ (f : Field) (t : ℕ) (h : t ≤ 62) (e : ℕ) (d : degree f * t ≡ su
       R : ℕ
       R = remainderOf (suc e) (generator f t) Z (length Z)
 
-      each : (y : gf f .carrier) → Zero (gf f) e (terms (gf f) (generator f t)) y → horner (gf f) (elements f (m ++ digits R (suc e))) y (length (m ++ digits R (suc e))) ≡ gf f .nil
+      each : (y : gf f .carrier) → Zero (gf f) e (terms (gf f) (generator f t)) y
+          → horner (gf f) (elements f (m ++ digits R (suc e))) y (length (m ++ digits R (suc e))) ≡ gf f .nil
       each y z =
           value-append f m (digits R (suc e)) y (suc e) (digits-length R (suc e))
           ∙ rw (
@@ -216,7 +218,8 @@ remainder-value f t w j h l m = go (degree f * t) refl
     go (suc e) d = rw d (same-value f t h e d w j l m)
 
 -- The same of numbers.
-pub remainder-syndrome : (f : Field) (t : ℕ) (w : Word) (j : ℕ) → t ≤ 62 → 0 < j → j ≤ 2 * t → value f (digits (remainder f t w) (degree f * t)) (a^ f j) ≡ value f w (a^ f j)
+pub remainder-syndrome : (f : Field) (t : ℕ) (w : Word) (j : ℕ) → t ≤ 62 → 0 < j → j ≤ 2 * t
+    → value f (digits (remainder f t w) (degree f * t)) (a^ f j) ≡ value f w (a^ f j)
 unfolding elements
 remainder-syndrome f t w j h l m =
     value-el f (digits (remainder f t w) (degree f * t)) j

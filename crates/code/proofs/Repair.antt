@@ -63,10 +63,12 @@ module _ (f : Field) (t : ℕ) (w : Word) (e : ℕ → Bool) where
       rw (repaired-length w e)
       (power-sum-cong (gf f) (a f) (coefficient (repaired w e)) (both (coefficient w) e) (length w) j (repaired-coefficient w e) ∙ power-sum-both (gf f) (a f) (coefficient w) e (length w) j)
 
-  pub recheck-codeword : ((i : ℕ) → i < t → power-sum (gf f) (a f) (coefficient w) (length w) (i + i) ≡ power-sum (gf f) (a f) e (length w) (i + i)) → Codeword f t (repaired w e)
+  pub recheck-codeword : ((i : ℕ) → i < t → power-sum (gf f) (a f) (coefficient w) (length w) (i + i) ≡ power-sum (gf f) (a f) e (length w) (i + i))
+      → Codeword f t (repaired w e)
   recheck-codeword h = codeword-odd f t (repaired w e) (λ i l. sym (power-sum-value f (repaired w e) (i + i)) ∙ repaired-sum (i + i) ∙ rw (h i l) (gf f .add-self _))
 
-  pub codeword-recheck : Codeword f t (repaired w e) → (j : ℕ) → j < 2 * t → power-sum (gf f) (a f) (coefficient w) (length w) j ≡ power-sum (gf f) (a f) e (length w) j
+  pub codeword-recheck : Codeword f t (repaired w e) → (j : ℕ) → j < 2 * t
+      → power-sum (gf f) (a f) (coefficient w) (length w) j ≡ power-sum (gf f) (a f) e (length w) j
   codeword-recheck c j l = add-nil-eq (gf f) _ _ (sym (repaired-sum j) ∙ codeword-power-sums f t (repaired w e) c j l)
 
 -- The decoder's state after the 2t syndromes S of the word, and the set e of the roots of its polynomial.

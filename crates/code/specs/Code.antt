@@ -21,9 +21,11 @@ unfoldable pub valueOf : Field → Word → ℕ → ℕ → ℕ
 valueOf f w y zero = 0
 valueOf f w y (suc n) = bitXor (product f y (valueOf f w y n)) (digit (getD w n false))
 
+-- The value of all of it.
 unfoldable pub value : Field → Word → ℕ → ℕ
 value f w y = valueOf f w y (length w)
 
+-- Zero at a, a^2, .., a^(2t). Where t = 0 nothing is asked.
 pub record Codeword (f : Field) (t : ℕ) (w : Word) : Type 0 where
   pub zeros : (j : ℕ) → 0 < j → j ≤ 2 * t → value f w (a^ f j) ≡ 0
 
@@ -33,6 +35,7 @@ pub record Near (f : Field) (t : ℕ) (w c : Word) : Type 0 where
   pub code : Codeword f t c
   pub close : distance w c ≤ t
 
+-- A block that cannot be repaired (document 01, "Replies", 9).
 pub record Ruined (f : Field) (t : ℕ) (w : Word) : Type 0 where
   pub none : (c : Word) → Near f t w c → ⊥
 

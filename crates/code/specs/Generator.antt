@@ -23,6 +23,7 @@ unfoldable pub times : ℕ → ℕ → ℕ → ℕ
 times zero x y = 0
 times (suc k) x y = bitXor (y % 2 * x) (times k x (y / 2) * 2)
 
+-- Minimal polynomials, as `scripts/generators.py minimals` prints them. That they are is tested in proofs/MinimalTest.
 unfoldable pub minimals13 : List ℕ
 minimals13 =
     0x201b ∷ 0x26b1 ∷ 0x2993 ∷ 0x274f ∷ 0x31e1 ∷ 0x23a3 ∷ 0x3079 ∷ 0x22bf ∷ 0x2fff ∷ 0x3a29 ∷ 0x39d3 ∷ 0x3827 ∷ 0x355d ∷ 0x3315 ∷ 0x3f45 ∷ 0x3d4d
@@ -56,8 +57,10 @@ unfoldable pub remainderOf : ℕ → ℕ → Word → ℕ → ℕ
 remainderOf d g w zero = 0
 remainderOf d g w (suc n) = remainderStep d g (remainderOf d g w n) (getD w n false)
 
+-- The remainder by the generator of the level, of degree m t.
 unfoldable pub remainder : Field → ℕ → Word → ℕ
 remainder f t w = remainderOf (degree f * t) (generator f t) w (length w)
 
+-- Document 01 stores it plainly, with no mask.
 unfoldable pub parity : Field → ℕ → Word → Word
 parity f t message = digits (remainder f t (message ++ replicate (degree f * t) false)) (degree f * t)

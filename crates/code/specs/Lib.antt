@@ -2,6 +2,7 @@
 pub mod Word
 pub mod Code
 pub mod Generator
+pub mod Search
 pub mod Outcome
 pub mod Locations
 pub mod Register

@@ -20,8 +20,9 @@ use Rattle.field.specs.declared.Field.{Field}
 use Rattle.field.specs.Field.{a^}
 use Rattle.code.specs.Word.{Word, apart, distance, ones, ascending}
 use Rattle.code.specs.Generator.{remainder}
-use Rattle.code.specs.Outcome.{search}
+use Rattle.code.specs.Search.{search}
 
+-- The set that locating from a remainder is to answer.
 pub record Locates (f : Field) (t n r : ℕ) (s : Word) : Type 0 where
   pub below : length s ≡ n
   pub few : ones s ≤ t
@@ -34,14 +35,18 @@ zeros-distance zero (b ∷ s) l = absurd (omega arith)
 zeros-distance (suc n) (true ∷ s) l = ap (λ k. 1 + k) (zeros-distance n s (omega arith))
 zeros-distance (suc n) (false ∷ s) l = ap (λ k. 0 + k) (zeros-distance n s (omega arith))
 
--- By a search over the words at most t places away from zero.
+-- By a search over all words with at most t ones. There is at most one such set (proofs/Locations, locates-unique).
 pub located : (f : Field) (t n r : ℕ) → Dec ((s : Word) × Locates f t n r s)
 located f t n r = elim (search (λ s. remainder f t s ≡ r) (λ s. ℕ-discrete (remainder f t s) r) t (replicate n false)) [
   | yes (s, h) ↦ (let l : length s ≡ n = h .same ∙ length-replicate n false in
       yes (s, record { below = l; few = omega (arith, h .close, zeros-distance n s l); leaves = h .holds }))
-  | no none ↦ no (λ (s, h). none (s, record { same = h .below ∙ sym (length-replicate n false); holds = h .leaves; close = omega (arith, h .few, zeros-distance n s (h .below)) }))
+  | no none ↦ no (λ (s, h). none (
+    s,
+    record { same = h .below ∙ sym (length-replicate n false); holds = h .leaves; close = omega (arith, h .few, zeros-distance n s (h .below)) },
+  ))
 ]
 
+-- Document 01 lists exponents ascending.
 unfoldable pub listed : Word → List ℕ
 listed = ascending
 
@@ -53,6 +58,7 @@ unfoldable pub locateBy : {f : Field} {t n r : ℕ} → Dec ((s : Word) × Locat
 locateBy (yes (s, locates)) = exponents (listed s)
 locateBy (no none) = nowhere
 
+-- The exponents, or reply 9 where there is no such set.
 unfoldable pub locate : (f : Field) (t n r : ℕ) → Locations
 locate f t n r = locateBy (located f t n r)
 

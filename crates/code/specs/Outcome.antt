@@ -1,86 +1,23 @@
 -- What becomes of a block (document 01, "The code" and "One block"): the rule is distance.
 --
--- Close P t w c        c has the length of w, has the property P and differs from w in at most t places
--- search P d t w       such a c, or that there is none
--- nearest f t w        the codeword within t flips of w, or that there is none
+-- codeword? f t w      that a word is a codeword, or that it is none
+-- nearest f t w        a codeword within t flips of w, or that there is none
 -- Outcome              what a block gives: its message and the number of its flips, or that it is ruined
 -- judge f t k w        the outcome of a block w whose first k bits are its message
 -- Gives f t k w m n    a block is good: m is the message of a codeword within t flips of w, and n is their distance
 -- Refused f t w        a block is ruined: no codeword is within t flips of w
---
--- A search goes over all words at most t places away. It is never run: its type says what it finds, and its lines need not be read.
-use mathlib.Core.Path.{_≡_, refl, ap}
-use mathlib.Core.Bool.{Bool, true, false}
-use mathlib.Core.List.{[], _∷_}
+use mathlib.Core.Path.{_≡_}
 use Prim.Native.Nat.{ℕ, zero, suc, _*_, _≤_, _<_}
 use native.Mathlib.Omega.{arith}
-use native.Mathlib.Decide.{decLt, ℕ-discrete}
-use lib.ListN.{length, take}
-use Rattle.algebra.specs.Word.{flip}
+use native.Mathlib.Decide.{ℕ-discrete}
+use lib.ListN.{take}
 use Rattle.field.specs.declared.Field.{Field}
 use Rattle.field.specs.Field.{a^}
-use Rattle.code.specs.Word.{Word, apart, distance}
-use Rattle.code.specs.Code.{Codeword, Near, Ruined, value}
+use Rattle.code.specs.Word.{Word, distance}
+use Rattle.code.specs.Code.{value, Codeword, Near, Ruined}
+use Rattle.code.specs.Search.{search, all-below}
 
-pub record Close (P : Word → Type 0) (t : ℕ) (w c : Word) : Type 0 where
-  pub same : length c ≡ length w
-  pub holds : P c
-  pub close : distance w c ≤ t
-
-keep : (P : Word → Type 0) (t : ℕ) (b : Bool) (w : Word) (c : Word) → Close (λ v. P (b ∷ v)) t w c → Close P t (b ∷ w) (b ∷ c)
-unfolding distance apart
-keep P t true w c h = record { same = ap suc (h .same); holds = h .holds; close = omega (arith, h .close) }
-keep P t false w c h = record { same = ap suc (h .same); holds = h .holds; close = omega (arith, h .close) }
-
-turn : (P : Word → Type 0) (t : ℕ) (b : Bool) (w : Word) (c : Word) → Close (λ v. P (flip b ∷ v)) t w c → Close P (suc t) (b ∷ w) (flip b ∷ c)
-unfolding distance apart flip
-turn P t true w c h = record { same = ap suc (h .same); holds = h .holds; close = omega (arith, h .close) }
-turn P t false w c h = record { same = ap suc (h .same); holds = h .holds; close = omega (arith, h .close) }
-
--- The first bit was kept or turned over.
-kept-or-turned : (P : Word → Type 0) (t : ℕ) (b : Bool) (w : Word) {A : Type 0}
-    → ((c : Word) → Close (λ v. P (b ∷ v)) t w c → A) → ((c : Word) (s : ℕ) → t ≡ suc s → Close (λ v. P (flip b ∷ v)) s w c → A) → (c : Word) → Close P t (b ∷ w) c → A
-unfolding distance apart flip
-kept-or-turned P t b w f g [] h = absurd (omega (arith, h .same))
-kept-or-turned P t true w f g (true ∷ c) h = f c (record { same = omega (arith, h .same); holds = h .holds; close = omega (arith, h .close) })
-kept-or-turned P t false w f g (false ∷ c) h = f c (record { same = omega (arith, h .same); holds = h .holds; close = omega (arith, h .close) })
-kept-or-turned P zero true w f g (false ∷ c) h = absurd (omega (arith, h .close))
-kept-or-turned P zero false w f g (true ∷ c) h = absurd (omega (arith, h .close))
-kept-or-turned P (suc t) true w f g (false ∷ c) h = g c t refl (record { same = omega (arith, h .same); holds = h .holds; close = omega (arith, h .close) })
-kept-or-turned P (suc t) false w f g (true ∷ c) h = g c t refl (record { same = omega (arith, h .same); holds = h .holds; close = omega (arith, h .close) })
-
-pub search : (P : Word → Type 0) → ((w : Word) → Dec (P w)) → (t : ℕ) (w : Word) → Dec ((c : Word) × Close P t w c)
-unfolding distance
-search P d t [] = elim (d []) [
-  | yes h ↦ yes ([], record { same = refl; holds = h; close = omega arith })
-  | no h ↦ no (λ (c, k). h (empty c k))
-]
-  where
-    empty : (c : Word) → Close P t [] c → P []
-    empty [] k = k .holds
-    empty (x ∷ c) k = absurd (omega (arith, k .same))
-search P d zero (b ∷ w) = elim (search (λ v. P (b ∷ v)) (λ v. d (b ∷ v)) zero w) [
-  | yes (c, h) ↦ yes (b ∷ c, keep P zero b w c h)
-  | no n ↦ no (λ (c, h). kept-or-turned P zero b w (λ v k. n (v, k)) (λ v s e k. omega arith) c h)
-]
-search P d (suc t) (b ∷ w) = elim (search (λ v. P (b ∷ v)) (λ v. d (b ∷ v)) (suc t) w) [
-  | yes (c, h) ↦ yes (b ∷ c, keep P (suc t) b w c h)
-  | no n ↦ elim (search (λ v. P (flip b ∷ v)) (λ v. d (flip b ∷ v)) t w) [
-    | yes (c, h) ↦ yes (flip b ∷ c, turn P t b w c h)
-    | no k ↦ no (λ (c, h). kept-or-turned P (suc t) b w (λ v l. n (v, l)) (λ v s e l. k (v, (let q : t ≡ s = omega arith in rw q l))) c h)
-  ]
-]
-
-all-below : (P : ℕ → Type 0) → ((j : ℕ) → Dec (P j)) → (n : ℕ) → Dec ((j : ℕ) → j < n → P j)
-all-below P d zero = yes (λ j l. absurd (omega arith))
-all-below P d (suc n) = elim (all-below P d n) [
-  | no h ↦ no (λ k. h (λ j l. k j (omega arith)))
-  | yes h ↦ elim (d n) [
-    | no q ↦ no (λ k. q (k n (omega arith)))
-    | yes q ↦ yes (λ j l. elim (decLt j n) [ yes m ↦ h j m | no m ↦ (let e : j ≡ n = omega arith in rw e q) ])
-  ]
-]
-
+-- By all values at a, a^2, .., a^(2t).
 pub codeword? : (f : Field) (t : ℕ) (w : Word) → Dec (Codeword f t w)
 codeword? f t w = elim (all-below (λ i. value f w (a^ f (suc i)) ≡ 0) (λ i. ℕ-discrete (value f w (a^ f (suc i))) 0) (2 * t)) [
   | yes h ↦ yes (record { zeros = at h })
@@ -91,17 +28,19 @@ codeword? f t w = elim (all-below (λ i. value f w (a^ f (suc i)) ≡ 0) (λ i. 
     at h zero l m = absurd (omega arith)
     at h (suc i) l m = h i (omega arith)
 
+-- By a search over all words at most t places away. There is at most one (proofs/Codeword, near-unique).
 pub nearest : (f : Field) (t : ℕ) (w : Word) → Dec ((c : Word) × Near f t w c)
 nearest f t w = elim (search (Codeword f t) (codeword? f t) t w) [
   | yes (c, h) ↦ yes (c, record { same = h .same; code = h .holds; close = h .close })
   | no n ↦ no (λ (c, h). n (c, record { same = h .same; holds = h .code; close = h .close }))
 ]
 
--- A ruined block is the one of document 01, "Replies", 9. A count is the number of covered bits in which block and codeword differ.
+-- The count is the number of covered bits, parity included, in which block and codeword differ (document 01, "Replies").
 pub data Outcome : Type 0 where
   good : Word → ℕ → Outcome
   ruined : Outcome
 
+-- With a codeword near, its first k bits and its distance; with none, ruined.
 unfoldable pub judgeBy : (k : ℕ) {f : Field} {t : ℕ} {w : Word} → Dec ((c : Word) × Near f t w c) → Outcome
 judgeBy k {f} {t} {w} (yes (c, near)) = good (take k c) (distance w c)
 judgeBy k (no none) = ruined
@@ -109,6 +48,7 @@ judgeBy k (no none) = ruined
 unfoldable pub judge : (f : Field) (t k : ℕ) (w : Word) → Outcome
 judge f t k w = judgeBy k (nearest f t w)
 
+-- What a block must give (demand 2), and when it must be refused (demand 3). `judge` gives exactly this (proofs/Outcome).
 pub record Gives (f : Field) (t k : ℕ) (w m : Word) (n : ℕ) : Type 0 where
   pub word : Word
   pub near : Near f t w word

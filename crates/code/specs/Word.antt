@@ -45,6 +45,7 @@ unfoldable pub flipped : Word → List ℕ → Word
 flipped w [] = w
 flipped w (p ∷ ps) = flipped (turned w p) ps
 
+-- The first bit of b ∷ w, with the highest exponent, comes last.
 unfoldable pub ascending : Word → List ℕ
 ascending [] = []
 ascending (b ∷ w) = ascending w ++ cond b (length w ∷ []) []

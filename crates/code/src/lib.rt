@@ -7,7 +7,8 @@
 //   Word         words of bits, distance, flips
 //   Code         codewords, a codeword within t flips, the generator of a level
 //   Generator    minimal polynomials, generators as numbers, remainder, parity
-//   Outcome      the codeword within t flips of a block, found by exhaustive search; what the block gives
+//   Search       exhaustive search over the words at most t places away
+//   Outcome      the codeword within t flips of a block; what the block gives
 //   Locations    the set of exponents that leaves a remainder, and its listing
 //   Register     numbers in words of 64 bits
 //

@@ -7,7 +7,7 @@
 -- findingOf l             the first broken rule of a layout
 -- acceptance record       the answer to a layout record
 -- ruleNumber, refusalReply   document 01's number of a rule and of a refusal
-use Prim.Native.Nat.{ℕ, _+_, _*_}
+use Prim.Native.Nat.{ℕ, _*_}
 use mathlib.Core.List.{List}
 use mathlib.Core.Bool.{Bool, true, false, cond}
 use lib.ListN.{length}

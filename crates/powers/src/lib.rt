@@ -3,7 +3,9 @@
 // For m = 13 the powers are a stored table of 8,191 numbers; each entry follows from the one before, a rule that is tested once
 // over the table. For m = 14 they are computed, each from the power eight places before. The logarithms come from the powers.
 //
-//   fill_tables   fills two lent arrays for a field
+//   fill_tables   fills a lent table of powers and a lent table of logarithms
+//   fill_powers   the powers alone
+//   fill_logs     the logarithms, from the powers
 ghost use mathlib.Core.Path.{_≡_};
 ghost use lib.ListN.{length};
 ghost use Rattle.field.specs.Tables.{Tables};
@@ -18,15 +20,23 @@ pub fn fill_tables(f: Field, powers: &mut [u16; 16384], logs: &mut [u16; 16384])
     requires { ⌜ (length (now powers) ≡ 16384) × (length (now logs) ≡ 16384) ⌝ }
     ensures { λ r. ⌜ Tables f (now (powers .exit)) (now (logs .exit)) ⌝ }
 {
-    match f {
-        Field::Thirteen => stored::copy_powers(powers),
-        Field::Fourteen => computed::fill_powers(powers),
-    }
+    fill_powers(f, powers);
     fill_logs(f, powers, logs);
 }
 
-// The logarithm of each power of a is its exponent; the entry at 0 is 0.
-fn fill_logs(f: Field, powers: &[u16; 16384], logs: &mut [u16; 16384])
+// Internal. Fills the table of powers of a field.
+pub fn fill_powers(f: Field, powers: &mut [u16; 16384])
+    requires { ⌜ length (now powers) ≡ 16384 ⌝ }
+    ensures { λ r. ⌜ Powers f (now (powers .exit)) ⌝ }
+{
+    match f {
+        Field::Thirteen => stored::copy_powers(powers),
+        Field::Fourteen => computed::compute_powers(powers),
+    }
+}
+
+// Internal. Fills the table of logarithms: that of each power of a is its exponent; the entry at 0 is 0.
+pub fn fill_logs(f: Field, powers: &[u16; 16384], logs: &mut [u16; 16384])
     requires { ⌜ Powers f (now powers) ⌝ }
     requires { ⌜ length (now logs) ≡ 16384 ⌝ }
     ensures { λ r. ⌜ Tables f (now (powers .entry)) (now (logs .exit)) ⌝ }

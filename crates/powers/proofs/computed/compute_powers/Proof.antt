@@ -1,4 +1,4 @@
--- `powers::computed::fill_powers` meets its contract.
+-- `powers::computed::compute_powers` meets its contract.
 use mathlib.Core.Path.{sym, subst}
 use Prim.Native.Nat.{_-_, _^_, _≤_, _<_}
 use native.Mathlib.Omega.{arith}
@@ -9,8 +9,8 @@ use Rattle.field.proofs.Primitive.{primitive}
 use Rattle.powers.specs.Powers.{Begun}
 use Rattle.powers.proofs.Fill.{begun-next, begun-end}
 use Rattle.powers.proofs.Eight.{eight-next}
-use Rattle.powers.proofs.computed.fill_powers.Statement.{statement}
-use Rattle.powers.proofs.computed.fill_powers.Tie as tie
+use Rattle.powers.proofs.computed.compute_powers.Statement.{statement}
+use Rattle.powers.proofs.computed.compute_powers.Tie as tie
 
 abbrev Inv-loop : tie.InvT-loop
 Inv-loop powers₀ k₀ powers k = (8 ≤ k) × (k ≤ 16383) × Begun Fourteen k powers
@@ -62,8 +62,8 @@ returns : tie.Need-returns Inv-loop μ-loop
 unfolding longest
 returns c = begun-end (c .before .loop .inv .2) (omega arith)
 
-pub fill-powers-spec : {M : Type 1} → statement M
-fill-powers-spec =
+pub compute-powers-spec : {M : Type 1} → statement M
+compute-powers-spec =
     tie.close
     (tie.spec
     Inv-loop

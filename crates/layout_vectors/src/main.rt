@@ -1,0 +1,165 @@
+// Runs test vectors of the layout crate: each vector on standard input is one call, and its answer is one line of numbers.
+//
+// A vector is 32 bytes: the kind of call (`L` a layout, `P` a page bit, `B` a code bit), the length of the layout record,
+// its bytes in twelve places, two bytes not used, and two numbers of eight bytes. A line starts with the reply and its block.
+// An accepted layout shows its fields and sums, a refused one the block kind and the two numbers compared.
+use layout::Acceptance;
+use layout::BitAnswer;
+use layout::BlockFields;
+use layout::Kind;
+use layout::Layout;
+use layout::PositionAnswer;
+use layout::Reason;
+use layout::Refusal;
+
+fn reply_line(line: &mut [u8], reply: u8) -> usize {
+    let at = vector_io::put_number(line, 0, reply as u64);
+    vector_io::put_number(line, at, 0)
+}
+
+fn put_fields(line: &mut [u8], at: usize, fields: BlockFields) -> usize {
+    let gf = fields.gf;
+    let choice = match gf {
+        field::Field::Thirteen => 0,
+        field::Field::Fourteen => 1,
+    };
+    let ecc_at = vector_io::put_number(line, at, fields.ecc as u64);
+    let gf_at = vector_io::put_number(line, ecc_at, choice);
+    vector_io::put_number(line, gf_at, fields.units as u64)
+}
+
+fn put_sums(line: &mut [u8], at: usize, layout: Layout) -> usize {
+    let plan = layout::plan_of(layout);
+    let first = plan.first;
+    let later = plan.later;
+    let first_at = vector_io::put_number(line, at, layout::covered(first) as u64);
+    let later_at = vector_io::put_number(line, first_at, layout::covered(later) as u64);
+    let used_at = vector_io::put_number(
+        line,
+        later_at,
+        layout::block_start(plan, plan.blocks) as u64,
+    );
+    vector_io::put_number(line, used_at, plan.data as u64)
+}
+
+fn put_stored(line: &mut [u8], at: usize, layout: Layout) -> usize {
+    let first = layout.first;
+    let later = layout.later;
+    let nblocks_at = vector_io::put_number(line, at, layout.nblocks as u64);
+    let metadata_at = vector_io::put_number(line, nblocks_at, layout.metadata as u64);
+    let first_at = put_fields(line, metadata_at, first);
+    let page_at = vector_io::put_number(line, first_at, layout.page as u64);
+    put_fields(line, page_at, later)
+}
+
+fn accepted_line(line: &mut [u8], layout: Layout) -> usize {
+    let reply_at = reply_line(line, 0);
+    let stored_at = put_stored(line, reply_at, layout);
+    put_sums(line, stored_at, layout)
+}
+
+fn put_reason(line: &mut [u8], at: usize, reason: Reason) -> usize {
+    let kind = reason.kind;
+    let number = match kind {
+        Kind::First => 0,
+        Kind::Later => 1,
+        Kind::Page => 2,
+    };
+    let kind_at = vector_io::put_number(line, at, number);
+    let found_at = vector_io::put_number(line, kind_at, reason.found);
+    vector_io::put_number(line, found_at, reason.limit)
+}
+
+fn refused_line(line: &mut [u8], refusal: Refusal) -> usize {
+    reply_line(line, layout::refusal_reply(refusal))
+}
+
+fn refused_layout_line(line: &mut [u8], refusal: Refusal) -> usize {
+    let at = refused_line(line, refusal);
+    match refusal {
+        Refusal::RecordLength => at,
+        Refusal::Rule(reason) => put_reason(line, at, reason),
+        Refusal::Range => at,
+    }
+}
+
+fn layout_line(words: &[u8], line: &mut [u8]) -> usize {
+    match layout::check_layout(words) {
+        Acceptance::Accepted(l) => accepted_line(line, l),
+        Acceptance::Refused(refusal) => refused_layout_line(line, refusal),
+    }
+}
+
+// A page bit answers 1, its block and its exponent, or 0 in the tail.
+fn in_block_line(line: &mut [u8], block: u64, exponent: u64) -> usize {
+    let reply_at = reply_line(line, 0);
+    let kind_at = vector_io::put_number(line, reply_at, 1);
+    let block_at = vector_io::put_number(line, kind_at, block);
+    vector_io::put_number(line, block_at, exponent)
+}
+
+fn number_line(line: &mut [u8], n: u64) -> usize {
+    let reply_at = reply_line(line, 0);
+    vector_io::put_number(line, reply_at, n)
+}
+
+fn bit_line(words: &[u8], position: u64, line: &mut [u8]) -> usize {
+    match layout::locate_bit(words, position) {
+        BitAnswer::InBlock { block, exponent } => in_block_line(line, block, exponent),
+        BitAnswer::Tail => number_line(line, 0),
+        BitAnswer::Refused(refusal) => refused_line(line, refusal),
+    }
+}
+
+fn position_line(words: &[u8], block: u64, exponent: u64, line: &mut [u8]) -> usize {
+    match layout::bit_position(words, block, exponent) {
+        PositionAnswer::Position(position) => number_line(line, position),
+        PositionAnswer::Refused(refusal) => refused_line(line, refusal),
+    }
+}
+
+// The answer to a call by its kind.
+fn call_line(head: &[u8], words: &[u8], line: &mut [u8]) -> usize {
+    let call = vector_io::byte(head, 0, 0);
+    let first = vector_io::number(head, 16, 8);
+    let second = vector_io::number(head, 24, 8);
+    if call == b'L' {
+        return layout_line(words, line);
+    }
+    if call == b'P' {
+        return bit_line(words, first, line);
+    }
+    position_line(words, first, second, line)
+}
+
+// The answer to a vector.
+fn answer(head: &[u8], line: &mut [u8]) -> usize {
+    let length = vector_io::byte(head, 1, 0) as usize % 13;
+    let end = 2 + length;
+    if head.len() < end {
+        return 0;
+    }
+    call_line(head, &head[2..end], line)
+}
+
+// Answers the next vector: false where there is none.
+fn next_vector() -> bool {
+    let mut head = [0u8; 32];
+    if !vector_io::fill(&mut head) {
+        return false;
+    }
+    let mut line = [0u8; 256];
+    let at = answer(&head, &mut line);
+    vector_io::write_line(&line, at);
+    true
+}
+
+fn main() {
+    let mut turns: usize = 1000000;
+    while 0 < turns {
+        if !next_vector() {
+            return;
+        }
+        turns -= 1;
+    }
+}

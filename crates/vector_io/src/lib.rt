@@ -1,0 +1,84 @@
+// What the programs that run test vectors share: vectors are read from standard input in parts of a known length, numbers
+// are read out of them most significant byte first, and each answer is one line of decimal numbers on standard output.
+//
+//   fill             the next bytes of the input
+//   byte, number     a byte and a number of a vector
+//   put, put_number  a byte and a number onto a line
+//   write_line       the line, ended
+//
+// No function asks anything of its caller: what lies outside a slice reads as 0, and what does not fit a line is left out.
+use libc::STDIN_FILENO;
+use libc::STDOUT_FILENO;
+
+// Fills the buffer from standard input: false where the input ends before it is full.
+pub fn fill(buf: &mut [u8]) -> bool {
+    let n = io::read_full(STDIN_FILENO, buf);
+    n == buf.len()
+}
+
+// The byte at place `at + i`.
+pub fn byte(bytes: &[u8], at: usize, i: usize) -> u8 {
+    if bytes.len() <= at {
+        return 0;
+    }
+    if bytes.len() - at <= i {
+        return 0;
+    }
+    bytes[at + i]
+}
+
+// The number in `count` bytes from place `at` on; of more than eight bytes the last eight.
+pub fn number(bytes: &[u8], at: usize, count: usize) -> u64 {
+    let mut v: u64 = 0;
+    let mut i = 0;
+    while i < count {
+        v = v % 72057594037927936 * 256 + byte(bytes, at, i) as u64;
+        i += 1;
+    }
+    v
+}
+
+// A byte onto the line: the next place.
+pub fn put(line: &mut [u8], at: usize, b: u8) -> usize {
+    if at < line.len() {
+        line[at] = b;
+        return at + 1;
+    }
+    at
+}
+
+// Bytes onto the line, one after the other.
+pub fn put_all(line: &mut [u8], at: usize, bytes: &[u8]) -> usize {
+    let n = bytes.len();
+    let mut p = at;
+    let mut i = 0;
+    while i < n {
+        p = put(line, p, bytes[i]);
+        i += 1;
+    }
+    p
+}
+
+// A space onto the line, where something stands before it.
+fn put_gap(line: &mut [u8], at: usize) -> usize {
+    if 0 < at {
+        return put(line, at, b' ');
+    }
+    at
+}
+
+// A number in decimal onto the line, after a space where it is not the first.
+pub fn put_number(line: &mut [u8], at: usize, n: u64) -> usize {
+    let p = put_gap(line, at);
+    let mut digits = [0u8; 20];
+    let k = io::decimal(n, &mut digits);
+    put_all(line, p, &digits[..k])
+}
+
+// Writes the line, of which `at` is the next place, and ends it.
+pub fn write_line(line: &[u8], at: usize) {
+    if at <= line.len() {
+        io::write_all(STDOUT_FILENO, &line[..at]);
+    }
+    io::write_all(STDOUT_FILENO, b"\n");
+}
