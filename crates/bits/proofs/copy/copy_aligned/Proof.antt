@@ -51,8 +51,12 @@ loop-again c =
     let i = q .loop .i in
     let first = q .before .before .byte-of .result in
     let h : q .before .before .byte-of .result ≡ s .args .at / 8 = q .before .before .byte-of .ensures in
-    let g : q .before .byte-of2 .result ≡ s .args .position / 8 = q .before .byte-of2 .ensures in
-    (omega arith, search needs, byte-next _ _ _ _ _ _ (q .loop .inv .2) (byte-run _ (first + i) _ (omega arith) refl (c .shared-slice-known2 .given (first + i) .fits)) (omega arith) (omega arith))
+    let g : q .before .byte-of2 .result ≡ s .args .position / 8 = q .before .byte-of2 .ensures in (
+      omega arith,
+      search needs,
+      byte-next _ _ _ _ _ _ (q .loop .inv .2)
+          (byte-run _ (first + i) _ (omega arith) refl (c .shared-slice-known2 .given (first + i) .fits)) (omega arith) (omega arith),
+    )
 
 same-length : tie.Need-same-length Inv-loop μ-loop
 same-length c = search needs

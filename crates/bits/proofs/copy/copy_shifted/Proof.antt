@@ -64,8 +64,13 @@ loop-again c =
     let k = c .before .shared-slice-known3 .given in
     let first = q .before .before .byte-of .result in
     let h : q .before .before .byte-of .result ≡ s .args .at / 8 = q .before .before .byte-of .ensures in
-    let g : q .before .byte-of2 .result ≡ s .args .position / 8 = q .before .byte-of2 .ensures in
-    (omega arith, search needs, byte-next _ _ _ _ _ _ (q .loop .inv .2) (byte-joined _ (first + i) _ _ (c .joined .ensures) (omega arith) (omega arith) refl refl (k (first + i) .fits) (k (first + i + 1) .fits)) (omega arith) (omega arith))
+    let g : q .before .byte-of2 .result ≡ s .args .position / 8 = q .before .byte-of2 .ensures in (
+      omega arith,
+      search needs,
+      byte-next _ _ _ _ _ _ (q .loop .inv .2)
+          (byte-joined _ (first + i) _ _ (c .joined .ensures) (omega arith) (omega arith) refl refl (k (first + i) .fits) (k (first + i + 1) .fits))
+          (omega arith) (omega arith),
+    )
 
 same-length : tie.Need-same-length Inv-loop μ-loop
 same-length c = search needs

@@ -17,7 +17,9 @@ joined-requires : tie.Need-joined-requires
 joined-requires c κs = search needs
 
 returns : tie.Need-returns
-returns c = byte-joined _ _ _ _ (c .joined .ensures) (omega arith) (omega arith) (c .before .before .byte-or-zero .ensures) (c .before .byte-or-zero2 .ensures) (omega arith) (omega arith)
+returns c =
+    byte-joined _ _ _ _ (c .joined .ensures) (omega arith) (omega arith)
+    (c .before .before .byte-or-zero .ensures) (c .before .byte-or-zero2 .ensures) (omega arith) (omega arith)
 
 pub byte-at-spec : {M : Type 1} → statement M
 byte-at-spec =
