@@ -1,0 +1,6 @@
+-- The laws behind the reader and the judge.
+pub mod Remainders
+pub mod Scanning
+pub mod Payload
+pub mod Messages
+pub mod Turning
