@@ -4,19 +4,18 @@
 -- a f      the element a
 -- el f x   the number of the element x
 -- num f    the numbers below 2^m as elements
-use mathlib.Core.Path.{_≡_, refl, sym, ap, ap₂, _∙_}
+use mathlib.Core.Path.{_≡_, refl, sym, ap, _∙_}
 use Prim.Native.Nat.{ℕ, zero, suc, _^_, _<_}
 use native.Mathlib.Nat.{pos-of-ne-zero}
 use native.Mathlib.Omega.{arith}
 use lib.Bits.{bitXor, xor-comm, xor-zero-r, xor-self, xor-lt}
 use Rattle.algebra.specs.Field.{BinaryField}
-use Rattle.algebra.specs.Number as Number
 use Rattle.algebra.specs.Number.{Below, Numbers, elem-same, field, el-is, numbers}
 use Rattle.algebra.specs.Polynomial as Polynomial
 use Rattle.algebra.specs.Polynomial.{Distinct}
 use Rattle.algebra.proofs.Number as number-laws
 use Rattle.field.specs.declared.Field.{Field}
-use Rattle.field.specs.Field.{degree, modulus, longest, mul, pow, a^}
+use Rattle.field.specs.Field.{degree, modulus, longest, mul, pow, product, a^, Elem}
 use Rattle.field.proofs.Xor.{xor-assoc}
 use Rattle.field.proofs.Multiply.{one-below, two-below, mul-below, mul-assoc, mul-comm, mul-one-right, mul-add-right}
 use Rattle.field.proofs.Exponents.{pow-below}
@@ -105,6 +104,14 @@ module _ (f : Field) where
   unfolding num numbers gf
   num-size = refl
 
+  pub num-below : {x : ℕ} → x < 2 ^ degree f → x < num .size
+  unfolding num numbers gf
+  num-below l = l
+
+  pub below-num : {x : ℕ} → x < num .size → x < 2 ^ degree f
+  unfolding num numbers gf
+  below-num l = l
+
   pub el-num : (x : ℕ) → x < 2 ^ degree f → el (num .el x) ≡ x
   unfolding el num numbers gf field
   el-num x l = el-is below x l
@@ -127,3 +134,12 @@ module _ (f : Field) where
 
   pub num-pow : (n : ℕ) → num .el (a^ f n) ≡ Polynomial.pow gf a n
   num-pow n = el-same _ _ (el-num _ (a^-below (primitive f) n) ∙ sym (el-pow n))
+
+  -- ---- what a call that multiplies ensures, said of elements and back
+
+  pub num-product : (x y r : ℕ) → x < 2 ^ degree f → y < 2 ^ degree f → Elem (degree f) (product f x y) r → num .el r ≡ gf .mul (num .el x) (num .el y)
+  num-product x y r l m e = ap (num .el) (e .value) ∙ num-mul x y l m
+
+  pub product-num : (x y r : ℕ) → x < 2 ^ degree f → y < 2 ^ degree f → r < 2 ^ degree f → num .el r ≡ gf .mul (num .el x) (num .el y) → r ≡ product f x y
+  product-num x y r l m k e =
+      num .el-same r _ (num-below k) (num-below (mul-below (usable f) x y l)) (e ∙ sym (num-mul x y l m))

@@ -5,7 +5,7 @@ use Prim.Native.Nat.{ℕ, zero, _+_, _-_, _^_, _≤_, _<_}
 use native.Mathlib.Omega.{arith}
 use lib.ListN.{getD}
 use Rattle.field.specs.declared.Field.{Field}
-use Rattle.field.specs.Field.{degree, modulus, longest, mul, pow, a^, Elem}
+use Rattle.field.specs.Field.{degree, modulus, longest, mul, a^, Elem}
 use Rattle.field.specs.Tables.{Tables}
 use Rattle.field.proofs.Multiply.{mul-zero-left, mul-zero-right}
 use Rattle.field.proofs.Order.{a^-below, a^-add, a^-period}

@@ -1,6 +1,6 @@
 -- The order of a, once over m: where the powers of a = 2 come back to 1 after 2^m - 1 steps and not before, they are all elements but 0.
 -- `primitive` makes this of a walk over the powers that the checker computes.
-use mathlib.Core.Path.{_≡_, refl, sym, ap, _∙_, subst}
+use mathlib.Core.Path.{_≡_, sym, ap, _∙_, subst}
 use mathlib.Core.Bool.{Bool, not}
 use mathlib.Core.Logic.{_≢_}
 use Prim.Native.Nat.{ℕ, zero, suc, pred, _+_, _-_, _*_, _/_, _^_, _<_}

@@ -3,10 +3,10 @@
 --
 -- degree f, modulus f, longest f   m, the reduction polynomial and 2^m - 1 of the field f
 -- chosen number                    the field that a choice by number names
--- mulX m P x                       x times the class of x
--- mulBits m P k x y                x times the k lowest terms of y
--- mul m P x y, pow m P x n         product and power
--- product f x y, power f x n       the same in the field f
+-- mulX m P u                       the element u times the class of x
+-- mulBits m P k u v                u times the k lowest terms of v
+-- mul m P u v, pow m P u n         product and power
+-- product f u v, power f u n       the same in the field f
 -- a^ f n                           the power n of a, the class of x
 -- Elem m v r                       r is the element v
 -- Usable m P                       what the code asks of m and P
@@ -40,33 +40,33 @@ chosen (suc zero) = Offered Fourteen
 chosen (suc (suc number)) = Unknown
 
 module _ (m P : ℕ) where
-  -- x times the class of x: twice x, less P where the term x^m came up
+  -- the element u times the class of x: twice u, less P where the term x^m came up
   unfoldable pub mulX : ℕ → ℕ
-  mulX x = bitXor (x * 2) (x * 2 / 2 ^ m % 2 * P)
+  mulX u = bitXor (u * 2) (u * 2 / 2 ^ m % 2 * P)
 
-  -- x times the k lowest terms of y
+  -- u times the k lowest terms of v
   unfoldable pub mulBits : ℕ → ℕ → ℕ → ℕ
-  mulBits zero x y = zero
-  mulBits (suc k) x y = bitXor (mulX (mulBits k x (y / 2))) (y % 2 * x)
+  mulBits zero u v = zero
+  mulBits (suc k) u v = bitXor (mulX (mulBits k u (v / 2))) (v % 2 * u)
 
-  -- the product
+  -- u times v
   unfoldable pub mul : ℕ → ℕ → ℕ
-  mul x y = mulBits m x y
+  mul u v = mulBits m u v
 
-  -- the power n of x
+  -- u^n
   unfoldable pub pow : ℕ → ℕ → ℕ
-  pow x zero = 1
-  pow x (suc n) = mul x (pow x n)
+  pow u zero = 1
+  pow u (suc n) = mul u (pow u n)
 
--- the product in the field f
+-- u times v in the field f
 abbrev pub product : Field → ℕ → ℕ → ℕ
-product f x y = mul (degree f) (modulus f) x y
+product f u v = mul (degree f) (modulus f) u v
 
--- the power n of x in the field f
+-- u^n in the field f
 abbrev pub power : Field → ℕ → ℕ → ℕ
-power f x n = pow (degree f) (modulus f) x n
+power f u n = pow (degree f) (modulus f) u n
 
--- the power n of a, where a, the class of x, is the number 2
+-- a^n in the field f, where a, the class of x, is the number 2
 abbrev pub a^ : Field → ℕ → ℕ
 a^ f n = power f 2 n
 
@@ -75,7 +75,7 @@ pub record Elem (m v r : ℕ) : Type 0 where
   pub value : r ≡ v
   pub low : r < 2 ^ m
 
--- P is of degree m, and its elements fit 16 bits
+-- P is of degree m, and m is at least 2 and below 16, so that an element fits 16 bits
 pub record Usable (m P : ℕ) : Type 0 where
   pub two : 1 < m
   pub small : m < 16

@@ -6,7 +6,7 @@ use mathlib.Core.List.{List}
 use Prim.Native.Nat.{ℕ, _^_, _<_}
 use lib.ListN.{getD}
 use Rattle.field.specs.declared.Field.{Field}
-use Rattle.field.specs.Field.{degree, modulus, longest, pow, a^}
+use Rattle.field.specs.Field.{degree, longest, a^}
 
 -- powers-at: entry k of the powers is a^k. logs-below, logs-at: entry x of the logarithms is an exponent of a below 2^m - 1, and that power is x, for each x but 0.
 pub record Tables (f : Field) (powers logs : List ℕ) : Type 0 where

@@ -10,7 +10,7 @@
 //   tables                  products by a table of powers and a table of logarithms that the caller lends
 ghost use mathlib.Core.Path.{_≡_};
 ghost use Prim.Native.Nat.{_^_, _<_};
-ghost use Rattle.field.specs.Field.{degree, modulus, longest, chosen, mul, pow, Elem, Usable};
+ghost use Rattle.field.specs.Field.{degree, modulus, longest, chosen, mul, product, power, Elem, Usable};
 
 pub mod tables;
 
@@ -96,7 +96,7 @@ impl Field {
 // Internal. The product of two elements.
 pub fn product(f: Field, x: u16, y: u16) -> u16
     requires { ⌜ x < 2 ^ degree f ⌝ }
-    ensures { λ r. ⌜ Elem (degree f) (mul (degree f) (modulus f) x y) r ⌝ }
+    ensures { λ r. ⌜ Elem (degree f) (product f x y) r ⌝ }
 {
     let m = f.degree();
     let modulus = f.modulus();
@@ -124,7 +124,7 @@ fn shift_and_add(m: u32, modulus: u32, x: u32, y: u32) -> u32
 // Internal. The power n of an element, by the power of half the exponent.
 pub fn power(f: Field, x: u16, n: u64) -> u16
     requires { ⌜ x < 2 ^ degree f ⌝ }
-    ensures { λ r. ⌜ Elem (degree f) (pow (degree f) (modulus f) x n) r ⌝ }
+    ensures { λ r. ⌜ Elem (degree f) (power f x n) r ⌝ }
 {
     if n == 0 {
         return 1;

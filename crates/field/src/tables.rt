@@ -2,7 +2,7 @@
 // so that a product is three reads and a sum of exponents.
 ghost use mathlib.Core.Path.{_≡_};
 ghost use Prim.Native.Nat.{_*_, _^_, _<_};
-ghost use Rattle.field.specs.Field.{degree, modulus, longest, mul, pow, a^, Elem};
+ghost use Rattle.field.specs.Field.{degree, longest, product, a^, Elem};
 ghost use Rattle.field.specs.Tables.{Tables};
 use crate::Field;
 
@@ -25,7 +25,7 @@ pub fn product_by_tables(
 ) -> u16
     requires { ⌜ Tables f (now powers) (now logs) ⌝ }
     requires { ⌜ (x < 2 ^ degree f) × (y < 2 ^ degree f) ⌝ }
-    ensures { λ r. ⌜ Elem (degree f) (mul (degree f) (modulus f) x y) r ⌝ }
+    ensures { λ r. ⌜ Elem (degree f) (product f x y) r ⌝ }
 {
     if x == 0 {
         return 0;

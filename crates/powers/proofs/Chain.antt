@@ -1,5 +1,5 @@
 -- The step rule of a table of powers: tested once over the table, then known at each entry. Once over m.
-use mathlib.Core.Path.{_≡_, refl, sym, ap, _∙_}
+use mathlib.Core.Path.{_≡_, sym, ap, _∙_}
 use mathlib.Core.Bool.{Bool, true}
 use mathlib.Core.List.{List, [], _∷_}
 use Prim.Native.Nat.{ℕ, zero, suc, _^_, _<_}
@@ -8,7 +8,7 @@ use native.Mathlib.Omega.{arith}
 use lib.Dec.{T, eqb, eqb→eq, lit<}
 use lib.ListN.{length, getD}
 use Rattle.field.specs.declared.Field.the-variants.{Thirteen}
-use Rattle.field.specs.Field.{mulX, pow, Usable, degree, modulus, longest, a^}
+use Rattle.field.specs.Field.{mulX, pow, Usable, degree, modulus, longest}
 use Rattle.field.proofs.Test.{both, both-left, both-right}
 use Rattle.field.proofs.Multiply.{shifted, shifted-inside, mulX-below, one-below}
 use Rattle.field.proofs.Exponents.{pow-shifted}

@@ -1,12 +1,12 @@
 -- The powers of a for m = 14: those that need no reduction, and the step of eight places.
-use mathlib.Core.Path.{_≡_, sym, ap, ap₂, _∙_, subst}
-use Prim.Native.Nat.{ℕ, suc, _+_, _-_, _*_, _/_, _%_, _^_, _≤_, _<_}
+use mathlib.Core.Path.{_≡_, sym, ap, _∙_}
+use Prim.Native.Nat.{ℕ, _-_, _*_, _/_, _%_, _^_, _≤_, _<_}
 use native.Mathlib.Omega.{arith}
 use lib.Dec.{T, lit<}
 use lib.Bits.{bitXor, bitAnd, xor-mod, xor-shr, and-mask}
 use Rattle.field.specs.declared.Field.{Field}
 use Rattle.field.specs.declared.Field.the-variants.{Fourteen}
-use Rattle.field.specs.Field.{degree, modulus, mulX, mulBits, mul, pow, a^}
+use Rattle.field.specs.Field.{degree, modulus, mulX, mulBits, mul, a^}
 use Rattle.field.proofs.Additive.{Additive, additive-sum, additive-shift, agree, additive-tested}
 use Rattle.field.proofs.Multiply.{mul-add-right, shifted-one}
 use Rattle.field.proofs.Exponents.{pow-shifted}

@@ -1,17 +1,17 @@
 -- Tables filled one entry after the other.
 --
 -- Logged g k l   the entries of the list l at g 0, .., g (k - 1) are 0, .., k - 1, and the entry at 0 is 0
-use mathlib.Core.Path.{_≡_, refl, sym, ap, _∙_, subst}
+use mathlib.Core.Path.{_≡_, sym, ap, _∙_, subst}
 use mathlib.Core.Logic.{_≢_}
 use mathlib.Core.List.{List}
-use Prim.Native.Nat.{ℕ, zero, suc, _+_, _^_, _≤_, _<_}
+use Prim.Native.Nat.{ℕ, zero, _+_, _^_, _≤_, _<_}
 use native.Mathlib.Nat.{pos-of-ne-zero}
 use native.Mathlib.Decide.{ℕ-discrete}
 use native.Mathlib.Omega.{arith}
 use lib.ListN.{length, getD, set, length-set}
 use lib.Seq.{getD-set-same, getD-set-other}
 use Rattle.field.specs.declared.Field.{Field}
-use Rattle.field.specs.Field.{degree, modulus, longest, pow, a^}
+use Rattle.field.specs.Field.{degree, longest, a^}
 use Rattle.field.specs.Tables.{Tables}
 use Rattle.field.proofs.Order.{a^-below, a^-distinct, a^-positive, logarithm, order-positive}
 use Rattle.field.proofs.Primitive.{primitive}

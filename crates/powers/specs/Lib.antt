@@ -1,1 +1,2 @@
+-- What a table of powers is.
 pub mod Powers

@@ -4,7 +4,7 @@ ghost use mathlib.Core.Path.{_≡_};
 ghost use Prim.Native.Nat.{_^_, _<_};
 ghost use lib.ListN.{length};
 ghost use Rattle.field.specs.declared.Field.the-variants.{Fourteen};
-ghost use Rattle.field.specs.Field.{degree, modulus, mul, pow, a^};
+ghost use Rattle.field.specs.Field.{product, a^};
 ghost use Rattle.powers.specs.Powers.{Powers, Begun};
 
 // Internal. Computes the table of powers for m = 14.
@@ -38,7 +38,7 @@ fn first_powers(powers: &mut [u16; 16384])
 // a^8 times x. The eight high terms h of x become x^14 h, which is (x^5 + x^3 + x + 1) h.
 fn eight_on(x: u16) -> u16
     requires { ⌜ x < 2 ^ 14 ⌝ }
-    ensures { λ r. ⌜ r ≡ mul (degree Fourteen) (modulus Fourteen) (a^ Fourteen 8) x ⌝ }
+    ensures { λ r. ⌜ r ≡ product Fourteen (a^ Fourteen 8) x ⌝ }
 {
     let low = (x & 63) * 256;
     let h = x >> 6;
