@@ -12,7 +12,7 @@ use Rattle.layout.specs.declared.Finding.the-variants.{Kept}
 use Rattle.layout.specs.Plan.{shapeOf, laterShape, dataBytes, planOf, coveredOf, shape, bits, field, level, covered, start, used, from, payload, Valid}
 use Rattle.layout.specs.Acceptance.{findingOf}
 use Rattle.layout.proofs.Plans.{start-next, start-order, start-up, from-later}
-use Rattle.layout.proofs.Reasons.{level-first, level-later, message-first, message-later, length-first, length-later, page-room, finding-least, least-kept}
+use Rattle.layout.proofs.Reasons.{level-first, level-later, message-first, message-later, length-first, length-later, page-room, kept-free}
 
 -- the rules, of a layout that keeps them
 pub record Keeps (l : Layout) : Type 0 where
@@ -30,7 +30,7 @@ not-less a b h = let k = lt-of-not-le {n = suc a} {m = b} h in omega arith
 pub keeps : (l : Layout) → findingOf l ≡ Kept → Keeps l
 unfolding planOf
 keeps l e =
-    let free = least-kept (finding-least l) e in
+    let free = kept-free l e in
     record {
       levels = not-less _ _ (λ x. free _ (level-first x));
       levels-later = λ n. not-less _ _ (λ x. free _ (level-later n x));

@@ -98,6 +98,11 @@ module _ (q : Plan) where
       ⊎-elim (λ (x : p < start q (q .blocks)). inl (found (q .blocks) p x)) (λ (x : start q (q .blocks) ≤ p). inr x)
       (split p (start q (q .blocks)))
 
+  -- after all blocks there is none
+  pub tail-free : {b p : ℕ} → used q ≤ p → b < q .blocks → Lies q b p → ⊥
+  unfolding used
+  tail-free {b} {p} u h k = omega (arith, start-next q b, start-up q (suc b) (q .blocks) h, k .to)
+
   pub block-holds : (p : ℕ) {b : ℕ} → b ≡ blockOf q p → b < q .blocks → Lies q b p
   block-holds p {b} e h =
       ⊎-elim

@@ -1,11 +1,11 @@
 -- A refused layout is refused for a true reason, and for the first one: smallest reply, block 0 before the later blocks.
 -- An accepted layout gives no reason.
-use mathlib.Core.Path.{_≡_, refl, sym, ap}
+use mathlib.Core.Path.{_≡_, refl, sym, ap, _∙_}
 use mathlib.Core.Logic.{_⊎_, inl, inr, ⊎-elim}
 use mathlib.Core.Bool.{Bool, true, false, cond}
 use Prim.Native.Nat.{ℕ, suc, _+_, _*_, _≤_, _<_}
 use native.Mathlib.Omega.{arith}
-use native.Mathlib.Nat.{eq-zero-or-pos}
+use native.Mathlib.Nat.{eq-zero-or-pos, le-of-eq}
 use lib.Dec.{eqb, ltb}
 use borrow.Author.Tests.{ltb-true, lt-ltb, eq-eqb, ne-eqb}
 use Rattle.field.specs.Field.{longest}
@@ -55,6 +55,12 @@ kindRank Page = 0
 
 unfoldable pub rank : Reason → ℕ
 rank r = 2 * ruleNumber (r .rule) + kindRank (r .kind)
+
+kind-small : (k : Kind) → kindRank k ≤ 1
+unfolding kindRank
+kind-small First = omega arith
+kind-small Later = omega arith
+kind-small Page = omega arith
 
 -- f is the first of the reasons P
 pub data Least (P : Reason → Type 0) : Finding → Type 0 where
@@ -223,6 +229,15 @@ module _ {P : Reason → Type 0} where
   least-broken (none p) e = let z : _≡_ {A = ℕ} 0 1 = cc e in absurd (omega arith)
   least-broken (some h p) e = rw (sym (broken-injective e)) h
 
+  pub least-first : {f : Finding} {r : Reason} → Least P f → f ≡ Broken r → (s : Reason) → P s → rank r ≤ rank s
+  least-first (none p) e s k = absurd (p s k)
+  least-first {r = r} (some {r = t} h p) e s k =
+      let z : t ≡ r = broken-injective e in
+      ⊎-elim
+      (λ (x : s ≡ t). le-of-eq (ap rank (sym z ∙ sym x)))
+      (λ (x : rank t < rank s). let y = ap rank z in omega arith)
+      (p s k)
+
   pub least-kept : {f : Finding} → Least P f → f ≡ Kept → (r : Reason) → P r → ⊥
   least-kept (none p) e r k = p r k
   least-kept (some h p) e r k = let z : _≡_ {A = ℕ} 0 1 = cc e in omega arith
@@ -235,3 +250,25 @@ module _ {P : Reason → Type 0} where
   broken-least (none p) k h = absurd (p _ k)
   broken-least {r = r} (some {r = s} x p) k h =
       ⊎-elim (λ (e : r ≡ s). ap Broken (sym e)) (λ (o : rank s < rank r). absurd (omega (arith, h s x))) (p r k)
+
+-- A reason is given exactly if it holds and none before it does; a layout is kept exactly if no reason holds.
+module _ (l : Layout) where
+  pub reason-true : (r : Reason) → findingOf l ≡ Broken r → Breaks l r
+  reason-true r e = least-broken (finding-least l) e
+
+  pub reason-first : (r s : Reason) → findingOf l ≡ Broken r → Breaks l s → rank r ≤ rank s
+  reason-first r s e h = least-first (finding-least l) e s h
+
+  pub reason-given : (r : Reason) → Breaks l r → ((s : Reason) → Breaks l s → rank r ≤ rank s) → findingOf l ≡ Broken r
+  reason-given r h first = broken-least (finding-least l) h first
+
+  pub kept-free : findingOf l ≡ Kept → (r : Reason) → Breaks l r → ⊥
+  kept-free e = least-kept (finding-least l) e
+
+  pub free-kept : ((r : Reason) → Breaks l r → ⊥) → findingOf l ≡ Kept
+  free-kept h = kept-least (finding-least l) h
+
+  -- so the smallest reply wins
+  pub reply-smallest : (r s : Reason) → findingOf l ≡ Broken r → Breaks l s → ruleNumber (r .rule) ≤ ruleNumber (s .rule)
+  unfolding rank
+  reply-smallest r s e h = let o = reason-first r s e h in omega (arith, kind-small (r .kind), kind-small (s .kind))

@@ -1,15 +1,14 @@
 -- Laws of the blocks of a page, and of the blocks and the tail of a written page.
-use mathlib.Core.Path.{_≡_, sym, ap, _∙_}
+use mathlib.Core.Path.{_≡_, _∙_}
 use mathlib.Core.Bool.{true}
-use mathlib.Core.List.{List, [], _∷_, _++_}
-use Prim.Native.Nat.{ℕ, suc, _+_, _-_, _*_, _≤_, _<_}
+use mathlib.Core.List.{List}
+use Prim.Native.Nat.{ℕ, _+_, _-_, _*_, _≤_, _<_}
 use native.Mathlib.Omega.{arith}
-use native.Mathlib.Numerals.{add-one}
 use lib.ListN.{length, take, length-append}
 use lib.Seq.{take-at}
 use borrow.Author.Tests.{lt-ltb, le-ltb}
-use Rattle.bits.specs.Bits.{bitOf, run}
-use Rattle.bits.proofs.Runs.{run-length, run-ext, run-cong, run-append}
+use Rattle.bits.specs.Bits.{bitOf}
+use Rattle.bits.proofs.Runs.{run-length, run-ext, run-cong}
 use Rattle.bits.proofs.Pages.{bytes-bit}
 use Rattle.layout.specs.declared.Plan.{Plan}
 use Rattle.layout.specs.Plan.{coveredOf, bits, field, level, covered, start, used, Valid}
@@ -17,10 +16,6 @@ use Rattle.layout.proofs.Placing.{Lies, block-lies, block-past}
 use Rattle.code.specs.Code.{Codeword, Fits}
 use Rattle.code.proofs.Remainder.{parity-length, parity-codeword}
 use Rattle.page_theory.specs.Page.{message, written, pageBit, pageOf, blockWord}
-
-pub run-last : {A : Type 0} (f : ℕ → A) (s n : ℕ) → run f s (suc n) ≡ run f s n ++ (f (s + n) ∷ [])
-unfolding run
-run-last f s n = ap (run f s) (sym (add-one n)) ∙ run-append f s n 1
 
 module _ (q : Plan) where
   pub message-length : (d : List ℕ) (b : ℕ) → length (message q d b) ≡ bits q b

@@ -1,22 +1,22 @@
 -- Laws of damage: a block with at most t bits turned over still has its written word within t flips, and gives its message.
-use mathlib.Core.Path.{_≡_, refl, sym, ap₂, _∙_}
+use mathlib.Core.Path.{_≡_, refl, sym, ap, ap₂, _∙_}
 use mathlib.Core.Bool.{Bool, true, false}
-use mathlib.Core.List.{List, [], _∷_, _++_}
-use Prim.Native.Nat.{ℕ, zero, suc, _+_, _*_, _<_}
+use mathlib.Core.List.{List}
+use Prim.Native.Nat.{ℕ, zero, suc, _+_, _*_, _≤_, _<_}
 use native.Mathlib.Omega.{arith}
-use lib.ListN.{length}
-use Rattle.bits.specs.Bits.{bitOf, run, digit}
+use Rattle.bits.specs.Bits.{bitOf, run, digit, Bytes}
 use Rattle.bits.proofs.Runs.{run-length}
 use Rattle.layout.specs.declared.Plan.{Plan}
 use Rattle.layout.specs.Plan.{bits, field, level, covered, start, payload, Valid}
 use Rattle.algebra.specs.Word.{flip}
-use Rattle.code.specs.Word.{Word, apart, distance}
+use Rattle.code.specs.Word.{apart, distance, ones}
 use Rattle.code.specs.Code.{Near}
 use Rattle.code.proofs.Outcome.{near-gives}
 use Rattle.page_theory.specs.Page.{message, written, pageOf, blockWord}
 use Rattle.page_theory.specs.Reading.{GivesAt, reading, done}
 use Rattle.page_theory.specs.Damage.{size, flips, turn, Damaged}
-use Rattle.page_theory.proofs.Blocks.{run-last, written-length, written-message, written-code, blockWord-length, page-block}
+use Rattle.page_theory.proofs.Words.{run-last, distance-last, ones-last}
+use Rattle.page_theory.proofs.Blocks.{written-length, written-message, written-code, blockWord-length, page-block}
 use Rattle.page_theory.proofs.Reading.{gives-reading}
 
 -- turning over a set of bits moves a word as far as the set is large
@@ -27,14 +27,6 @@ apart-turn true true = refl
 apart-turn true false = refl
 apart-turn false true = refl
 apart-turn false false = refl
-
-distance-last : (v w : Word) (x y : Bool) → length v ≡ length w
-    → distance (v ++ (x ∷ [])) (w ++ (y ∷ [])) ≡ distance v w + apart x y
-unfolding distance
-distance-last [] [] x y h = omega arith
-distance-last [] (b ∷ w) x y h = absurd (omega arith)
-distance-last (a ∷ v) [] x y h = absurd (omega arith)
-distance-last (a ∷ v) (b ∷ w) x y h = let r = distance-last v w x y (omega arith) in omega arith
 
 distance-turned : (f g s : ℕ → Bool) (p n : ℕ) → ((j : ℕ) → j < n → f (p + j) ≡ turn (s j) (g (p + j)))
     → distance (run f p n) (run g p n) ≡ size s n
@@ -68,3 +60,27 @@ module _ (q : Plan) (v : Valid q) (d page : List ℕ) (s : ℕ → ℕ → Bool)
 
   pub damaged-reading : reading q page ≡ done (run (bitOf d) 0 (8 * payload q)) (run (flips q s) 0 (q .blocks))
   damaged-reading = gives-reading q v d page (flips q s) damaged-gives
+
+-- A mask: a page whose ones are the bits to turn over, those of the tail included.
+
+unfoldable pub maskSets : Plan → List ℕ → ℕ → ℕ → Bool
+maskSets q mask b j = bitOf mask (start q b + j)
+
+size-ones : (f : ℕ → Bool) (p n : ℕ) → size (λ j. f (p + j)) n ≡ ones (run f p n)
+unfolding size
+size-ones f p zero = unfold run ones in refl
+size-ones f p (suc n) = rw (run-last f p n, ones-last) (ap (λ k. k + digit (f (p + n))) (size-ones f p n))
+
+-- the size of a block's set is the number of ones that the mask has there
+pub mask-flips : (q : Plan) (mask : List ℕ) (b : ℕ) → flips q (maskSets q mask) b ≡ ones (blockWord q mask b)
+unfolding flips maskSets blockWord
+mask-flips q mask b = size-ones (bitOf mask) (start q b) (covered q b)
+
+pub mask-damaged : (q : Plan) → Valid q → (before after mask : List ℕ) → Bytes (q .size) after
+    → ((p : ℕ) → p < 8 * q .size → bitOf after p ≡ turn (bitOf mask p) (bitOf before p))
+    → ((b : ℕ) → b < q .blocks → ones (blockWord q mask b) ≤ level q b) → Damaged q before after (maskSets q mask)
+mask-damaged q v before after mask h turned few = record {
+  page = h;
+  turned = λ b j l k. unfold maskSets in turned (start q b + j) (omega (arith, v .ends b l));
+  few = λ b l. rw (mask-flips q mask b) (few b l);
+}

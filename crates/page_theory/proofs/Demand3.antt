@@ -1,4 +1,5 @@
--- Demand 3, of any accepted layout. Two payloads "are different if any byte differs", two pages "are the same if all their bytes are".
+-- Demand 3, of any accepted layout and of the calls as they are lent anything: two different payloads never make the same page,
+-- every page that was written and damaged reads back, and a page is refused exactly where a block is ruined.
 use mathlib.Core.Path.{_≡_, refl, sym, ap, _∙_}
 use mathlib.Core.Bool.{Bool}
 use mathlib.Core.List.{List, _++_}
@@ -10,8 +11,8 @@ use Rattle.bits.proofs.Runs.{run-length}
 use Rattle.layout.specs.declared.Plan.{Plan}
 use Rattle.page_theory.specs.Page.{pageOf}
 use Rattle.page_theory.specs.Reading.{RefusedAt, Lowest, Reading, done, refused, reading}
-use Rattle.page_theory.specs.Damage.{Accepts, Payload, Outputs, flips, Damaged}
-use Rattle.page_theory.specs.Calls.{writeOf, Read, readEnded, readBy, readOf}
+use Rattle.page_theory.specs.Damage.{Accepts, Outputs, flips, Damaged, WrittenAndDamaged}
+use Rattle.page_theory.specs.Calls.{Read, readEnded, readBy, readOf}
 use Rattle.page_theory.proofs.Reading.{refused-lowest, ruined-lowest}
 use Rattle.page_theory.proofs.Damage.{damaged-reading}
 use Rattle.page_theory.proofs.Calls.{read-right, read-refuses, readBy-payload}
@@ -19,14 +20,7 @@ use Rattle.page_theory.proofs.Accepted.{accepts-valid, read-accepted}
 use Rattle.page_theory.proofs.Demand2.{write-done}
 
 module _ (rec : List ℕ) (q : Plan) (accepted : Accepts rec q) where
-  -- A payload that was written to a page, and a page that damage made of that page.
-  pub record WrittenAndDamaged (m d page : List ℕ) (s : ℕ → ℕ → Bool) : Type 0 where
-    pub payload : Payload q m d
-    pub lent : List ℕ
-    pub size : length lent ≡ q .size
-    pub damaged : Damaged q (writeOf rec m d lent .page) page s
-
-  module _ (m d page : List ℕ) (s : ℕ → ℕ → Bool) (h : WrittenAndDamaged m d page s) where
+  module _ (m d page : List ℕ) (s : ℕ → ℕ → Bool) (h : WrittenAndDamaged rec q m d page s) where
     as-written : Damaged q (pageOf q (m ++ d)) page s
     as-written = rw (write-done rec q accepted m d (h .lent) (h .payload) (h .size)) at (h .damaged)
 
@@ -42,9 +36,10 @@ module _ (rec : List ℕ) (q : Plan) (accepted : Accepts rec q) where
 
   -- "Take one accepted layout and any two different payloads (metadata and data), each written to a page. Whichever covered bits
   -- then flip in either page, at most t in each block, and whatever becomes of the tail bits, the two pages are never the same."
-  pub told-apart : (m d page : List ℕ) (s : ℕ → ℕ → Bool) → WrittenAndDamaged m d page s
-      → (m' d' page' : List ℕ) (s' : ℕ → ℕ → Bool) → WrittenAndDamaged m' d' page' s'
-      → (m ≡ m' → d ≡ d' → ⊥) → page ≡ page' → ⊥
+  pub told-apart : (m d page : List ℕ) (s : ℕ → ℕ → Bool) → WrittenAndDamaged rec q m d page s
+      → (m' d' page' : List ℕ) (s' : ℕ → ℕ → Bool) → WrittenAndDamaged rec q m' d' page' s'
+      → (m ≡ m' → d ≡ d' → ⊥)
+      → page ≡ page' → ⊥
   told-apart m d page s h m' d' page' s' h' different same =
       different (ap (λ (r : Read). r .metadata) equal) (ap (λ (r : Read). r .«data») equal)
     where

@@ -1,9 +1,11 @@
 -- The laws of pages, and the owner's three demands.
+pub mod Words
 pub mod Blocks
 pub mod Writing
 pub mod Reading
 pub mod Damage
 pub mod Calls
+pub mod Messages
 pub mod Accepted
 pub mod Demand1
 pub mod Demand2

@@ -17,7 +17,8 @@ use Rattle.code.specs.Outcome.{Outcome, good, ruined}
 use Rattle.code.proofs.Outcome.{judge-gives, gives-judge, judge-refused, refused-judge, gives-length}
 use Rattle.page_theory.specs.Page.{message, blockWord}
 use Rattle.page_theory.specs.Reading.{GivesAt, RefusedAt, Lowest, outcome, Reading, done, refused, more, readingOf, reading}
-use Rattle.page_theory.proofs.Blocks.{run-last, blockWord-length, blockWord-fits}
+use Rattle.page_theory.proofs.Words.{run-last}
+use Rattle.page_theory.proofs.Blocks.{blockWord-length, blockWord-fits}
 
 module _ (q : Plan) (page : List ℕ) where
   -- the outcome of a block is what it gives, or that it is ruined
@@ -37,6 +38,10 @@ module _ (q : Plan) (page : List ℕ) where
   pub ruined-outcome : (b : ℕ) → outcome q page b ≡ ruined → RefusedAt q page b
   unfolding outcome
   ruined-outcome b e = refused-judge _ _ _ _ e
+
+  -- a block that gives a message is not ruined
+  pub gives-sound : (b : ℕ) (m : Word) (n : ℕ) → GivesAt q page b m n → RefusedAt q page b → ⊥
+  gives-sound b m n g h = h .none .none (g .word) (g .near)
 
   -- one block more
 

@@ -1,7 +1,6 @@
 -- A word with a single one is no codeword when t > 0: its value at a is a power of a.
 use mathlib.Core.Path.{_≡_, refl, ap, _∙_}
 use mathlib.Core.Bool.{Bool, true, false}
-use mathlib.Core.List.{[], _∷_, _++_}
 use Prim.Native.Nat.{ℕ, zero, suc, _+_, _≤_, _<_}
 use native.Mathlib.Omega.{arith}
 use lib.ListN.{length, getD, take}
@@ -15,11 +14,7 @@ use Rattle.field.proofs.Order.{a^-positive}
 use Rattle.bits.specs.Bits.{digit}
 use Rattle.code.specs.Word.{Word, ones}
 use Rattle.code.specs.Code.{valueOf, value, Codeword}
-
-ones-last : (w : Word) (b : Bool) → ones (w ++ (b ∷ [])) ≡ ones w + digit b
-unfolding ones
-ones-last [] b = omega arith
-ones-last (x ∷ w) b = let r = ones-last w b in omega arith
+use Rattle.page_theory.proofs.Words.{ones-last}
 
 module _ (f : Field) where
   a-one : a^ f 1 ≡ 2

@@ -2,13 +2,14 @@
 -- A set of numbers is given by its test. Sets of covered bits: `s b j` says whether bit j of block b, counted from the block's
 -- start, is in the set of block b.
 --
--- Accepts rec q           the layout record is accepted, and q is its plan
--- Payload q m d           m and d are metadata and data of the lengths that the plan gives
--- Outputs q m d c         m, d and c have the lengths of metadata, data and counts
--- size s n                how many numbers below n are in the set s
--- flips q s b             how many covered bits of block b are in its set
--- turn x b                the bit b, turned over where x is true
--- Damaged q before after s    after may have become of the page before when the bits in the sets s were turned over
+-- Accepts rec q                     the layout record is accepted, and q is its plan
+-- Payload q m d                     m and d are metadata and data of the lengths that the plan gives
+-- Outputs q m d c                   m, d and c have the lengths of metadata, data and counts
+-- size s n                          how many numbers below n are in the set s
+-- flips q s b                       how many covered bits of block b are in its set
+-- turn x b                          the bit b, turned over where x is true
+-- Damaged q before after s          the page `after` is the page `before` with the sets s turned over, and any tail
+-- WrittenAndDamaged rec q m d page s    metadata m and data d were written, and damage made `page` of the written page
 use mathlib.Core.Path.{_≡_}
 use mathlib.Core.Bool.{Bool, cond}
 use mathlib.Core.List.{List}
@@ -21,6 +22,7 @@ use Rattle.layout.specs.Record.{layoutOf}
 use Rattle.layout.specs.Plan.{planOf, level, covered, start}
 use Rattle.layout.specs.Acceptance.{acceptance}
 use Rattle.layout.specs.Answers.{acceptanceNumbers}
+use Rattle.page_theory.specs.Calls.{writeOf}
 
 -- No reply about the layout alone applies.
 pub record Accepts (rec : List ℕ) (q : Plan) : Type 0 where
@@ -51,3 +53,10 @@ pub record Damaged (q : Plan) (before after : List ℕ) (s : ℕ → ℕ → Boo
   pub page : Bytes (q .size) after
   pub turned : (b j : ℕ) → b < q .blocks → j < covered q b → bitOf after (start q b + j) ≡ turn (s b j) (bitOf before (start q b + j))
   pub few : (b : ℕ) → b < q .blocks → flips q s b ≤ level q b
+
+-- The writer was lent some page of PAGE_SIZE bytes, and nothing but the damage changed the page that it left.
+pub record WrittenAndDamaged (rec : List ℕ) (q : Plan) (m d page : List ℕ) (s : ℕ → ℕ → Bool) : Type 0 where
+  pub payload : Payload q m d
+  pub lent : List ℕ
+  pub size : length lent ≡ q .size
+  pub damaged : Damaged q (writeOf rec m d lent .page) page s

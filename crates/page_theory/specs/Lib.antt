@@ -1,6 +1,6 @@
 -- Pages written, damaged and read, and what the four page calls answer: what a reader must believe.
 pub mod Page
 pub mod Reading
-pub mod Damage
 pub mod Claim
 pub mod Calls
+pub mod Damage

@@ -2,10 +2,10 @@
 -- flips is repaired to that codeword, a block with none is ruined, and the lowest ruined block refuses the page.
 --
 -- GivesAt q page b m n    block b holds, n flips away, a codeword with the message m
--- RefusedAt q page b       block b is ruined: no codeword of its shortened length is within t flips
+-- RefusedAt q page b      block b is ruined: no codeword of its shortened length is within t flips
 -- Lowest q page b         block b is ruined, and no lower block is
 -- outcome q page b        the outcome of block b
--- Reading                 the messages one after the other and the counts of all blocks, or the block that refuses the page
+-- Reading                 the messages of all blocks one after the other and their counts, or the block that refuses the page
 -- more b r o              a reading r of the blocks before b, and the outcome o of block b
 -- readingOf q page n      the reading of the first n blocks
 -- reading q page          the reading of the page

@@ -5,9 +5,9 @@
 // The definitions, from bottom to top:
 //   1. Page: the message of a block, the block as it is written, the written page with its tail; the word in a block of a page.
 //   2. Reading: what becomes of each block, and of the page: all messages and counts, or the lowest ruined block.
-//   3. Damage: accepted layouts, payloads, and the pages that damage may make of a written page.
-//   4. Claim: which claimed locations are right.
-//   5. Calls: what the four page calls answer and leave, for everything that may be lent to them.
+//   3. Claim: which claimed locations are right.
+//   4. Calls: what the four page calls answer and leave, for everything that may be lent to them.
+//   5. Damage: accepted layouts, payloads, and the pages that damage may make of a page that was written.
 //
 // The theorems:
 //   Demand1, Demand2, Demand3    the owner's demands, sentence by sentence

@@ -7,8 +7,13 @@
 //   write_line       the line, ended
 //
 // No function asks anything of its caller: what lies outside a slice reads as 0, and what does not fit a line is left out.
+// What is read is proved; what is written is compared by running the programs.
 use libc::STDIN_FILENO;
 use libc::STDOUT_FILENO;
+ghost use mathlib.Core.Path.{_≡_};
+ghost use Prim.Native.Nat.{_+_};
+ghost use lib.ListN.{getD};
+ghost use Rattle.vector_io.specs.Number.{numberAt};
 
 // Fills the buffer from standard input: false where the input ends before it is full.
 pub fn fill(buf: &mut [u8]) -> bool {
@@ -17,7 +22,9 @@ pub fn fill(buf: &mut [u8]) -> bool {
 }
 
 // The byte at place `at + i`.
-pub fn byte(bytes: &[u8], at: usize, i: usize) -> u8 {
+pub fn byte(bytes: &[u8], at: usize, i: usize) -> u8
+    ensures { λ r. ⌜ r ≡ getD (now (bytes .entry)) (at + i) 0 ⌝ }
+{
     if bytes.len() <= at {
         return 0;
     }
@@ -28,7 +35,9 @@ pub fn byte(bytes: &[u8], at: usize, i: usize) -> u8 {
 }
 
 // The number in `count` bytes from place `at` on; of more than eight bytes the last eight.
-pub fn number(bytes: &[u8], at: usize, count: usize) -> u64 {
+pub fn number(bytes: &[u8], at: usize, count: usize) -> u64
+    ensures { λ r. ⌜ r ≡ numberAt (now (bytes .entry)) at count ⌝ }
+{
     let mut v: u64 = 0;
     let mut i = 0;
     while i < count {

@@ -1,0 +1,2 @@
+-- Laws behind the page calls.
+pub mod Plans

@@ -1,0 +1,2 @@
+-- The answers of the page calls, and what the code asks of a plan.
+pub mod Plans

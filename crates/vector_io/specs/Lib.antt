@@ -1,0 +1,2 @@
+-- What is read out of a vector.
+pub mod Number
