@@ -12,7 +12,7 @@ use Rattle.field.specs.Field.{degree, modulus, longest, mul, a^, Elem}
 use Rattle.field.specs.Tables.{Tables}
 use Rattle.field.proofs.Order.{a^-below, a^-add, a^-period}
 use Rattle.field.proofs.Primitive.{primitive}
-use Rattle.field.proofs.Instance.{gf, num, num-size, num-add, num-mul}
+use Rattle.field.proofs.Instance.{gf, num, below-num, num-add, num-product}
 use Rattle.bch.specs.KeyEquation.{Represents, Elements, series}
 
 module _ (f : Field) where
@@ -38,7 +38,7 @@ module _ (f : Field) where
       round = omega (arith, t .logs-below b b-below)
 
   pub entry-below : {l : List ℕ} → Elements f l → (i : ℕ) → getD l i 0 < 2 ^ degree f
-  entry-below m i = rw (num-size f) at (m .small i)
+  entry-below m i = below-num f (m .small i)
 
   pub represents-entry : {l : List ℕ} → Elements f l → (i : ℕ) → Represents f (series f l i) (getD l i 0)
   unfolding coef
@@ -49,7 +49,7 @@ module _ (f : Field) where
 
   pub represents-product : {x y r : ℕ} → x < 2 ^ degree f → y < 2 ^ degree f → Elem (degree f) (mul (degree f) (modulus f) x y) r
       → Represents f (gf f .mul (num f .el x) (num f .el y)) r
-  represents-product {x} {y} {r} l m e = record { low = e .low; is = ap (num f .el) (e .value) ∙ num-mul f x y l m }
+  represents-product {x} {y} {r} l m e = record { low = e .low; is = num-product f x y r l m e }
 
   pub represents-sum : {u v : gf f .carrier} {x y : ℕ} → Represents f u x → Represents f v y → Represents f (gf f .add u v) (bitXor x y)
   represents-sum {u} {v} {x} {y} p q = record {

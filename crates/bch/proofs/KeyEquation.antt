@@ -17,7 +17,7 @@ use Rattle.field.specs.declared.Field.{Field}
 use Rattle.field.specs.Field.{degree, modulus, longest, mul, a^, Elem}
 use Rattle.field.proofs.Order.{a^-below}
 use Rattle.field.proofs.Primitive.{primitive}
-use Rattle.field.proofs.Instance.{gf, num, num-size, num-mul, num-pow, a, order}
+use Rattle.field.proofs.Instance.{gf, num, num-below, below-num, num-mul, num-pow, a, order}
 use Rattle.bch.specs.KeyEquation.{Represents, Elements, series, PowerSums, Recurs, Updated, Locates}
 use Rattle.bch.proofs.Element.{entry-below, represents-entry, represents-product, represents-scaled, represents-sum}
 
@@ -60,7 +60,7 @@ module _ (f : Field) where
   update-next {c} {u} e {gap} {r} {i} {p} m l h x =
       let q = represents-scaled f e (entry-below f m i) x in
       let s = represents-sum f (self (entry-below f (h .small) (gap + i))) (self (q .low)) in
-      mixed-next (gf f) (num f) l h (q .is) (rw (num-size f) (s .low)) (s .is)
+      mixed-next (gf f) (num f) l h (q .is) (num-below f (s .low)) (s .is)
 
   pub update-end : {c u : List ℕ} {e gap : ℕ} {r : List ℕ} {i : ℕ} → Mixed (gf f) (num f) c u (a^ f e) gap r i → ((j : ℕ) → i ≤ j → getD u j 0 ≡ 0)
       → Updated f c u e gap r
@@ -69,7 +69,7 @@ module _ (f : Field) where
   -- What a step asks of what the algorithm holds: it can divide by b, and the update has no more terms than are added.
   module _ {s : List ℕ} {h len b : ℕ} {c u : List ℕ} {gap : ℕ} (holds : Recurs f s h len b c u gap) where
     pub step-divisor : (0 < b) × (b < 2 ^ degree f)
-    step-divisor = (pos-of-ne-zero (λ z. holds .state .state .unit (ap (num f .el) z ∙ num f .el-nil)), rw (num-size f) at (holds .small-b))
+    step-divisor = (pos-of-ne-zero (λ z. holds .state .state .unit (ap (num f .el) z ∙ num f .el-nil)), below-num f (holds .small-b))
 
     pub step-terms : (j : ℕ) → h + h + 2 - len - gap ≤ j → getD u j 0 ≡ 0
     step-terms j l = holds-terms (gf f) (num f) holds j (omega (arith, holds .room))
@@ -89,7 +89,7 @@ module _ (f : Field) where
 
         pub step-grown : ¬ (d ≡ 0) → len + len ≤ h + h → Recurs f s (h + 1) (h + h + 1 - len) d v c 2
         step-grown =
-            holds-grown (gf f) (num f) holds (sums .squares) (omega arith) (is .is) divides (updated .elements) (updated .mixed) (rw (num-size f) (is .low))
+            holds-grown (gf f) (num f) holds (sums .squares) (omega arith) (is .is) divides (updated .elements) (updated .mixed) (num-below f (is .low))
 
   -- The search for roots before p: `found` of them are listed in l.
   pub record Searching (c : List ℕ) (len n : ℕ) (l : List ℕ) (found p : ℕ) : Type 0 where
@@ -112,7 +112,7 @@ module _ (f : Field) where
         within = omega arith;
         few = omega (arith, s .few);
         full = simp length-set (s .full);
-        located = found-root (gf f) (num f) c len (a f) (s .located) (num-pow f p) (rw (num-size f) (is .low)) valued z (omega (arith, s .few, s .full));
+        located = found-root (gf f) (num f) c len (a f) (s .located) (num-pow f p) (num-below f (is .low)) valued z (omega (arith, s .few, s .full));
       }
 
       pub searching-none : ¬ (v ≡ 0) → Searching c len n l found (p + 1)
@@ -120,7 +120,7 @@ module _ (f : Field) where
         within = omega arith;
         few = s .few;
         full = s .full;
-        located = found-none (gf f) (num f) c len (a f) (s .located) (num-pow f p) (rw (num-size f) (is .low)) valued z;
+        located = found-none (gf f) (num f) c len (a f) (s .located) (num-pow f p) (num-below f (is .low)) valued z;
       }
 
     -- As many roots as the degree are all the roots.

@@ -5,6 +5,7 @@
 -- either f g              the finding f, or g where f found nothing
 -- ofBlocks n f g          the finding f about block 0, then g about the n later blocks
 -- findingOf l             the first broken rule of a layout
+-- judged l f              the answer to a layout by the finding f
 -- acceptance record       the answer to a layout record
 -- ruleNumber, refusalReply   document 01's number of a rule and of a refusal
 use Prim.Native.Nat.{ℕ, _*_}
@@ -31,6 +32,7 @@ use Rattle.layout.specs.declared.Acceptance.the-variants.{Accepted, Refu
 use Rattle.layout.specs.Record.{layoutOf}
 use Rattle.layout.specs.Plan.{planOf, coveredOf, used}
 
+-- A rule that is broken gives its reason.
 unfoldable pub test : Bool → Reason → Finding
 test broken r = cond broken (Broken r) Kept
 
@@ -52,6 +54,7 @@ lengthRule kind s =
 unfoldable pub roomRule : Plan → Finding
 roomRule q = test (ltb (8 * q .size) (used q)) (record { rule = Room; kind = Page; found = used q; limit = 8 * q .size })
 
+-- The first finding decides where it is a broken rule.
 unfoldable pub either : Finding → Finding → Finding
 either Kept g = g
 either (Broken r) g = Broken r
@@ -68,6 +71,7 @@ findingOf l =
     (either (ofBlocks (l .nblocks) (lengthRule First (planOf l .first)) (lengthRule Later (planOf l .later)))
     (roomRule (planOf l))))
 
+-- A layout that breaks no rule is accepted.
 unfoldable pub judged : Layout → Finding → Acceptance
 judged l Kept = Accepted l
 judged l (Broken r) = Refused (refusal.Rule r)
@@ -76,12 +80,14 @@ judged l (Broken r) = Refused (refusal.Rule r)
 unfoldable pub acceptance : List ℕ → Acceptance
 acceptance rec = cond (eqb (length rec) 8) (judged (layoutOf rec) (findingOf (layoutOf rec))) (Refused refusal.RecordLength)
 
+-- The reply of a broken rule.
 unfoldable pub ruleNumber : Rule → ℕ
 ruleNumber Level = 1
 ruleNumber Message = 2
 ruleNumber Length = 3
 ruleNumber Room = 4
 
+-- 6 for the record's length, 1 to 4 for a broken rule, 7 for a number outside its range.
 unfoldable pub refusalReply : Refusal → ℕ
 refusalReply refusal.RecordLength = 6
 refusalReply (refusal.Rule r) = ruleNumber (r .rule)

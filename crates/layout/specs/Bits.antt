@@ -26,6 +26,7 @@ use Rattle.layout.specs.declared.PositionAnswer.the-variants as position
 use Rattle.layout.specs.Plan.{planOf, covered, start}
 use Rattle.layout.specs.Acceptance.{acceptance, refusalReply}
 
+-- covered bits of a block: from its start on, as many as it has
 unfoldable pub within : Plan → ℕ → ℕ → Bool
 within q b p = cond (leb (start q b) p) (ltb p (start q b + covered q b)) false
 
@@ -36,9 +37,11 @@ blockBelow q (suc b) p = cond (within q b p) b (blockBelow q b p)
 unfoldable pub blockOf : Plan → ℕ → ℕ
 blockOf q p = blockBelow q (q .blocks) p
 
+-- at position s + j the coefficient of x^(n-1-j)
 unfoldable pub exponentAt : Plan → ℕ → ℕ → ℕ
 exponentAt q b p = covered q b - 1 - (p - start q b)
 
+-- and the other way round
 unfoldable pub positionAt : Plan → ℕ → ℕ → ℕ
 positionAt q b e = start q b + (covered q b - 1 - e)
 

@@ -36,9 +36,11 @@ shapeOf metadata fields = record {
 unfoldable pub laterShape : Layout → Shape
 laterShape l = cond (eqb (l .nblocks) 0) (record { message = 0; field = Thirteen; level = 0 }) (shapeOf 0 (l .later))
 
+-- 4 x (DATA0_SIZE + NBLOCKS x DATAN_SIZE)
 unfoldable pub dataBytes : Layout → ℕ
 dataBytes l = 4 * (l .first .units + l .nblocks * l .later .units)
 
+-- NBLOCKS counts the blocks after block 0.
 unfoldable pub planOf : Layout → Plan
 planOf l = record {
   blocks = l .nblocks + 1;
@@ -53,6 +55,7 @@ planOf l = record {
 unfoldable pub coveredOf : Shape → ℕ
 coveredOf s = s .message + degree (s .field) * s .level
 
+-- Block 0 has a shape of its own; the later blocks share one.
 unfoldable pub shape : Plan → ℕ → Shape
 shape q zero = q .first
 shape q (suc b) = q .later
@@ -74,6 +77,7 @@ unfoldable pub start : Plan → ℕ → ℕ
 start q zero = 0
 start q (suc b) = start q b + covered q b
 
+-- Rule 4 compares these with the bits of the page.
 unfoldable pub used : Plan → ℕ
 used q = start q (q .blocks)
 

@@ -5,14 +5,13 @@ use crate::Kind;
 use crate::Layout;
 use crate::Plan;
 use crate::Reason;
-use crate::Refusal;
 use crate::Rule;
 use crate::Shape;
 use crate::sums::block_start;
 use crate::sums::covered;
 use crate::sums::plan_of;
 ghost use mathlib.Core.Path.{_≡_};
-ghost use Rattle.layout.specs.Acceptance.{test, either, ofBlocks, levelRule, messageRule, lengthRule, roomRule, findingOf, ruleNumber, refusalReply};
+ghost use Rattle.layout.specs.Acceptance.{test, either, ofBlocks, levelRule, messageRule, lengthRule, roomRule, findingOf};
 
 // Internal: the finding of one rule.
 pub fn test(broken: bool, reason: Reason) -> Finding
@@ -140,30 +139,4 @@ pub fn finding_of(layout: Layout) -> Finding
         length_rule(Kind::Later, shape_later),
     );
     either(levels, either(messages, either(lengths, room_rule(plan))))
-}
-
-// The number of a rule's reply.
-pub fn rule_number(rule: Rule) -> u8
-    ensures { λ r. ⌜ r ≡ ruleNumber rule ⌝ }
-{
-    match rule {
-        Rule::Level => 1,
-        Rule::Message => 2,
-        Rule::Length => 3,
-        Rule::Room => 4,
-    }
-}
-
-// The reply of a refusal.
-pub fn refusal_reply(refusal: Refusal) -> u8
-    ensures { λ r. ⌜ r ≡ refusalReply refusal ⌝ }
-{
-    match refusal {
-        Refusal::RecordLength => 6,
-        Refusal::Rule(reason) => {
-            let rule = reason.rule;
-            rule_number(rule)
-        }
-        Refusal::Range => 7,
-    }
 }

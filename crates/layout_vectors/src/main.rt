@@ -52,9 +52,8 @@ fn put_stored(line: &mut [u8], at: usize, layout: Layout) -> usize {
     put_fields(line, page_at, later)
 }
 
-fn accepted_line(line: &mut [u8], layout: Layout) -> usize {
-    let reply_at = reply_line(line, 0);
-    let stored_at = put_stored(line, reply_at, layout);
+fn put_accepted(line: &mut [u8], at: usize, layout: Layout) -> usize {
+    let stored_at = put_stored(line, at, layout);
     put_sums(line, stored_at, layout)
 }
 
@@ -70,12 +69,7 @@ fn put_reason(line: &mut [u8], at: usize, reason: Reason) -> usize {
     vector_io::put_number(line, found_at, reason.limit)
 }
 
-fn refused_line(line: &mut [u8], refusal: Refusal) -> usize {
-    reply_line(line, layout::refusal_reply(refusal))
-}
-
-fn refused_layout_line(line: &mut [u8], refusal: Refusal) -> usize {
-    let at = refused_line(line, refusal);
+fn put_refused(line: &mut [u8], at: usize, refusal: Refusal) -> usize {
     match refusal {
         Refusal::RecordLength => at,
         Refusal::Rule(reason) => put_reason(line, at, reason),
@@ -84,37 +78,37 @@ fn refused_layout_line(line: &mut [u8], refusal: Refusal) -> usize {
 }
 
 fn layout_line(words: &[u8], line: &mut [u8]) -> usize {
-    match layout::check_layout(words) {
-        Acceptance::Accepted(l) => accepted_line(line, l),
-        Acceptance::Refused(refusal) => refused_layout_line(line, refusal),
+    let answer = layout::check_layout(words);
+    let at = reply_line(line, layout::acceptance_reply(answer));
+    match answer {
+        Acceptance::Accepted(l) => put_accepted(line, at, l),
+        Acceptance::Refused(refusal) => put_refused(line, at, refusal),
     }
 }
 
-// A page bit answers 1, its block and its exponent, or 0 in the tail.
-fn in_block_line(line: &mut [u8], block: u64, exponent: u64) -> usize {
-    let reply_at = reply_line(line, 0);
-    let kind_at = vector_io::put_number(line, reply_at, 1);
+// A page bit in a block shows 1, its block and its exponent; one in the tail shows 0.
+fn put_bit(line: &mut [u8], at: usize, block: u64, exponent: u64) -> usize {
+    let kind_at = vector_io::put_number(line, at, 1);
     let block_at = vector_io::put_number(line, kind_at, block);
     vector_io::put_number(line, block_at, exponent)
 }
 
-fn number_line(line: &mut [u8], n: u64) -> usize {
-    let reply_at = reply_line(line, 0);
-    vector_io::put_number(line, reply_at, n)
-}
-
 fn bit_line(words: &[u8], position: u64, line: &mut [u8]) -> usize {
-    match layout::locate_bit(words, position) {
-        BitAnswer::InBlock { block, exponent } => in_block_line(line, block, exponent),
-        BitAnswer::Tail => number_line(line, 0),
-        BitAnswer::Refused(refusal) => refused_line(line, refusal),
+    let answer = layout::locate_bit(words, position);
+    let at = reply_line(line, layout::bit_reply(answer));
+    match answer {
+        BitAnswer::InBlock { block, exponent } => put_bit(line, at, block, exponent),
+        BitAnswer::Tail => vector_io::put_number(line, at, 0),
+        BitAnswer::Refused(_) => at,
     }
 }
 
 fn position_line(words: &[u8], block: u64, exponent: u64, line: &mut [u8]) -> usize {
-    match layout::bit_position(words, block, exponent) {
-        PositionAnswer::Position(position) => number_line(line, position),
-        PositionAnswer::Refused(refusal) => refused_line(line, refusal),
+    let answer = layout::bit_position(words, block, exponent);
+    let at = reply_line(line, layout::position_reply(answer));
+    match answer {
+        PositionAnswer::Position(position) => vector_io::put_number(line, at, position),
+        PositionAnswer::Refused(_) => at,
     }
 }
 

@@ -20,6 +20,7 @@ use Rattle.page_theory.specs.Reading.{GivesAt, Reading, done, refused, r
 use Rattle.page_theory.specs.Damage.{Accepts, Payload}
 use Rattle.page_theory.specs.Calls.{writeEnded, writeOf, Read, readEnded, readReply, bytesAt, readBy, readIn, readOf}
 use Rattle.page_theory.proofs.Blocks.{written-code, page-block, page-tail}
+use Rattle.page_theory.proofs.Writing.{Stands, stands-page}
 use Rattle.page_theory.proofs.Reading.{from-order, reading-parts}
 use Rattle.page_theory.proofs.Calls.{bytesAt-bytes, bytesAt-join, write-right}
 use Rattle.page_theory.proofs.Accepted.{accepts-valid, write-accepted, read-accepted}
@@ -44,6 +45,10 @@ module _ (rec : List ℕ) (q : Plan) (accepted : Accepts rec q) where
     -- "tail bits included": the bits after the last block are ones.
     pub write-tail : (p : ℕ) → used q ≤ p → p < 8 * q .size → bitOf (writeOf rec m d page .page) p ≡ true
     write-tail p h l = rw write-done (page-tail q (m ++ d) p h l)
+
+    -- No other page has these blocks and this tail.
+    pub write-only : (other : List ℕ) → Stands q (m ++ d) other → other ≡ writeOf rec m d page .page
+    write-only other h = rw write-done (stands-page q (accepts-valid rec q accepted) (m ++ d) other h)
 
 -- What a page that was read gives.
 pub record Reads (q : Plan) (page : List ℕ) (r : Read) : Type 0 where

@@ -1,9 +1,9 @@
--- `layout::rules::rule_number` meets its contract.
+-- `layout::answers::rule_number` meets its contract.
 use mathlib.Core.Path.{sym, ap}
 use borrow.Author.Needs.{needs}
 use Rattle.layout.specs.Acceptance.{ruleNumber}
-use Rattle.layout.proofs.rules.rule_number.Statement.{statement}
-use Rattle.layout.proofs.rules.rule_number.Tie as tie
+use Rattle.layout.proofs.answers.rule_number.Statement.{statement}
+use Rattle.layout.proofs.answers.rule_number.Tie as tie
 
 enum-told : tie.Need-enum-told
 enum-told c = search needs

@@ -1,9 +1,9 @@
--- `layout::rules::refusal_reply` meets its contract.
+-- `layout::answers::refusal_reply` meets its contract.
 use mathlib.Core.Path.{sym, ap, _∙_}
 use borrow.Author.Needs.{needs}
 use Rattle.layout.specs.Acceptance.{refusalReply}
-use Rattle.layout.proofs.rules.refusal_reply.Statement.{statement}
-use Rattle.layout.proofs.rules.refusal_reply.Tie as tie
+use Rattle.layout.proofs.answers.refusal_reply.Statement.{statement}
+use Rattle.layout.proofs.answers.refusal_reply.Tie as tie
 
 enum-told : tie.Need-enum-told
 enum-told c = search needs
