@@ -13,12 +13,13 @@ use Rattle.bits.specs.Bits.{bitOf, run, placed, Bytes, Inside}
 use Rattle.bits.proofs.Runs.{run-length, run-at, run-ext, run-append}
 use Rattle.bits.proofs.Placed.{placed-inside, placed-append, placed-empty}
 use Rattle.layout.specs.declared.Plan.{Plan}
-use Rattle.layout.specs.Plan.{bits, coveredOf, covered, start, from, payload, Valid}
+use Rattle.layout.specs.Plan.{bits, coveredOf, start, from, payload, Valid}
 use Rattle.layout.proofs.Plans.{from-later}
 use Rattle.page_theory.specs.Page.{message, blockWord}
 use Rattle.page_theory.proofs.Calls.{bytes-append}
 use Rattle.page_theory.proofs.Reading.{from-order}
-use Rattle.page_read.specs.Steps.{Ready, texts, Small, Joined}
+use Rattle.page_read.specs.Looking.{Ready}
+use Rattle.page_read.specs.Taking.{texts, Small, Joined}
 
 module _ (q : Plan) where
   -- where a message starts

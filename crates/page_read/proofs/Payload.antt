@@ -10,7 +10,7 @@ use Rattle.bits.specs.Bits.{bitOf, run, placed, Bytes}
 use Rattle.bits.proofs.Runs.{run-length, run-append}
 use Rattle.bits.proofs.Placed.{placed-length, placed-bytes, placed-inside, placed-outside, placed-ext, placed-append}
 use Rattle.page_theory.proofs.Calls.{bitOf-first, bitOf-second, bytes-append}
-use Rattle.page_read.specs.Steps.{Joined}
+use Rattle.page_read.specs.Taking.{Joined}
 
 module _ (m d : List ℕ) where
   -- the bits of m' and d' together are those of m and d together, where the parts' are

@@ -1,29 +1,28 @@
 -- What the remainder of a block says of it: nothing to repair where it is zero, else what locating answers for it.
-use mathlib.Core.Path.{_≡_, refl, sym, ap, _∙_, subst₂}
-use mathlib.Core.Bool.{false}
+use mathlib.Core.Path.{_≡_, sym, ap, _∙_, subst₂}
 use mathlib.Core.List.{List, []}
-use Prim.Native.Nat.{ℕ, zero, suc, _*_, _^_, _≤_, _<_}
+use Prim.Native.Nat.{ℕ, _*_, _^_, _≤_, _<_}
 use native.Mathlib.Omega.{arith}
 use native.Mathlib.Nat.{mul-zero}
-use lib.ListN.{length, take, replicate, length-replicate}
-use Rattle.bits.specs.Bits.{digit}
+use lib.ListN.{length, take}
 use Rattle.field.specs.declared.Field.{Field}
 use Rattle.field.specs.Field.{degree}
 use Rattle.layout.specs.declared.Plan.{Plan}
-use Rattle.layout.specs.Plan.{bits, field, level, covered, Valid}
-use Rattle.code.specs.Word.{Word, flipped, ascending, ones}
+use Rattle.layout.specs.Plan.{coveredOf, bits, field, level, covered, Valid}
+use Rattle.code.specs.Word.{Word, flipped, ones}
 use Rattle.code.specs.Generator.{remainder}
 use Rattle.code.specs.Code.{Fits}
-use Rattle.code.specs.Locations.{Locates, listed, exponents, nowhere, locate}
-use Rattle.code.proofs.Remainder.{remainder-below, codeword-remainder}
-use Rattle.code.proofs.Codeword.{zeros-codeword}
+use Rattle.code.specs.Locations.{nowhere, locate}
+use Rattle.code.proofs.Remainder.{remainder-below}
 use Rattle.code.proofs.Flips.{Below}
-use Rattle.code.proofs.Locations.{locate-exponents, exponents-locate, listed-length, listed-below, judge-exponents, judge-nowhere}
+use Rattle.code.proofs.Locations.{exponents-locate, listed-length, listed-below, judge-exponents, judge-nowhere}
+use Rattle.bch.specs.Locating.{Locatable}
+use Rattle.bch.proofs.Locating.{zero-located}
 use Rattle.page_theory.specs.Page.{blockWord}
 use Rattle.page_theory.specs.Reading.{GivesAt, RefusedAt, outcome}
 use Rattle.page_theory.proofs.Blocks.{blockWord-length, blockWord-fits}
 use Rattle.page_theory.proofs.Reading.{gives-outcome, ruined-outcome}
-use Rattle.page_read.specs.Steps.{remainderAt, LocatedAt}
+use Rattle.page_read.specs.Looking.{remainderAt, LocatedAt}
 
 -- every word is a codeword of the level 0
 pub remainder-none : (f : Field) (t : ℕ) (w : Word) → t ≡ 0 → remainder f t w ≡ 0
@@ -32,26 +31,14 @@ remainder-none f t w e =
     let k : 2 ^ (degree f * t) ≡ 1 = rw (e, mul-zero (degree f)) in
     omega arith
 
-zeros-ones : (n : ℕ) → ones (replicate n false) ≡ 0
-unfolding ones digit
-zeros-ones zero = refl
-zeros-ones (suc n) = let h = zeros-ones n in omega arith
+pub block-fits : (q : Plan) → Valid q → (b : ℕ) → b < q .blocks → Fits (field q b) (level q b) (covered q b)
+block-fits q v b inside = record { short = v .short b inside; level = v .strong b inside }
 
-zeros-ascending : (n : ℕ) → ascending (replicate n false) ≡ []
-unfolding ascending
-zeros-ascending zero = refl
-zeros-ascending (suc n) = rw (zeros-ascending n)
-
--- a remainder of zero is left by no exponent at all
-pub locate-none : (f : Field) (t n : ℕ) → Fits f t n → locate f t n 0 ≡ exponents []
-unfolding listed
-locate-none f t n h =
-    locate-exponents f t n 0 (replicate n false) h (record {
-      below = length-replicate n false;
-      few = omega (arith, zeros-ones n);
-      leaves = codeword-remainder f t _ (h .level) (zeros-codeword f t n);
-    })
-    ∙ ap exponents (zeros-ascending n)
+-- a block has room for its parity
+pub block-locatable : (q : Plan) → Valid q → (b x : ℕ) → b < q .blocks → x < 2 ^ (degree (field q b) * level q b)
+    → Locatable (field q b) (level q b) (covered q b) x
+unfolding coveredOf
+block-locatable q v b x inside low = record { fits = block-fits q v b inside; room = omega arith; low = low }
 
 module _ (q : Plan) (page : List ℕ) where
   pub remainderAt-none : (b : ℕ) → level q b ≡ 0 → remainderAt q page b ≡ 0
@@ -59,15 +46,12 @@ module _ (q : Plan) (page : List ℕ) where
   remainderAt-none b e = remainder-none (field q b) (level q b) _ e
 
   module _ (v : Valid q) (b : ℕ) (inside : b < q .blocks) where
-    fits : Fits (field q b) (level q b) (covered q b)
-    fits = record { short = v .short b inside; level = v .strong b inside }
-
     pub remainderAt-below : remainderAt q page b < 2 ^ (degree (field q b) * level q b)
     unfolding remainderAt
     remainderAt-below = remainder-below (field q b) (level q b) _ (v .strong b inside)
 
     pub located-clean : remainderAt q page b ≡ 0 → LocatedAt q page b []
-    located-clean e = rw e (locate-none (field q b) (level q b) (covered q b) fits)
+    located-clean e = rw e (zero-located (field q b) (level q b) (covered q b) (block-fits q v b inside))
 
     pub located-gives : (ps : List ℕ) → LocatedAt q page b ps
         → GivesAt q page b (take (bits q b) (flipped (blockWord q page b) ps)) (length ps)

@@ -14,7 +14,7 @@ use Rattle.code.specs.Register.{register}
 use Rattle.remainder.specs.Remainder.{Row}
 use Rattle.remainder.specs.declared.Register.{Register}
 use Rattle.page_read.specs.declared.Scan.{Scan}
-use Rattle.page_read.specs.Steps.{remainderAt, Scanned}
+use Rattle.page_read.specs.Looking.{remainderAt, Scanned}
 
 -- the later blocks have one generator
 pub row-later : (q : Plan) (b : ℕ) {words : List ℕ} → 0 < b → Row (q .later .field) (q .later .level) words → Row (field q b) (level q b) words

@@ -2,7 +2,7 @@
 use mathlib.Core.Path.{_≡_, refl, sym, ap, _∙_}
 use mathlib.Core.Bool.{Bool, true, false, not}
 use mathlib.Core.List.{List, [], _∷_, _++_}
-use Prim.Native.Nat.{ℕ, zero, suc, _+_, _-_, _*_, _≤_, _<_}
+use Prim.Native.Nat.{ℕ, suc, _+_, _-_, _*_, _≤_, _<_}
 use native.Mathlib.Decide.{decLt, ℕ-discrete}
 use native.Mathlib.Numerals.{add-one}
 use native.Mathlib.Omega.{arith}
@@ -12,7 +12,7 @@ use lib.Seq.{getD-take, length-take-le, ext-getD}
 use borrow.Author.Tests.{eq-eqb, ne-eqb}
 use Rattle.algebra.specs.Word.{differ, flip}
 use Rattle.bits.specs.Bits.{bitOf, run, placed}
-use Rattle.bits.proofs.Runs.{run-length, run-at, run-ext, run-cong}
+use Rattle.bits.proofs.Runs.{run-at, run-ext, run-cong}
 use Rattle.bits.proofs.Placed.{placed-inside, placed-outside}
 use Rattle.layout.specs.declared.Plan.{Plan}
 use Rattle.layout.specs.Plan.{bits, coveredOf, covered, from, payload, Valid}
@@ -22,7 +22,9 @@ use Rattle.code.proofs.Flips.{Below, turned-length, turned-coefficient, flipped
 use Rattle.page_theory.specs.Page.{message}
 use Rattle.page_theory.proofs.Words.{run-last}
 use Rattle.page_theory.proofs.Reading.{from-order}
-use Rattle.page_read.specs.Steps.{Planned, kept, Joined, TurnedIn, TurnedAll, Kept}
+use Rattle.page_read.specs.Deciding.{kept}
+use Rattle.page_read.specs.Taking.{Joined, TurnedIn, TurnedAll}
+use Rattle.page_read.proofs.Deciding.{kept-length}
 use Rattle.page_read.proofs.Messages.{message-inside}
 
 -- one exponent more is kept
@@ -30,10 +32,6 @@ use Rattle.page_read.proofs.Messages.{message-inside}
 pub kept-at : (places : List ℕ) (b n i : ℕ) → i < n → getD (kept places b n) i 0 ≡ getD places (64 * b + i) 0
 unfolding kept
 kept-at places b n i l = run-at (λ i. getD places i 0) (64 * b) n i 0 l
-
-pub kept-length : (places : List ℕ) (b n : ℕ) → length (kept places b n) ≡ n
-unfolding kept
-kept-length places b n = run-length _ _ _
 
 pub kept-next : (places : List ℕ) (b n : ℕ) → kept places b (n + 1) ≡ kept places b n ++ (getD places (64 * b + n) 0 ∷ [])
 unfolding kept
@@ -112,7 +110,7 @@ module _ (q : Plan) (b p : ℕ) (inside : p < covered q b) (m d : List ℕ) wher
           → bitOf (placed (m ++ d) x (not (bitOf (m ++ d) x) ∷ [])) (from q b + i) ≡ getD (turned w p) i false
       bit w k t i n =
           let before : bitOf (m ++ d) (from q b + i) ≡ getD w i false =
-              sym (run-at (bitOf (m ++ d)) (from q b) (bits q b) i false n) ∙ ap (λ u. getD u i false) t ∙ getD-take (bits q b) w i false n in
+          sym (run-at (bitOf (m ++ d)) (from q b) (bits q b) i false n) ∙ ap (λ u. getD u i false) t ∙ getD-take (bits q b) w i false n in
           elim (ℕ-discrete i j) [
             | yes e ↦
                 let f : from q b + i ≡ x + 0 = omega arith in

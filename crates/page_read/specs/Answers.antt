@@ -1,22 +1,35 @@
--- How each answer of this crate ends a call (document 01, "Replies" and "One block"): reply, block, values, and the buffers that
--- are left.
+-- The answers of this crate as document 01's numbers (document 01, "Replies" and "One block"): the reply, the block that goes with
+-- it, and the value.
 --
--- readEnds r m d c     reading a page, with the answer r and with m, d and c left in metadata, data and counts
--- judgeEnds r          judging one block
-use mathlib.Core.List.{List}
+-- readNumber r, readBlock r                    the reply and the block of an answer of the reader
+-- judgeNumber r, judgeBlock r, judgeFlips r    the reply, the block and the flip count of an answer about one block
 use Prim.Native.Nat.{ℕ}
-use Rattle.page_theory.specs.Calls.{Read, readEnded, Judged, judgeEnded}
 use Rattle.page_read.specs.declared.ReadAnswer.{ReadAnswer}
 use Rattle.page_read.specs.declared.ReadAnswer.the-variants as read
 use Rattle.page_read.specs.declared.JudgeAnswer.{JudgeAnswer}
 use Rattle.page_read.specs.declared.JudgeAnswer.the-variants as judge
 
-unfoldable pub readEnds : ReadAnswer → List ℕ → List ℕ → List ℕ → Read
-readEnds read.Done m d c = readEnded 0 0 m d c
-readEnds (read.Refused reply) m d c = readEnded reply 0 m d c
-readEnds (read.Ruined block) m d c = readEnded 9 block m d c
+unfoldable pub readNumber : ReadAnswer → ℕ
+readNumber read.Done = 0
+readNumber (read.Refused n) = n
+readNumber (read.Ruined b) = 9
 
-unfoldable pub judgeEnds : JudgeAnswer → Judged
-judgeEnds (judge.Flips n) = judgeEnded 0 0 n
-judgeEnds (judge.Refused reply) = judgeEnded reply 0 0
-judgeEnds (judge.Ruined block) = judgeEnded 9 block 0
+unfoldable pub readBlock : ReadAnswer → ℕ
+readBlock read.Done = 0
+readBlock (read.Refused n) = 0
+readBlock (read.Ruined b) = b
+
+unfoldable pub judgeNumber : JudgeAnswer → ℕ
+judgeNumber (judge.Flips n) = 0
+judgeNumber (judge.Refused n) = n
+judgeNumber (judge.Ruined b) = 9
+
+unfoldable pub judgeBlock : JudgeAnswer → ℕ
+judgeBlock (judge.Flips n) = 0
+judgeBlock (judge.Refused n) = 0
+judgeBlock (judge.Ruined b) = b
+
+unfoldable pub judgeFlips : JudgeAnswer → ℕ
+judgeFlips (judge.Flips n) = n
+judgeFlips (judge.Refused n) = 0
+judgeFlips (judge.Ruined b) = 0

@@ -4,7 +4,7 @@ ghost use Prim.Native.Nat.{_≤_, _<_};
 ghost use Rattle.layout.specs.Plan.{field, level};
 ghost use Rattle.code.specs.Register.{register};
 ghost use Rattle.remainder.specs.Remainder.{Row};
-ghost use Rattle.page_read.specs.Steps.{Offered, Ready, remainderAt, Scanned};
+ghost use Rattle.page_read.specs.Looking.{Stored, Ready, remainderAt, Scanned};
 use crate::Scan;
 use code::generators::generator_row;
 use layout::Plan;
@@ -19,7 +19,7 @@ use remainder::feed::remainder_of;
 
 // Internal. The generator of the level of a block.
 pub fn shape_row(shape: Shape) -> [u64; 14]
-    requires { ⌜ Offered shape ⌝ }
+    requires { ⌜ Stored shape ⌝ }
     ensures { λ r. ⌜ Row (shape .field) (shape .level) r ⌝ }
 {
     let f = shape.field;

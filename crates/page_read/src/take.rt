@@ -9,7 +9,9 @@ ghost use lib.ListN.{length};
 ghost use Rattle.bits.specs.Bits.{bitOf, run, placed, Inside};
 ghost use Rattle.layout.specs.Plan.{covered, from};
 ghost use Rattle.code.proofs.Flips.{Below};
-ghost use Rattle.page_read.specs.Steps.{Planned, Ready, kept, texts, Small, Joined, TurnedIn, Kept, TurnedAll, Counted};
+ghost use Rattle.page_read.specs.Looking.{Planned, Ready};
+ghost use Rattle.page_read.specs.Deciding.{kept};
+ghost use Rattle.page_read.specs.Taking.{texts, Small, Joined, TurnedIn, Kept, TurnedAll, Counted};
 use bits::copy::copy_bits;
 use bits::write::flip_bit;
 use layout::Plan;
@@ -18,14 +20,7 @@ use layout::block_shape;
 use layout::block_start;
 
 // Copies n bits of the page to a position of the payload.
-fn copy_run(
-    page: &[u8],
-    at: usize,
-    metadata: &mut [u8],
-    data: &mut [u8],
-    position: usize,
-    n: usize,
-)
+fn copy_run(page: &[u8], at: usize, metadata: &mut [u8], data: &mut [u8], position: usize, n: usize)
     requires { ⌜ (Inside (now page) at n) × (Small (now metadata) (now «data»)) ⌝ }
     requires { ⌜ position + n ≤ 8 * (length (now metadata) + length (now «data»)) ⌝ }
     ensures { λ r. ⌜ Joined (now (metadata .entry)) (now («data» .entry)) (now (metadata .exit)) (now («data» .exit))

@@ -6,7 +6,7 @@ use denote.Ref.{now}
 use Rattle.layout.specs.declared.Shape.{Shape}
 use Rattle.layout.specs.Plan.{level}
 use Rattle.page_theory.specs.Page.{blockWord}
-use Rattle.page_read.specs.Steps.{remainderAt}
+use Rattle.page_read.specs.Looking.{remainderAt}
 use Rattle.page_read.proofs.Remainders.{remainderAt-none}
 use Rattle.page_read.proofs.look.block_remainder.Statement.{statement}
 use Rattle.page_read.proofs.look.block_remainder.Tie as tie

@@ -37,8 +37,7 @@ loop-less c = search needs
 
 loop-again : tie.Need-loop-again Inv-loop μ-loop
 loop-again c =
-    let i = c .before .before .before .before .loop .inv in
-    (
+    let i = c .before .before .before .before .loop .inv in (
       search needs,
       search needs,
       clean-next _ _ _ (i .2) (c .before .before .block-remainder .ensures) (c .before .is-zero .ensures) (c .if1 .left),

@@ -6,7 +6,7 @@ use native.Mathlib.Omega.{arith}
 use borrow.Author.Needs.{needs}
 use Rattle.bits.specs.Bits.{placed}
 use Rattle.layout.specs.declared.Shape.{Shape}
-use Rattle.page_read.specs.Steps.{texts, Joined}
+use Rattle.page_read.specs.Taking.{texts, Joined}
 use Rattle.page_read.proofs.Messages.{joined-start, joined-texts, message-room}
 use Rattle.page_read.proofs.take.copy_messages.Statement.{statement}
 use Rattle.page_read.proofs.take.copy_messages.Tie as tie
@@ -19,12 +19,11 @@ abbrev μ-loop : tie.MeasureT-loop
 μ-loop plan page metadata₀ data₀ blocks b₀ metadata «data» b = blocks - b
 
 loop-holds : tie.Need-loop-holds Inv-loop μ-loop
-loop-holds c =
-    (
-      search needs,
-      joined-start _ _ _ _ (record { count = refl; small = λ i. c .before .slice-known .given i .fits })
+loop-holds c = (
+  search needs,
+  joined-start _ _ _ _ (record { count = refl; small = λ i. c .before .slice-known .given i .fits })
       (record { count = refl; small = λ i. c .slice-known2 .given i .fits }),
-    )
+)
 
 block-shape-requires : tie.Need-block-shape-requires Inv-loop μ-loop
 block-shape-requires c κs = search needs
@@ -58,11 +57,10 @@ loop-again : tie.Need-loop-again Inv-loop μ-loop
 loop-again c =
     let k = c .before .before .before .before in
     let s = k .before .before .before .before in
-    let l = s .before .before .before .before .loop in
-    (
+    let l = s .before .before .before .before .loop in (
       omega arith,
       joined-texts _ _ _ _ (l .b) (s .block-start .ensures .0) (k .before .before .before .message-start .ensures .0)
-      (ap (λ (x : Shape). x .message) (s .before .before .block-shape .ensures)) (l .inv .1) (k .copy-run .ensures),
+          (ap (λ (x : Shape). x .message) (s .before .before .block-shape .ensures)) (l .inv .1) (k .copy-run .ensures),
     )
 
 same-length : tie.Need-same-length Inv-loop μ-loop

@@ -1,10 +1,11 @@
 -- `page_read::take::turn_block` meets its contract. The loop's invariant: the exponents passed were turned over.
 use Prim.Native.Nat.{_-_, _≤_}
-use mathlib.Core.Path.{_≡_, _∙_, sym}
+use mathlib.Core.Path.{_≡_, _∙_}
 use native.Mathlib.Omega.{arith}
 use borrow.Author.Needs.{needs}
 use Rattle.bits.specs.Bits as bits
-use Rattle.page_read.specs.Steps.{kept, TurnedIn}
+use Rattle.page_read.specs.Deciding.{kept}
+use Rattle.page_read.specs.Taking.{TurnedIn}
 use Rattle.page_read.proofs.Turning.{kept-next, kept-below, turned-none, turned-next}
 use Rattle.page_read.proofs.take.turn_block.Statement.{statement}
 use Rattle.page_read.proofs.take.turn_block.Tie as tie

@@ -3,7 +3,7 @@ use Prim.Native.Nat.{_-_, _≤_}
 use mathlib.Core.Path.{_≡_, refl, _∙_}
 use native.Mathlib.Omega.{arith}
 use borrow.Author.Needs.{needs}
-use Rattle.page_read.specs.Steps.{TurnedAll}
+use Rattle.page_read.specs.Taking.{TurnedAll}
 use Rattle.page_read.proofs.Turning.{turned-start, turned-block}
 use Rattle.page_read.proofs.take.turn_blocks.Statement.{statement}
 use Rattle.page_read.proofs.take.turn_blocks.Tie as tie
@@ -31,8 +31,7 @@ cast-n c =
 turn-block-requires : tie.Need-turn-block-requires Inv-loop μ-loop
 turn-block-requires c κs =
     let l = c .before .before .before .before .loop in
-    let p = c .before .before .before .before .before .before .before .pre in
-    (
+    let p = c .before .before .before .before .before .before .before .pre in (
       (p .0 .0, search needs, p .0 .1 .few (l .b) (search needs), p .0 .1 .below (l .b) (search needs)),
       (l .inv .1 .metadata ∙ p .1 .0, l .inv .1 .«data» ∙ p .1 .1),
     )
