@@ -1,2 +1,4 @@
 pub mod Element
 pub mod KeyEquation
+pub mod PowerSums
+pub mod Locating

@@ -1,1 +1,3 @@
 pub mod KeyEquation
+pub mod PowerSums
+pub mod Locating

@@ -1,0 +1,254 @@
+-- What the decoder finds is the answer of the definition. Soundness: a list of few places that passes the recheck is the answer,
+-- whatever proposed it. Completeness: a set that leaves the remainder has as many exponents as the recurrence is long, they are the
+-- roots, and it passes the recheck; so where one of these fails there is no set.
+use mathlib.Core.Path.{_≡_, refl, sym, ap, _∙_}
+use mathlib.Core.Bool.{Bool, true, false, cond}
+use mathlib.Core.List.{List, [], _∷_, _++_}
+use Prim.Native.Nat.{ℕ, zero, suc, _+_, _*_, _^_, _≤_, _<_}
+use native.Mathlib.Nat.{mul-zero, pos-of-ne-zero}
+use native.Mathlib.Omega.{arith}
+use native.Mathlib.Decide.{decLt, ℕ-discrete}
+use borrow.Author.Tests.{eqb-false, eq-eqb, ne-eqb}
+use lib.Dec.{eqb}
+use lib.ListN.{length, getD, take, replicate, length-replicate, length-take}
+use lib.Seq.{take-suc, getD-take}
+use Rattle.algebra.specs.Series.{shift}
+use Rattle.algebra.specs.Recurrence.{State}
+use Rattle.algebra.specs.Word.{flip, differ, count, among, power-sum}
+use Rattle.algebra.specs.Array.{coef}
+use Rattle.algebra.specs.Search.{Root}
+use Rattle.algebra.proofs.Word.{among-true, lists-count, lists-among, lists-not-among, count-cong, errors-length, errors-root, errors-no-root}
+use Rattle.field.specs.declared.Field.{Field}
+use Rattle.field.specs.Field.{degree, longest}
+use Rattle.field.proofs.Instance.{gf, num, a, el, el-same, el-num, unit, order}
+use Rattle.code.specs.Word.{Word, ones, flipped, ascending}
+use Rattle.code.specs.Code.{Fits}
+use Rattle.code.specs.Generator.{remainder}
+use Rattle.code.specs.Outcome.{good, ruined, judge}
+use Rattle.code.specs.Locations.{Locates, listed, exponents, nowhere, locate}
+use Rattle.code.proofs.Distance.{coefficient}
+use Rattle.code.proofs.Codeword.{zeros-codeword}
+use Rattle.code.proofs.Flips.{marks, Below, none, below-each, each-below, marks-ascending, marks-past}
+use Rattle.code.proofs.Ascending.{Rising, end, each-rising, rising-ext, ascending-rising}
+use Rattle.code.proofs.Locations.{ones-count, listed-length, listed-flips, listed-power-sum, set-recheck, locate-list, locate-exponents, locate-nowhere, exponents-locate, listed-below, judge-exponents, judge-nowhere}
+use Rattle.code.proofs.Outcome.{judge-codeword}
+use Rattle.code.proofs.Remainder.{codeword-remainder, remainder-codeword, remainder-below}
+use Rattle.bch.specs.KeyEquation.{series, Recurs, Locates as Roots}
+use Rattle.bch.specs.declared.Found.{Found}
+use Rattle.bch.specs.PowerSums.{Decides, Agrees, Syndromes}
+use Rattle.bch.specs.Locating.{Locatable, answer, Finds}
+use Rattle.bch.proofs.Element.{entry-below}
+
+-- ---- a list that ascends, as a set
+
+among-suc : (E : ℕ → ℕ) (w p : ℕ) → among E (suc w) p ≡ cond (eqb (E w) p) true (among E w p)
+unfolding among
+among-suc E w p = refl
+
+among-zero : (E : ℕ → ℕ) (p : ℕ) → among E 0 p ≡ false
+unfolding among
+among-zero E p = refl
+
+-- The last place of a list that ascends is not among the others.
+among-fresh : (E : ℕ → ℕ) (w : ℕ) → ((i j : ℕ) → i < j → j < suc w → E i < E j) → (b : Bool) → among E w (E w) ≡ b → b ≡ false
+among-fresh E w rising false h = refl
+among-fresh E w rising true h = let (e, l, q) = among-true E w (E w) h in absurd (omega (arith, rising e w l (omega arith)))
+
+differ-false : (x : Bool) → differ x false ≡ x
+unfolding differ flip
+differ-false true = refl
+differ-false false = refl
+
+marks-last : (ps : List ℕ) (q p : ℕ) → marks (ps ++ (q ∷ [])) p ≡ differ (marks ps p) (eqb p q)
+unfolding marks differ flip
+marks-last [] q p = differ-false (eqb p q)
+marks-last (x ∷ ps) q p = ap (differ (eqb p x)) (marks-last ps q p) ∙ go (eqb p x) (marks ps p) (eqb p q)
+  where
+    go : (x y z : Bool) → differ x (differ y z) ≡ differ (differ x y) z
+    go true true true = refl
+    go true true false = refl
+    go true false z = refl
+    go false y z = refl
+
+pub marks-among : (l : List ℕ) (w p : ℕ) → w ≤ length l → ((i j : ℕ) → i < j → j < w → getD l i 0 < getD l j 0) → marks (take w l) p ≡ among (λ i. getD l i 0) w p
+marks-among l zero p room rising = unfold marks in sym (among-zero (λ i. getD l i 0) p)
+marks-among l (suc w) p room rising =
+    rw (take-suc l w 0 (omega arith), marks-last (take w l) (getD l w 0) p, marks-among l w p (omega arith) (λ i j h k. rising i j h (omega arith)), among-suc (λ i. getD l i 0) w p)
+    (go (ℕ-discrete p (getD l w 0)))
+  where
+    go : Dec (p ≡ getD l w 0) → differ (among (λ i. getD l i 0) w p) (eqb p (getD l w 0)) ≡ cond (eqb (getD l w 0) p) true (among (λ i. getD l i 0) w p)
+    go (yes e) = rw (eq-eqb p (getD l w 0) e, eq-eqb (getD l w 0) p (sym e), e, among-fresh (λ i. getD l i 0) w rising _ refl) (unfold differ in refl)
+    go (no e) = rw (ne-eqb p (getD l w 0) e, ne-eqb (getD l w 0) p (λ q. e (sym q))) (differ-false _)
+
+-- ---- the decoder
+
+module _ (f : Field) (t n x : ℕ) (h : Locatable f t n x) (short : n ≤ longest f) {s : List ℕ} (syndromes : Syndromes f t x s) where
+  -- The syndromes are the power sums of a set that leaves the remainder.
+  set-sums : (v : Word) → Locates f t n x v → (j : ℕ) → j < 2 * t → series f s j ≡ power-sum (gf f) (a f) (coefficient v) n j
+  unfolding coef
+  set-sums v y j l = el-same f _ _
+      (el-num f (getD s j 0) (entry-below f (syndromes .elements) j) ∙ syndromes .values j l
+      ∙ set-recheck f t n x (h .fits) (h .low) (h .room) v y j l ∙ sym (listed-power-sum f v j) ∙ ap (λ n. el f (power-sum (gf f) (a f) (coefficient v) n j)) (y .below))
+
+  set-count : (v : Word) → Locates f t n x v → count (coefficient v) n ≡ ones v
+  set-count v y = sym (ones-count v ∙ ap (count (coefficient v)) (y .below))
+
+  module _ {len b : ℕ} {c u : List ℕ} {gap : ℕ} (recurs : Recurs f s t len b c u gap) where
+    state : State (gf f) (series f s) (2 * t) len (num f .el b) (series f c) (shift (gf f) gap (series f u))
+    state = let e : 2 * t ≡ t + t = omega arith in rw e (recurs .state .state)
+
+    set-length : (v : Word) → Locates f t n x v → len ≡ ones v
+    set-length v y = errors-length (gf f) (a f) (longest f) (unit f) (order f) n short (2 * t) (coefficient v) (series f s) (set-sums v y)
+        (omega (arith, y .few, set-count v y)) len _ _ _ state ∙ set-count v y
+
+    pub recurs-leading : 0 < getD c 0 0
+    unfolding coef
+    recurs-leading = pos-of-ne-zero (λ z. recurs .state .state .generates .start (ap (num f .el) z ∙ num f .el-nil))
+
+    pub long-nowhere : t < len → locate f t n x ≡ nowhere
+    long-nowhere l = locate-nowhere f t n x (λ v y. omega (arith, y .few, set-length v y))
+
+    module _ {l : List ℕ} {w : ℕ} (room : w ≤ length l) (roots : Roots f c len n l w) where
+      abbrev place : ℕ → ℕ
+      place i = getD l i 0
+
+      set-among : (v : Word) → Locates f t n x v → (p : ℕ) → p < n → among place w p ≡ coefficient v p
+      set-among v y p k = go (among place w p) refl (coefficient v p) refl
+        where
+          root : coefficient v p ≡ true → Root (gf f) (num f) c len (a f) p
+          root = errors-root (gf f) (a f) (longest f) (unit f) (order f) n short (2 * t) (coefficient v) (series f s) (set-sums v y)
+              (omega (arith, y .few, set-count v y)) len _ _ _ state p k
+
+          no-root : coefficient v p ≡ false → ¬ (Root (gf f) (num f) c len (a f) p)
+          no-root = errors-no-root (gf f) (a f) (longest f) (unit f) (order f) n short (2 * t) (coefficient v) (series f s) (set-sums v y)
+              (omega (arith, y .few, set-count v y)) len _ _ _ state p k
+
+          go : (d : Bool) → among place w p ≡ d → (e : Bool) → coefficient v p ≡ e → d ≡ e
+          go true i true j = refl
+          go true i false j = absurd (no-root j (lists-among (roots .lists) p i))
+          go false i true j = absurd (lists-not-among (roots .lists) p k i (root j))
+          go false i false j = refl
+
+      set-size : (v : Word) → Locates f t n x v → w ≡ len
+      set-size v y = sym (lists-count (roots .lists)) ∙ count-cong (among place w) (coefficient v) n (set-among v y) ∙ set-count v y ∙ sym (set-length v y)
+
+      pub few-nowhere : ¬ (w ≡ len) → locate f t n x ≡ nowhere
+      few-nowhere e = locate-nowhere f t n x (λ v y. e (set-size v y))
+
+      size : length (take w l) ≡ w
+      size = simp length-take (omega arith)
+
+      at : (i : ℕ) → i < w → getD (take w l) i 0 ≡ getD l i 0
+      at i k = getD-take w l i 0 k
+
+      rising : Rising 0 (take w l)
+      rising = each-rising 0 (take w l) (λ k. omega arith)
+          (λ i k. rw (at i (omega (arith, size)), at (suc i) (omega (arith, size))) (roots .lists .rising i (suc i) (omega arith) (omega (arith, size))))
+
+      below : Below n (take w l)
+      below = below-each n (take w l) (λ i k. rw (at i (omega (arith, size))) (roots .lists .below i (omega (arith, size))))
+
+      set-list : (v : Word) → Locates f t n x v → listed v ≡ take w l
+      unfolding listed
+      set-list v y = rising-ext 0 (ascending v) (take w l) (ascending-rising v) rising (λ p. each p (decLt p n))
+        where
+          past : (p : ℕ) → n ≤ p → (d : Bool) → among place w p ≡ d → d ≡ false
+          past p k false i = refl
+          past p k true i = let (e, q, r) = among-true place w p i in absurd (omega (arith, roots .lists .below e q))
+
+          each : (p : ℕ) → Dec (p < n) → marks (ascending v) p ≡ marks (take w l) p
+          each p (yes k) = marks-ascending v p (rw (y .below) k) ∙ sym (set-among v y p k) ∙ sym (marks-among l w p room (roots .lists .rising))
+          each p (no k) = marks-past v p (omega (arith, y .below)) ∙ sym (past p (omega arith) _ refl) ∙ sym (marks-among l w p room (roots .lists .rising))
+
+      set-agrees : (v : Word) → Locates f t n x v → Agrees f t s (take w l)
+      set-agrees v y = record { sums = λ i k. syndromes .values (i + i) (omega arith) ∙ set-recheck f t n x (h .fits) (h .low) (h .room) v y (i + i) (omega arith) ∙ rw (set-list v y) }
+
+      pub wrong-nowhere : (Agrees f t s (take w l) → ⊥) → locate f t n x ≡ nowhere
+      wrong-nowhere e = locate-nowhere f t n x (λ v y. e (set-agrees v y))
+
+      pub agreed-located : Agrees f t s (take w l) → w ≤ t → locate f t n x ≡ exponents (take w l)
+      agreed-located g k = locate-list f t n x (h .fits) (h .low) (h .room) (take w l) rising below (omega (arith, size))
+          (λ i m. sym (syndromes .values (i + i) (omega arith)) ∙ g .sums i m)
+
+-- ---- a zero remainder
+
+zeros-ones : (n : ℕ) → listed (replicate n false) ≡ []
+unfolding flipped
+zeros-ones n = listed-flips n [] end none
+
+pub zero-located : (f : Field) (t n : ℕ) → Fits f t n → locate f t n 0 ≡ exponents []
+zero-located f t n h = locate-exponents f t n 0 (replicate n false) h locates ∙ ap exponents (zeros-ones n)
+  where
+    locates : Locates f t n 0 (replicate n false)
+    locates = record {
+      below = length-replicate n false;
+      few = let e : ones (replicate n false) ≡ 0 = sym (listed-length (replicate n false)) ∙ ap length (zeros-ones n) in omega arith;
+      leaves = codeword-remainder f t (replicate n false) (h .level) (zeros-codeword f t n);
+    }
+
+-- A remainder that is not zero has a level above 0, so a length of at most 2^m - 1.
+pub nonzero-short : {f : Field} {t n x : ℕ} {b : Bool} → Locatable f t n x → b ≡ eqb x 0 → b ≡ false → n ≤ longest f
+nonzero-short {f} {t} {n} {x} h is b = go t refl
+  where
+    z : ¬ (x ≡ 0)
+    z = eqb-false x 0 (sym is ∙ b)
+
+    go : (k : ℕ) → t ≡ k → n ≤ longest f
+    go zero e = let l : x < 2 ^ (degree f * 0) = rw e at (h .low) in let m : x < 2 ^ 0 = rw (mul-zero (degree f)) at l in absurd (z (omega arith))
+    go (suc k) e = h .fits .short (omega arith)
+
+-- ---- what a finding says
+
+module _ (f : Field) (t n x : ℕ) where
+  pub finds-none : (r : Found) → locate f t n x ≡ nowhere → r .located ≡ false → r .count ≡ 0 → length (r .exponents) ≡ 64 → Finds f t n x r
+  unfolding answer
+  finds-none r e located count size = record { is = rw located (sym e); few = omega arith; size = size }
+
+  pub finds-zero : (r : Found) → locate f t n x ≡ exponents [] → r .located ≡ true → r .count ≡ 0 → length (r .exponents) ≡ 64 → Finds f t n x r
+  unfolding answer
+  finds-zero r e located count size = record { is = rw (located, count) (sym e); few = omega arith; size = size }
+
+  pub finds-list : (r : Found) → r .count ≤ t → length (r .exponents) ≡ 64 → {P : Type 0} → Decides (r .located) P
+      → (P → locate f t n x ≡ exponents (take (r .count) (r .exponents))) → ((P → ⊥) → locate f t n x ≡ nowhere) → Finds f t n x r
+  unfolding answer
+  finds-list r few size d right wrong = record { is = go (r .located) refl; few = few; size = size }
+    where
+      go : (b : Bool) → r .located ≡ b → cond (r .located) (exponents (take (r .count) (r .exponents))) nowhere ≡ locate f t n x
+      go true e = rw e (sym (right (d .holds e)))
+      go false e = rw e (sym (wrong (d .fails e)))
+
+-- ---- from the remainder of a block to what the block gives
+
+pub word-locatable : (f : Field) (t : ℕ) (w : Word) → Fits f t (length w) → degree f * t ≤ length w → Locatable f t (length w) (remainder f t w)
+word-locatable f t w h l = record { fits = h; room = l; low = remainder-below f t w (h .level) }
+
+pub zero-judge : (f : Field) (t k : ℕ) (w : Word) → Fits f t (length w) → remainder f t w ≡ 0 → judge f t k w ≡ good (take k w) 0
+zero-judge f t k w h e = judge-codeword f t k w h (remainder-codeword f t w (h .level) e)
+
+module _ (f : Field) (t n x : ℕ) (r : Found) (h : Finds f t n x r) where
+  finds-located : r .located ≡ true → locate f t n x ≡ exponents (take (r .count) (r .exponents))
+  unfolding answer
+  finds-located e = sym (h .is) ∙ rw e
+
+  finds-nowhere : r .located ≡ false → locate f t n x ≡ nowhere
+  unfolding answer
+  finds-nowhere e = sym (h .is) ∙ rw e
+
+  finds-length : t ≤ 62 → length (take (r .count) (r .exponents)) ≡ r .count
+  finds-length l = simp length-take (omega (arith, h .few, h .size))
+
+  -- No exponent at or above n is reported.
+  pub finds-below : t ≤ 62 → r .located ≡ true → (i : ℕ) → i < r .count → getD (r .exponents) i 0 < n
+  finds-below l e i k =
+      let y = exponents-locate f t n x _ (finds-located e) in
+      let b : Below n (take (r .count) (r .exponents)) = rw (y .list) (rw (y .locates .below) at (listed-below (y .set))) in
+      rw (getD-take (r .count) (r .exponents) i 0 k) at (each-below n (take (r .count) (r .exponents)) b i (rw (finds-length l) k))
+
+pub finds-judge : (f : Field) (t k : ℕ) (w : Word) (r : Found) → Fits f t (length w) → Finds f t (length w) (remainder f t w) r → r .located ≡ true
+    → judge f t k w ≡ good (take k (flipped w (take (r .count) (r .exponents)))) (r .count)
+finds-judge f t k w r fits h e =
+    judge-exponents f t k w _ fits (finds-located f t (length w) (remainder f t w) r h e)
+    ∙ ap (good (take k (flipped w (take (r .count) (r .exponents))))) (finds-length f t (length w) (remainder f t w) r h (fits .level))
+
+pub finds-ruined : (f : Field) (t k : ℕ) (w : Word) (r : Found) → t ≤ 62 → Finds f t (length w) (remainder f t w) r → r .located ≡ false → judge f t k w ≡ ruined
+finds-ruined f t k w r l h e = judge-nowhere f t k w l (finds-nowhere f t (length w) (remainder f t w) r h e)

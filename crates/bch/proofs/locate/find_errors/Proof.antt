@@ -1,0 +1,108 @@
+-- `bch::locate::find_errors` meets its contract.
+use mathlib.Core.Path.{_≡_, sym, ap, _∙_}
+use Prim.Native.Nat.{_≤_}
+use native.Mathlib.Omega.{arith}
+use borrow.Author.Tests.{eqb-true}
+use borrow.Author.Needs.{needs}
+use lib.ListN.{length}
+use Rattle.code.specs.Locations.{locate}
+use Rattle.bch.proofs.PowerSums.{syndromes-power-sums}
+use Rattle.bch.proofs.Locating.{zero-located, nonzero-short, recurs-leading, long-nowhere, few-nowhere, wrong-nowhere, agreed-located, finds-none, finds-zero, finds-list}
+use Rattle.bch.proofs.locate.find_errors.Statement.{statement}
+use Rattle.bch.proofs.locate.find_errors.Tie as tie
+
+is-zero-requires : tie.Need-is-zero-requires
+is-zero-requires c κs = search needs
+
+no-exponents-requires : tie.Need-no-exponents-requires
+no-exponents-requires c κs = search needs
+
+returns : tie.Need-returns
+returns c =
+    let s = c .before .before .before in
+    let z = eqb-true _ _ (sym (c .before .before .is-zero .ensures) ∙ c .before .if1 .taken) in
+    let e = c .no-exponents .ensures in
+    finds-zero _ _ _ _ _ (ap (locate (s .args .f) (s .args .t) (s .args .n)) z ∙ zero-located _ _ _ (s .pre .1 .fits)) (e .0) (e .1) (e .2)
+
+syndromes-requires : tie.Need-syndromes-requires
+syndromes-requires c κs = search needs
+
+shortest-requires : tie.Need-shortest-requires
+shortest-requires c κs =
+    let s = c .before .before .before .before in
+    (s .pre .0, (s .pre .1 .fits .level, syndromes-power-sums _ _ _ (c .before .syndromes .ensures)))
+
+no-exponents-requires-2 : tie.Need-no-exponents-requires-2
+no-exponents-requires-2 c κs = search needs
+
+returns-2 : tie.Need-returns-2
+returns-2 c =
+    let s = c .before .before .before .before .before .before .before .before in
+    let short = nonzero-short (s .pre .1) (c .before .before .before .before .before .before .before .is-zero .ensures) (c .before .before .before .before .before .before .if1 .left) in
+    let sums = c .before .before .before .before .before .syndromes .ensures in
+    let recurs = c .before .before .before .shortest .ensures in
+    let e = c .no-exponents2 .ensures in
+    finds-none _ _ _ _ _ (long-nowhere _ _ _ _ (s .pre .1) short sums recurs (c .before .if2 .taken)) (e .0) (e .1) (e .2)
+
+locate-requires : tie.Need-locate-requires
+locate-requires c κs =
+    let s = c .before .before .before .before .before .before .before .before in
+    let short = nonzero-short (s .pre .1) (c .before .before .before .before .before .before .before .is-zero .ensures) (c .before .before .before .before .before .before .if1 .left) in
+    let sums = c .before .before .before .before .before .syndromes .ensures in
+    let recurs = c .before .before .before .shortest .ensures in
+    (s .pre .0, (omega (arith, s .pre .1 .fits .level, c .before .if2 .left), short, recurs .small-c, recurs-leading _ _ _ _ (s .pre .1) short sums recurs))
+
+no-exponents-requires-3 : tie.Need-no-exponents-requires-3
+no-exponents-requires-3 c κs = search needs
+
+returns-3 : tie.Need-returns-3
+returns-3 c =
+    let s = c .before .before .before .before .before .before .before .before .before .before .before .before in
+    let short = nonzero-short (s .pre .1) (c .before .before .before .before .before .before .before .before .before .before .before .is-zero .ensures) (c .before .before .before .before .before .before .before .before .before .before .if1 .left) in
+    let sums = c .before .before .before .before .before .before .before .before .before .syndromes .ensures in
+    let recurs = c .before .before .before .before .before .before .before .shortest .ensures in
+    let places = c .before .before .before .locate in
+    let room : length (places .result .exponents) ≡ 64 = search needs in
+    let e = c .no-exponents3 .ensures in
+    finds-none _ _ _ _ _ (few-nowhere _ _ _ _ (s .pre .1) short sums recurs (omega (arith, s .pre .1 .fits .level, places .ensures .0, c .before .before .before .before .before .if2 .left)) (places .ensures .1) (c .before .if3 .taken)) (e .0) (e .1) (e .2)
+
+sums-agree-requires : tie.Need-sums-agree-requires
+sums-agree-requires c κs =
+    let s = c .before .before .before .before .before .before .before .before .before .before .before in
+    let short = nonzero-short (s .pre .1) (c .before .before .before .before .before .before .before .before .before .before .is-zero .ensures) (c .before .before .before .before .before .before .before .before .before .if1 .left) in
+    let sums = c .before .before .before .before .before .before .before .before .syndromes .ensures in
+    let recurs = c .before .before .before .before .before .before .shortest .ensures in
+    let places = c .before .before .locate in (
+      record { at = s .pre .0 .powers-at },
+      (s .pre .1 .fits .level, sums .elements, omega (arith, s .pre .1 .fits .level, places .ensures .0, c .before .before .before .before .if2 .left), λ k l. omega (arith, places .ensures .1 .lists .below k l)),
+    )
+
+returns-4 : tie.Need-returns-4
+returns-4 c =
+    let s = c .before .before .before .before .before .before .before .before .before .before .before .before in
+    let short = nonzero-short (s .pre .1) (c .before .before .before .before .before .before .before .before .before .before .before .is-zero .ensures) (c .before .before .before .before .before .before .before .before .before .before .if1 .left) in
+    let sums = c .before .before .before .before .before .before .before .before .before .syndromes .ensures in
+    let recurs = c .before .before .before .before .before .before .before .shortest .ensures in
+    let places = c .before .before .before .locate in
+    let room : length (places .result .exponents) ≡ 64 = search needs in
+    let few : places .result .count ≤ s .args .t = omega (arith, s .pre .1 .fits .level, places .ensures .0, c .before .before .before .before .before .if2 .left) in
+    finds-list _ _ _ _ _ few room (c .sums-agree .ensures)
+    (λ agrees. agreed-located _ _ _ _ (s .pre .1) short sums recurs (omega arith) (places .ensures .1) agrees few)
+    (λ wrong. wrong-nowhere _ _ _ _ (s .pre .1) short sums recurs (omega arith) (places .ensures .1) wrong)
+
+pub find-errors-spec : {M : Type 1} → statement M
+find-errors-spec =
+    tie.close
+    (tie.spec
+    is-zero-requires
+    no-exponents-requires
+    returns
+    syndromes-requires
+    shortest-requires
+    no-exponents-requires-2
+    returns-2
+    locate-requires
+    no-exponents-requires-3
+    returns-3
+    sums-agree-requires
+    returns-4)

@@ -1,0 +1,4 @@
+-- Laws of the answer words.
+pub mod Words
+pub mod Sizes
+pub mod Bits

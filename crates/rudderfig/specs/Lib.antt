@@ -1,0 +1,3 @@
+-- What the calls of the C interface return.
+pub mod Answer
+pub mod Bits
