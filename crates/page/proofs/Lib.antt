@@ -1,2 +1,3 @@
 -- Laws behind the page calls.
 pub mod Plans
+pub mod Writing

@@ -29,7 +29,7 @@ module _ (l : Layout) (k : Keeps l) where
       (eq-zero-or-pos (l .nblocks))
 
 pub kept-ready : (l : Layout) → findingOf l ≡ Kept → Ready (planOf l)
-kept-ready l e = let k = keeps l e in record { valid = plan-valid l e; first = first-stored l k; later = later-stored l k }
+kept-ready l e = let k = keeps l e in record { valid = plan-valid l e; some = unfold planOf in omega arith; first = first-stored l k; later = later-stored l k }
 
 pub accepted-ready : (rec : List ℕ) (l : Layout) → acceptance rec ≡ Accepted l → Ready (planOf l)
 accepted-ready rec l e = kept-ready l (accepted-taken rec l e .kept)

@@ -1,8 +1,21 @@
 // Pages on flash: written, read, judged block by block, and checked against claimed error locations (document 01, "The job").
 //
-// What each call answers and leaves is one definition of the crate `page_theory`, specs/Calls.antt. The steps are the same in each:
+//   write_page       writes a page from metadata and data
+//
+// Each call takes the layout record and buffers of any length, and asks nothing of its caller. What it answers and leaves is
+// one definition of the crate `page_theory`, specs/Calls.antt. The steps are the same in each:
 // 1. `layout` answers to the record and works out the plan: how many blocks, what each is made of, where each starts.
 // 2. replies.rt looks at the lengths and the block number. A reply other than 0 ends the call before anything is written.
 // 3. The work is done under the plan. rows.rt has the generator for a block's level.
+//    write.rt puts block after block, message and parity, and then ones into the tail.
 mod replies;
 mod rows;
+mod write;
+
+pub use write::write_page;
+
+// The answer of the writer: the page is written, or it is as it was and this is the reply.
+pub enum WriteAnswer {
+    Done,
+    Refused(u8),
+}

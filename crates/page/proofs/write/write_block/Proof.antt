@@ -1,0 +1,35 @@
+-- `page::write::write_block` meets its contract.
+use native.Mathlib.Omega.{arith}
+use Rattle.bits.proofs.Runs.{run-length}
+use Rattle.layout.specs.Plan.{coveredOf}
+use Rattle.page.proofs.Writing.{encoded-placed}
+use borrow.Author.Needs.{needs}
+use Rattle.page.proofs.write.write_block.Statement.{statement}
+use Rattle.page.proofs.write.write_block.Tie as tie
+
+cast-n : tie.Need-cast-n
+cast-n c = search needs
+
+copy-payload-requires : tie.Need-copy-payload-requires
+unfolding coveredOf
+copy-payload-requires c κs =
+    let a = c .before .before .before .before .before in
+    (a .pre .1, a .pre .2, record { ends = omega arith; fits = omega arith })
+
+put-parity-requires : tie.Need-put-parity-requires
+put-parity-requires c κs = search needs
+
+same-length : tie.Need-same-length
+same-length c = search needs
+
+returns : tie.Need-returns
+unfolding coveredOf
+returns c =
+    let two = c .before .before in
+    let one = two .before .before .before .before in
+    let a = one .before .before .before .before .before .before .args in
+    encoded-placed (a .shape) (a .page .now) (a .position) _ (run-length _ _ _) (omega arith) (one .copy-payload .ensures) (two .put-parity .ensures)
+
+pub write-block-spec : {M : Type 1} → statement M
+write-block-spec =
+    tie.close (tie.spec cast-n copy-payload-requires put-parity-requires same-length returns)

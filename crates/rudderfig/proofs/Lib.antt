@@ -1,0 +1,6 @@
+-- Laws of the answer words.
+pub mod Words
+pub mod Sizes
+pub mod Bits
+pub mod Pages
+pub mod Returns
