@@ -2,3 +2,5 @@
 pub mod Words
 pub mod Sizes
 pub mod Bits
+pub mod Pages
+pub mod Returns
