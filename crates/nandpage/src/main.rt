@@ -10,6 +10,7 @@ mod arguments;
 mod files;
 mod help;
 mod layouts;
+mod locating;
 mod say;
 mod writing;
 
@@ -18,6 +19,7 @@ enum Command {
     Layout,
     Bits,
     Write,
+    Locate,
     Help,
     Unknown,
 }
@@ -31,6 +33,9 @@ fn command_of(name: &[u8]) -> Command {
     }
     if check::same(name, b"write") {
         return Command::Write;
+    }
+    if check::same(name, b"locate") {
+        return Command::Locate;
     }
     if check::same(name, b"--help") {
         return Command::Help;
@@ -49,6 +54,7 @@ fn run(command: Command) {
         Command::Layout => layouts::layout(),
         Command::Bits => layouts::bits(),
         Command::Write => writing::write(),
+        Command::Locate => locating::locate(),
         Command::Help => help::all(),
         Command::Unknown => help::unknown(),
     }
