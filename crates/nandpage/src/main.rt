@@ -1,12 +1,18 @@
 // nandpage: NAND pages at a desk. A command line over the library's calls, on files and hexadecimal words (docs/TOOL.md).
 //
 //   arguments.rt   what the arguments say
+//   files.rt       files, read into buffers and written from them
 //   say.rt         what is printed: answers on standard output, errors on standard error
+//   help.rt        the help
 //   layouts.rt     the commands layout and bits
+//   writing.rt     the command write
+//   locating.rt    the command locate
+//   claiming.rt    the command claim
 //
 // Each command prints one answer that starts with `reply` and document 01's number, or one error line and no reply. What is
 // answered comes from the proved calls; here it is only put into words.
 mod arguments;
+mod claiming;
 mod files;
 mod help;
 mod layouts;
@@ -20,6 +26,7 @@ enum Command {
     Bits,
     Write,
     Locate,
+    Claim,
     Help,
     Unknown,
 }
@@ -36,6 +43,9 @@ fn command_of(name: &[u8]) -> Command {
     }
     if check::same(name, b"locate") {
         return Command::Locate;
+    }
+    if check::same(name, b"claim") {
+        return Command::Claim;
     }
     if check::same(name, b"--help") {
         return Command::Help;
@@ -55,6 +65,7 @@ fn run(command: Command) {
         Command::Bits => layouts::bits(),
         Command::Write => writing::write(),
         Command::Locate => locating::locate(),
+        Command::Claim => claiming::claim(),
         Command::Help => help::all(),
         Command::Unknown => help::unknown(),
     }
