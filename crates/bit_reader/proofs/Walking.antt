@@ -10,6 +10,7 @@ use lib.Dec.{ltb}
 use borrow.Author.Tests.{ltb-true, ltb-false, lt-ltb, le-ltb}
 use Rattle.bits.specs.Bits.{bitAt, run, digit}
 use Rattle.bits.proofs.Pages.{bitOf-digit, bitOf-past}
+use Rattle.bit_reader.specs.declared.Step.{Step}
 use Rattle.bit_reader.specs.declared.Step.the-variants.{Bit, End}
 use Rattle.bit_reader.specs.Reading.{greatest, endOf, stepAt, leftAt, bitIn, before, walk}
 
@@ -78,6 +79,11 @@ module _ (page : List ℕ) where
       go : (t : Bool) → ltb p (endOf page) ≡ t → bitIn (stepAt page p) ≡ bitAt page p
       go true e = ap bitIn (stepAt-inside p (ltb-true _ _ e))
       go false e = ap bitIn (stepAt-end p (ltb-false _ _ e)) ∙ ap digit (sym (bitOf-past page p (past (ltb-false _ _ e)))) ∙ bitOf-digit page p
+
+  -- so the bit that a caller gets by `next_bit` and `bit_or_zero` is the bit of the page
+  pub bitIn-read : (p : ℕ) {step : Step} {b : ℕ} → step ≡ stepAt page p → b ≡ bitIn step → p + 1 < 18446744073709551616 → b ≡ bitAt page p
+  unfolding greatest
+  bitIn-read p e h k = h ∙ ap bitIn e ∙ bitIn-stepAt p (omega arith)
 
   -- each read before the end leaves one bit less
   pub leftAt-step : (p : ℕ) → p < endOf page → leftAt page p ≡ suc (leftAt page (p + 1))

@@ -2,18 +2,45 @@
 use crate::say;
 
 pub fn unknown() {
-    say::error(b"no such command: one of layout, bits; nandpage --help says more");
+    say::error(b"no such command: there are layout, bits and write; nandpage --help says more");
+}
+
+fn commands() {
+    say::text(
+        b"  nandpage layout WORD0 WORD1                     is this layout accepted? Its fields and blocks, or the reason\n",
+    );
+    say::text(
+        b"  nandpage bits WORD0 WORD1 POSITION              the block and exponent of a page bit, or the tail\n",
+    );
+    say::text(
+        b"  nandpage bits WORD0 WORD1 BLOCK EXPONENT        the position of a code bit in the page\n",
+    );
+    say::text(
+        b"  nandpage write WORD0 WORD1 METADATA DATA PAGE   writes a page from metadata and data\n",
+    );
+}
+
+fn arguments() {
+    say::text(
+        b"WORD0 and WORD1 are the two layout words, as 0x070A4080 0x10DA4080. Numbers are decimal, or hexadecimal after 0x.\n",
+    );
+    say::text(b"METADATA, DATA and PAGE are files; - stands for empty metadata or data.\n");
+}
+
+fn answers() {
+    say::text(
+        b"An answer starts with reply and a number: 0 is done, any other says why not, and no file is written then.\n",
+    );
+    say::text(
+        b"An error in the arguments or with a file is one line on standard error, and there is no reply.\n",
+    );
 }
 
 pub fn all() {
-    say::text(b"nandpage: NAND pages with BCH codes, written, read and judged\n\n");
-    say::text(
-        b"  nandpage layout WORD0 WORD1             is this layout acceptable? Its fields and blocks, or the reason\n",
-    );
-    say::text(
-        b"  nandpage bits WORD0 WORD1 POSITION      where does this page bit belong? Block and exponent, or the tail\n",
-    );
-    say::text(
-        b"  nandpage bits WORD0 WORD1 BLOCK EXPONENT    where does this code bit lie? Its position in the page\n",
-    );
+    say::text(b"nandpage: pages of NAND flash under BCH codes\n\n");
+    commands();
+    say::text(b"\n");
+    arguments();
+    say::text(b"\n");
+    answers();
 }

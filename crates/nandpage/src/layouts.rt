@@ -151,6 +151,30 @@ fn show(record: &[u8]) {
     }
 }
 
+// The two words of a layout and the plan of a page under it, or none where an error or a refusal was printed.
+pub enum Planned {
+    Under { first: u32, second: u32, plan: Plan },
+    Not,
+}
+
+// The plan of a page under the words that arguments 2 and 3 give.
+pub fn plan_of_words() -> Planned {
+    let Words::Are { first, second } = arguments::layout_words() else {
+        return Planned::Not;
+    };
+    match layout::check_layout(&text::layout_record(first, second)) {
+        Acceptance::Accepted(l) => Planned::Under {
+            first: first,
+            second: second,
+            plan: layout::plan_of(l),
+        },
+        Acceptance::Refused(refusal) => {
+            refused(refusal, b"\n");
+            Planned::Not
+        }
+    }
+}
+
 // nandpage layout WORD0 WORD1
 pub fn layout() {
     if !arguments::are(4, b"usage: nandpage layout WORD0 WORD1") {

@@ -7,14 +7,17 @@
 // Each command prints one answer that starts with `reply` and document 01's number, or one error line and no reply. What is
 // answered comes from the proved calls; here it is only put into words.
 mod arguments;
+mod files;
 mod help;
 mod layouts;
 mod say;
+mod writing;
 
 // What the first argument asks for.
 enum Command {
     Layout,
     Bits,
+    Write,
     Help,
     Unknown,
 }
@@ -25,6 +28,9 @@ fn command_of(name: &[u8]) -> Command {
     }
     if check::same(name, b"bits") {
         return Command::Bits;
+    }
+    if check::same(name, b"write") {
+        return Command::Write;
     }
     if check::same(name, b"--help") {
         return Command::Help;
@@ -42,6 +48,7 @@ fn run(command: Command) {
     match command {
         Command::Layout => layouts::layout(),
         Command::Bits => layouts::bits(),
+        Command::Write => writing::write(),
         Command::Help => help::all(),
         Command::Unknown => help::unknown(),
     }

@@ -22,6 +22,29 @@ pub fn reply(n: u8) {
     fact(b"reply ", n as u64, b": ");
 }
 
+// What a reply says (document 01, "Replies").
+pub fn meaning(reply: u8) {
+    match reply {
+        1 => text(b"a level field is too large"),
+        2 => text(b"a block has an empty message"),
+        3 => text(b"a block is longer than its field allows"),
+        4 => text(b"the blocks need more bits than the page has"),
+        5 => text(b"the page has not the length that the layout says"),
+        6 => text(b"a file has a wrong length"),
+        7 => text(b"a number is outside its range"),
+        8 => text(b"the remainder has a one above its highest bit"),
+        9 => text(b"uncorrectable, no codeword within t flips"),
+        10 => text(b"the claimed locations are wrong"),
+        _ => text(b"refused"),
+    }
+}
+
+// A length that was found, and the one that is wanted.
+pub fn length(what: &[u8], found: usize, wanted: usize) {
+    fact(what, found as u64, b" bytes");
+    fact(b" (", wanted as u64, b" wanted)");
+}
+
 // An error's line.
 pub fn error(what: &[u8]) {
     io::write_all(STDERR_FILENO, b"nandpage: ");

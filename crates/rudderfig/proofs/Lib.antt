@@ -4,3 +4,4 @@ pub mod Sizes
 pub mod Bits
 pub mod Pages
 pub mod Returns
+pub mod Locating

@@ -1,6 +1,6 @@
 -- The words of the page calls: reply, block and value come back out of them, and beside a refusal there is nothing else. A block is below 256, since
 -- a layout record is made of bytes.
-use mathlib.Core.Path.{_≡_, refl, _∙_}
+use mathlib.Core.Path.{_≡_, refl}
 use mathlib.Core.Bool.{Bool, true, false, cond}
 use mathlib.Core.List.{List, [], _∷_}
 use Prim.Native.Nat.{ℕ, _+_, _≤_, _<_}
@@ -38,27 +38,10 @@ use Rattle.page_theory.specs.Calls.{
 }
 use Rattle.page_theory.proofs.Reading.{refused-lowest}
 use Rattle.page_theory.proofs.Demand1.{write-ends, read-ends, judge-ends, claim-ends}
-use Rattle.rudderfig.specs.Answer.{answerWord, replyIn, blockIn, kindIn, valueIn, Bare}
+use Rattle.rudderfig.specs.Answer.{answerWord}
 use Rattle.rudderfig.specs.Pages.{judgeWord, claimWord}
-use Rattle.rudderfig.proofs.Words.{word-reply, word-block, word-kind, word-value}
+use Rattle.rudderfig.proofs.Words.{Holds, word-holds}
 use Rattle.rudderfig.proofs.Sizes.{blocks-low, accepted-narrow}
-
--- a word holds a reply x, its block b and a value v, and nothing else beside a refusal
-pub record Holds (x b v w : ℕ) : Type 0 where
-  pub reply : replyIn w ≡ x
-  pub block : blockIn w ≡ b
-  pub value : valueIn w ≡ v
-  pub bare : Bare w
-
-word-holds : {x b : ℕ} (v : ℕ) → x < 256 → b < 65536 → (0 < x → v ≡ 0) → Holds x b v (answerWord x b 0 v)
-word-holds v x b n =
-    let e = word-reply {kind = 0} v x b (omega arith) in
-    record {
-      reply = e;
-      block = word-block v x b (omega arith);
-      value = word-value v x b (omega arith);
-      bare = record { kind = λ h. word-kind v x b (omega arith); value = λ h. word-value v x b (omega arith) ∙ n (omega arith) };
-    }
 
 total : List ℕ → ℕ
 total [] = 0

@@ -2,3 +2,4 @@
 pub mod Answer
 pub mod Bits
 pub mod Pages
+pub mod Locating

@@ -13,7 +13,7 @@ use native.Mathlib.Decide.{decLt}
 use borrow.Author.Tests.{lt-ltb, le-ltb, eq-eqb, ne-eqb, ltb-false}
 use Rattle.text.specs.declared.Number.{Number}
 use Rattle.text.specs.declared.Number.the-variants.{Is, Bad}
-use Rattle.text.specs.Numbers.{digitOf, fitting, appended, digitsTo, digitsOf, isHex, numberOf}
+use Rattle.text.specs.Numbers.{digitOf, fitting, appended, digitsTo, digitsOf, isHex, withoutPrefix, numberOf}
 
 pub product-fits : (base v d : ℕ) → 0 < base → v ≤ (18446744073709551615 - d) / base → d < 16 → v * base + d < 18446744073709551616
 product-fits base v d b m s = let k = le-div-iff-mul-le b .0 m in omega arith
@@ -93,3 +93,11 @@ module _ (text : List ℕ) (filled : length text ≡ 0 → ⊥) where
   pub number-decimal : false ≡ isHex text → digitsOf 10 text ≡ numberOf text
   unfolding numberOf
   number-decimal h = rw (ne-eqb (length text) 0 filled, sym h)
+
+pub prefix-dropped : (text : List ℕ) → true ≡ isHex text → take (length text - 2) (drop 2 text) ≡ withoutPrefix text
+unfolding withoutPrefix
+prefix-dropped text h = rw (sym h, take-all (length text - 2) (drop 2 text) (simp length-drop (omega arith)))
+
+pub prefix-missing : (text : List ℕ) → false ≡ isHex text → text ≡ withoutPrefix text
+unfolding withoutPrefix
+prefix-missing text h = rw (sym h)

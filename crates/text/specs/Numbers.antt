@@ -6,6 +6,7 @@
 -- digitsTo base text n  the number of the first n digits
 -- digitsOf base text    the number of all digits
 -- isHex text            0x and something after it
+-- withoutPrefix text    what stands after 0x, where a text starts so
 -- numberOf text         the number that a text says
 use mathlib.Core.Bool.{Bool, true, false, cond}
 use mathlib.Core.List.{List}
@@ -40,6 +41,9 @@ digitsOf base text = digitsTo base text (length text)
 
 unfoldable pub isHex : List ℕ → Bool
 isHex text = cond (ltb (length text) 3) false (cond (eqb (getD text 0 0) 48) (eqb (getD text 1 0) 120) false)
+
+unfoldable pub withoutPrefix : List ℕ → List ℕ
+withoutPrefix text = cond (isHex text) (drop 2 text) text
 
 unfoldable pub numberOf : List ℕ → Number
 numberOf text = cond (eqb (length text) 0) Bad (cond (isHex text) (digitsOf 16 (drop 2 text)) (digitsOf 10 text))

@@ -2,7 +2,7 @@
 use crate::Number;
 ghost use mathlib.Core.Path.{_≡_};
 ghost use Prim.Native.Nat.{_<_, _≤_};
-ghost use Rattle.text.specs.Numbers.{digitOf, appended, digitsOf, isHex, numberOf};
+ghost use Rattle.text.specs.Numbers.{digitOf, appended, digitsOf, isHex, withoutPrefix, numberOf};
 
 // The value of a digit, in either case of its letter; 16 where the character is none.
 pub fn digit(c: u8) -> u8
@@ -74,6 +74,16 @@ fn is_hex(text: &[u8]) -> bool
         return false;
     }
     text[1] == 120
+}
+
+// The digits of a text: what stands after 0x, where it starts so.
+pub fn without_prefix(text: &[u8]) -> &[u8]
+    ensures { λ r. ⌜ now r ≡ withoutPrefix (now (text .entry)) ⌝ }
+{
+    if is_hex(text) {
+        return &text[2..];
+    }
+    text
 }
 
 // The number that a text says: decimal digits, or 0x and hexadecimal ones.

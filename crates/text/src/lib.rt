@@ -4,7 +4,8 @@
 //   parse_bytes       bytes in hexadecimal, two digits each
 //   layout_record     the layout record of two words
 //   total, largest    of the flip counts of a page
-//   front, front_mut  the first bytes of a buffer
+//   without_prefix    the digits after 0x
+//   front, front_mut, front_exponents   the first places of a buffer
 //
 // No public function asks anything of its caller.
 mod digits;
@@ -12,8 +13,10 @@ mod pairs;
 mod parts;
 
 pub use digits::parse_number;
+pub use digits::without_prefix;
 pub use pairs::parse_bytes;
 pub use parts::front;
+pub use parts::front_exponents;
 pub use parts::front_mut;
 pub use parts::largest;
 pub use parts::layout_record;

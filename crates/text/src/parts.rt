@@ -80,3 +80,13 @@ pub fn front_mut(bytes: &mut [u8], n: usize) -> &mut [u8] {
     }
     &mut bytes[..n]
 }
+
+// The first n exponents; all where there are no more.
+pub fn front_exponents(exponents: &[u16], n: usize) -> &[u16]
+    ensures { λ r. ⌜ now r ≡ take n (now (exponents .entry)) ⌝ }
+{
+    if exponents.len() <= n {
+        return exponents;
+    }
+    &exponents[..n]
+}

@@ -23,4 +23,5 @@ left-spec 𝓤 H 𝓜 𝓖 𝓡 =
     (thin-meets usize (tyInt w64) leftAt #left-at 𝓤 H (𝓖 .A) (givenOf 𝓤 H 𝓜 𝓖)
     (λ r u is. uint-lawful 𝓤 H (𝓖 .A) (givenOf 𝓤 H 𝓜 𝓖) w64 .typed r _ is .0)
     (tablesOf 𝓤 H 𝓜 (tables 𝓤 H 𝓜 𝓡 code.env))
-    (cited 𝓤 H (tripleOf 𝓤 H (𝓖 .A) left-at.signature (left-at.spec 𝓤 H (𝓖 .A) (𝓜 .mem) (𝓡 .run))) 𝓜 𝓡 code.env #left-at called code.calls-bit-reader·steps·left-at (left-at-thm.met 𝓤 H 𝓜 𝓖 𝓡)))
+    (cited 𝓤 H (tripleOf 𝓤 H (𝓖 .A) left-at.signature (left-at.spec 𝓤 H (𝓖 .A) (𝓜 .mem) (𝓡 .run)))
+    𝓜 𝓡 code.env #left-at called code.calls-bit-reader·steps·left-at (left-at-thm.met 𝓤 H 𝓜 𝓖 𝓡)))

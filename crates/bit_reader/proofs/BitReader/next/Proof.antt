@@ -23,4 +23,5 @@ next-spec 𝓤 H 𝓜 𝓖 𝓡 =
     (thin-meets S.the-row S′.mir stepAt #step-at 𝓤 H (𝓖 .A) (givenOf 𝓤 H 𝓜 𝓖)
     (λ r u is. EL.lawful S.the-type S′.the-laws 𝓤 H (𝓖 .A) (givenOf 𝓤 H 𝓜 𝓖) tt .typed r _ is .0)
     (tablesOf 𝓤 H 𝓜 (tables 𝓤 H 𝓜 𝓡 code.env))
-    (cited 𝓤 H (tripleOf 𝓤 H (𝓖 .A) step-at.signature (step-at.spec 𝓤 H (𝓖 .A) (𝓜 .mem) (𝓡 .run))) 𝓜 𝓡 code.env #step-at called code.calls-bit-reader·steps·step-at (step-at-thm.met 𝓤 H 𝓜 𝓖 𝓡)))
+    (cited 𝓤 H (tripleOf 𝓤 H (𝓖 .A) step-at.signature (step-at.spec 𝓤 H (𝓖 .A) (𝓜 .mem) (𝓡 .run)))
+    𝓜 𝓡 code.env #step-at called code.calls-bit-reader·steps·step-at (step-at-thm.met 𝓤 H 𝓜 𝓖 𝓡)))

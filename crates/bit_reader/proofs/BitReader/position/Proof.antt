@@ -50,7 +50,9 @@ module _ {M : Type 1} (𝓤 : URA M) (H : Heap 𝓤) (A : Atoms 𝓤) (W : Given
     exits : d .position < 2 ^ 64 → ent 𝓤 Entry (Post (vint w64 (d .position)))
     exits fits =
         qed W ((‵ (flft κ q) ⊛ ‵ ftrue) ∷ ‵ (owns (B (κ, tt) ∷ []) (d, tt) (machine d ∷ [], tt)) ∷ []) ∵
-        suffices ! _ (ends-at 𝓤 H A position.ended stayed (position.clauses 𝓤 H A mem run) W (((κ, tt), (q, tt), tt, (d, tt), (machine d ∷ [], tt)), tt) (vint w64 (d .position)) (d .position) (tt, tt) (tt, tt)) $
+        suffices ! _
+        (ends-at 𝓤 H A position.ended stayed (position.clauses 𝓤 H A mem run) W (((κ, tt), (q, tt), tt, (d, tt), (machine d ∷ [], tt)), tt)
+        (vint w64 (d .position)) (d .position) (tt, tt) (tt, tt)) $
         says ! refl $ frame ! $ frame ! $ owned ! usize (Is usize) (uint-makes 𝓤 H A W w64) (d .position) _ (refl, fits) $ done !
 
     walk : (C : Calls 𝓤 H) (Λ : Loops 𝓤 H) → Is (B (κ, tt)) d (machine d ∷ []) → ent 𝓤 Entry (WpFn 𝓤 H C Λ code.function (machine d ∷ []) Post)

@@ -21,10 +21,12 @@ bit-at-requires c κs = search needs
 
 returns-2 : tie.Need-returns-2
 unfolding greatest
-returns-2 c = ap (λ b. Bit b (c .before .before .before .before .args .p + 1)) (c .bit-at .ensures) ∙ sym (stepAt-inside _ _ (endOf-after _ _ (c .before .if2 .taken) (omega arith)))
+returns-2 c =
+    let p = c .before .before .before .before .args .p in
+    ap (λ b. Bit b (p + 1)) (c .bit-at .ensures) ∙ sym (stepAt-inside _ p (endOf-after _ p (c .before .if2 .taken) (omega arith)))
 
 returns-3 : tie.Need-returns-3
-returns-3 c = sym (stepAt-end _ _ (endOf-before _ _ (c .if2 .left)))
+returns-3 c = sym (stepAt-end _ _ (endOf-before _ (c .before .before .before .args .p) (c .if2 .left)))
 
 pub step-at-spec : {M : Type 1} → statement M
 step-at-spec = tie.close (tie.spec returns add-after bit-at-requires returns-2 returns-3)
