@@ -3,3 +3,4 @@ pub mod KeyEquation
 pub mod PowerSums
 pub mod Locating
 pub mod Replies
+pub mod Remainder

@@ -10,7 +10,8 @@
 // 4. locate.rt refuses a locator that is too long or has too few roots, and rechecks the roots over the code: their power sums must
 //    be the syndromes. So no locator is trusted, and no exponent at or above n is reported.
 // 5. request.rt lists the exponents. A refusal writes nothing.
-// What is right is said by specs/Answers.antt over the code alone; proofs/Locating.antt shows that the decoder finds it.
+// What is right is said by specs/Answers.antt over the code alone; proofs/Locating.antt shows that the decoder finds it, and
+// proofs/Remainder.antt that reply 9 is given exactly if there is no set, and that a refusal changes no place.
 pub mod answers;
 pub mod key_equation;
 pub mod locate;

@@ -4,6 +4,7 @@
 //   rudderfig_locate_bit       where does a page bit belong?
 //   rudderfig_bit_position     where does a code bit lie?
 //   rudderfig_write_page       write a page from metadata and data
+//   rudderfig_check_claim      are these error locations, reported by a hardware locator, right?
 //   rudderfig_locate_errors    from a remainder alone, which bits are wrong?
 //
 // Each passes its arguments on to the call of the crate that answers the question, and puts the answer into a word (answer.rt):
@@ -17,15 +18,16 @@ use bch::LocateAnswer;
 use layout::Acceptance;
 use layout::BitAnswer;
 use layout::PositionAnswer;
+use page::ClaimAnswer;
 use page::WriteAnswer;
 ghost use mathlib.Core.Path.{_≡_};
 ghost use Rattle.bch.specs.Answers.{locateOf};
 ghost use Rattle.layout.specs.Acceptance.{acceptance};
 ghost use Rattle.layout.specs.Bits.{bitAnswer, positionAnswer};
-ghost use Rattle.page_theory.specs.Calls.{writeOf};
+ghost use Rattle.page_theory.specs.Calls.{writeOf, claimOf};
 ghost use Rattle.rudderfig.specs.Bits.{acceptanceWord, bitWord, positionWord};
 ghost use Rattle.rudderfig.specs.Locating.{LocateReturns};
-ghost use Rattle.rudderfig.specs.Pages.{WriteReturns};
+ghost use Rattle.rudderfig.specs.Pages.{WriteReturns, claimWord};
 
 // Is this layout acceptable?
 #[no_mangle]
@@ -75,6 +77,22 @@ pub extern "C" fn rudderfig_write_page(
     match page::write_page(words, metadata, data, page) {
         WriteAnswer::Done => done(0, 0),
         WriteAnswer::Refused(reply) => refused(reply, 0),
+    }
+}
+
+// Are these error locations of a block, reported by a hardware locator, right?
+#[no_mangle]
+pub extern "C" fn rudderfig_check_claim(
+    words: &[u8],
+    page: &[u8],
+    block: u64,
+    claims: &[u16],
+) -> u64
+    ensures { λ r. ⌜ r ≡ claimWord (claimOf (now (words .entry)) (now (page .entry)) block (now (claims .entry))) ⌝ }
+{
+    match page::check_claim(words, page, block, claims) {
+        ClaimAnswer::Accepted => done(0, 0),
+        ClaimAnswer::Refused(reply) => refused(reply, 0),
     }
 }
 
