@@ -2,3 +2,5 @@ pub mod Element
 pub mod KeyEquation
 pub mod PowerSums
 pub mod Locating
+pub mod Replies
+pub mod Remainder

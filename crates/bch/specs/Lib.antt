@@ -1,3 +1,4 @@
 pub mod KeyEquation
 pub mod PowerSums
 pub mod Locating
+pub mod Answers

@@ -1,11 +1,27 @@
-// Decoding of the BCH codes of document 01, "The code".
+// Decoding of the BCH codes of document 01, "The code": from a remainder alone, which bits are wrong (document 01, "Remainder").
 //
-//   power_sums       from a remainder to its syndromes, and whether the power sums of a list of places are those
-//   key_equation     from the power sums of a word to its error locator, and the places of the errors as the roots of it
-//   locate           from a remainder to the set of exponents that leaves it, or to the answer that there is none
+//   locate_errors    the exponents below n, at most t, whose sum of powers of x leaves a remainder
+//
+// It asks nothing of its caller. The steps:
+// 1. request.rt looks at the numbers and lengths, and makes the tables of powers and logarithms where the remainder is not zero.
+// 2. power_sums.rt works out the syndromes: the values of the remainder at a, a^2, .., a^(2t).
+// 3. key_equation.rt finds the shortest recurrence of the syndromes by the algorithm of Berlekamp and Massey, whose coefficients are
+//    those of the error locator, and searches the powers of a below a^n for its roots.
+// 4. locate.rt refuses a locator that is too long or has too few roots, and rechecks the roots over the code: their power sums must
+//    be the syndromes. So no locator is trusted, and no exponent at or above n is reported.
+// 5. request.rt lists the exponents. A refusal writes nothing.
+// What is right is said by specs/Answers.antt over the code alone; proofs/Locating.antt shows that the decoder finds it, and
+// proofs/Remainder.antt that reply 9 is given exactly if there is no set, and that a refusal changes no place.
+pub mod answers;
 pub mod key_equation;
 pub mod locate;
 pub mod power_sums;
+mod request;
+
+use field::Choice;
+use field::Field;
+ghost use mathlib.Core.Path.{_≡_};
+ghost use Rattle.bch.specs.Answers.{ended, locateOf};
 
 // What is found for a remainder: whether a set of exponents leaves it, its size, and the set, ascending, in the first places.
 // The other places are of no meaning, and all are where no set is located.
@@ -13,4 +29,39 @@ pub struct Found {
     pub located: bool,
     pub count: usize,
     pub exponents: [u16; 64],
+}
+
+// Why no exponents are answered: a field choice that is not offered, the level field, a length with no message, a length above the
+// longest word, a lent buffer, a coefficient above those of a remainder, no set that leaves the remainder.
+pub enum Refusal {
+    Choice,
+    Level,
+    Message,
+    Length,
+    Buffer,
+    Coefficient,
+    NoSet,
+}
+
+// The answer to a remainder: the size of the set that is listed, or why none is.
+pub enum LocateAnswer {
+    Located(usize),
+    Refused(Refusal),
+}
+
+// From a remainder alone, which bits are wrong? The remainder has the highest coefficient first, right-aligned. The exponents are
+// listed ascending at the start of `places`.
+pub fn locate_errors(
+    level_field: u64,
+    field_choice: u64,
+    n: u64,
+    remainder: &[u8],
+    places: &mut [u16],
+) -> LocateAnswer
+    ensures { λ r. ⌜ ended r (now (places .exit)) ≡ locateOf «level_field» «field_choice» n (now (remainder .entry)) (now (places .entry)) ⌝ }
+{
+    match Field::choose(field_choice) {
+        Choice::Offered(f) => request::locate_in(f, level_field, n, remainder, places),
+        Choice::Unknown => LocateAnswer::Refused(Refusal::Choice),
+    }
 }

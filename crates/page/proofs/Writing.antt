@@ -16,7 +16,7 @@ use Rattle.field.specs.declared.Field.{Field}
 use Rattle.field.specs.Field.{degree}
 use Rattle.layout.specs.declared.Shape.{Shape}
 use Rattle.layout.specs.declared.Plan.{Plan}
-use Rattle.layout.specs.Plan.{coveredOf, shape, start, used, from, payload, Valid}
+use Rattle.layout.specs.Plan.{shape, start, used, from, payload, Valid}
 use Rattle.code.specs.Word.{Word}
 use Rattle.code.specs.Generator.{parity}
 use Rattle.page_theory.specs.Page.{message, written, pageOf}
@@ -114,11 +114,6 @@ module _ (q : Plan) (v : Valid q) (b : ℕ) (l : b < q .blocks) {s : Shape} (es 
       let w = v .whole in
       let n = length-append m d in
       rw (e, es) (record { ends = omega arith; fits = omega arith })
-
-  -- a block lies in the page
-  pub block-inside : {page : List ℕ} {position : ℕ} → length page ≡ q .size → q .size < 65536 → position ≡ start q b
-      → Inside page position (coveredOf s)
-  block-inside h x e = let k = v .ends b l in rw (e, es) (record { ends = omega arith; fits = omega arith })
 
 -- ---- block after block
 

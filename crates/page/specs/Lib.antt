@@ -2,3 +2,4 @@
 pub mod Plans
 pub mod Answers
 pub mod Writing
+pub mod Claims

@@ -2,3 +2,6 @@
 pub mod Words
 pub mod Sizes
 pub mod Bits
+pub mod Pages
+pub mod Returns
+pub mod Locating

@@ -79,7 +79,7 @@ pub record Located (b e : ℕ) : Type 0 where
   pub exponent : e < 65536
 
 module _ (rec : List ℕ) (bytes : (i : ℕ) → getD rec i 0 < 256) where
-  accepted-narrow : (l : Layout) → acceptance rec ≡ Accepted l → Narrow l
+  pub accepted-narrow : (l : Layout) → acceptance rec ≡ Accepted l → Narrow l
   accepted-narrow l h = rw (accepted-taken rec l h .fields) (narrow rec bytes)
 
   pub bit-low : (p b e : ℕ) → bitAnswer rec p ≡ bit.InBlock b e → Located b e

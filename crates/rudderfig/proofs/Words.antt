@@ -1,5 +1,5 @@
 -- The numbers of an answer word come back out of it, and a refusal has nothing beside reply and block.
-use mathlib.Core.Path.{_≡_, refl}
+use mathlib.Core.Path.{_≡_, _∙_}
 use Prim.Native.Nat.{ℕ, _<_}
 use native.Mathlib.Omega.{arith}
 use Rattle.rudderfig.specs.Answer.{answerWord, doneWord, refusedWord, replyIn, blockIn, kindIn, valueIn, Bare}
@@ -62,3 +62,20 @@ module _ {reply block : ℕ} (r : reply < 0x100) (b : block < 0x10000) where
   pub refused-bare : Bare (refusedWord reply block)
   unfolding refusedWord
   refused-bare = record { kind = λ h. word-kind 0 r b (omega arith); value = λ h. word-value 0 r b (omega arith) }
+
+-- a word holds a reply x, its block b and a value v, and nothing else beside a refusal
+pub record Holds (x b v w : ℕ) : Type 0 where
+  pub reply : replyIn w ≡ x
+  pub block : blockIn w ≡ b
+  pub value : valueIn w ≡ v
+  pub bare : Bare w
+
+pub word-holds : {x b : ℕ} (v : ℕ) → x < 256 → b < 65536 → (0 < x → v ≡ 0) → Holds x b v (answerWord x b 0 v)
+word-holds v x b n =
+    let e = word-reply {kind = 0} v x b (omega arith) in
+    record {
+      reply = e;
+      block = word-block v x b (omega arith);
+      value = word-value v x b (omega arith);
+      bare = record { kind = λ h. word-kind v x b (omega arith); value = λ h. word-value v x b (omega arith) ∙ n (omega arith) };
+    }

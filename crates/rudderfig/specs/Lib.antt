@@ -1,3 +1,5 @@
 -- What the calls of the C interface return.
 pub mod Answer
 pub mod Bits
+pub mod Pages
+pub mod Locating

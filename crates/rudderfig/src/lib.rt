@@ -3,6 +3,9 @@
 //   rudderfig_check_layout     is this layout acceptable?
 //   rudderfig_locate_bit       where does a page bit belong?
 //   rudderfig_bit_position     where does a code bit lie?
+//   rudderfig_write_page       write a page from metadata and data
+//   rudderfig_check_claim      are these error locations, reported by a hardware locator, right?
+//   rudderfig_locate_errors    from a remainder alone, which bits are wrong?
 //
 // Each passes its arguments on to the call of the crate that answers the question, and puts the answer into a word (answer.rt):
 // reply, the reply's block, a kind and a value. None asks anything of its caller but that a slice is one: include/rudderfig.h
@@ -11,13 +14,20 @@ mod answer;
 
 use answer::done;
 use answer::refused;
+use bch::LocateAnswer;
 use layout::Acceptance;
 use layout::BitAnswer;
 use layout::PositionAnswer;
+use page::ClaimAnswer;
+use page::WriteAnswer;
 ghost use mathlib.Core.Path.{_≡_};
+ghost use Rattle.bch.specs.Answers.{locateOf};
 ghost use Rattle.layout.specs.Acceptance.{acceptance};
 ghost use Rattle.layout.specs.Bits.{bitAnswer, positionAnswer};
+ghost use Rattle.page_theory.specs.Calls.{writeOf, claimOf};
 ghost use Rattle.rudderfig.specs.Bits.{acceptanceWord, bitWord, positionWord};
+ghost use Rattle.rudderfig.specs.Locating.{LocateReturns};
+ghost use Rattle.rudderfig.specs.Pages.{WriteReturns, claimWord};
 
 // Is this layout acceptable?
 #[no_mangle]
@@ -50,5 +60,56 @@ pub extern "C" fn rudderfig_bit_position(words: &[u8], block: u64, exponent: u64
     match layout::bit_position(words, block, exponent) {
         PositionAnswer::Position(position) => done(0, position as u32),
         PositionAnswer::Refused(refusal) => refused(layout::refusal_reply(refusal), 0),
+    }
+}
+
+// Writes a page from metadata and data.
+#[no_mangle]
+pub extern "C" fn rudderfig_write_page(
+    words: &[u8],
+    metadata: &[u8],
+    data: &[u8],
+    page: &mut [u8],
+) -> u64
+    ensures { λ r. ⌜ WriteReturns (writeOf (now (words .entry)) (now (metadata .entry)) (now («data» .entry)) (now (page .entry)))
+        r (now (page .exit)) ⌝ }
+{
+    match page::write_page(words, metadata, data, page) {
+        WriteAnswer::Done => done(0, 0),
+        WriteAnswer::Refused(reply) => refused(reply, 0),
+    }
+}
+
+// Are these error locations of a block, reported by a hardware locator, right?
+#[no_mangle]
+pub extern "C" fn rudderfig_check_claim(
+    words: &[u8],
+    page: &[u8],
+    block: u64,
+    claims: &[u16],
+) -> u64
+    ensures { λ r. ⌜ r ≡ claimWord (claimOf (now (words .entry)) (now (page .entry)) block (now (claims .entry))) ⌝ }
+{
+    match page::check_claim(words, page, block, claims) {
+        ClaimAnswer::Accepted => done(0, 0),
+        ClaimAnswer::Refused(reply) => refused(reply, 0),
+    }
+}
+
+// From a remainder alone, which bits are wrong? The value is how many.
+#[no_mangle]
+pub extern "C" fn rudderfig_locate_errors(
+    level_field: u64,
+    field_choice: u64,
+    n: u64,
+    remainder: &[u8],
+    places: &mut [u16],
+) -> u64
+    ensures { λ r. ⌜ LocateReturns (locateOf «level_field» «field_choice» n (now (remainder .entry)) (now (places .entry)))
+        r (now (places .exit)) ⌝ }
+{
+    match bch::locate_errors(level_field, field_choice, n, remainder, places) {
+        LocateAnswer::Located(count) => done(0, count as u32),
+        LocateAnswer::Refused(refusal) => refused(bch::answers::refusal_reply(refusal), 0),
     }
 }

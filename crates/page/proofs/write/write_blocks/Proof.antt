@@ -7,7 +7,8 @@ use borrow.Author.Needs.{needs}
 use Rattle.layout.specs.Plan.{shape, start, used, from}
 use Rattle.layout.proofs.Plans.{shape-zero, shape-later}
 use Rattle.page_theory.proofs.Writing.{used-room}
-use Rattle.page.proofs.Writing.{message-inside, block-inside, from-first, from-next, Streamed, streamed-start, streamed-size, streamed-next, streamed-end}
+use Rattle.page.proofs.Plans.{block-inside}
+use Rattle.page.proofs.Writing.{message-inside, from-first, from-next, Streamed, streamed-start, streamed-size, streamed-next, streamed-end}
 use Rattle.page.proofs.write.write_blocks.Statement.{statement}
 use Rattle.page.proofs.write.write_blocks.Tie as tie
 
@@ -32,7 +33,7 @@ write-block-requires c κs =
       c .before .before .row-of .ensures,
       omega arith,
       message-inside q (a .pre .0 .valid) 0 (a .pre .0 .some) e h x (search needs) refl,
-      block-inside q (a .pre .0 .valid) 0 (a .pre .0 .some) e (h .size) (search needs) refl,
+      block-inside q (a .pre .0) 0 (a .pre .0 .some) e (h .size) (search needs) refl,
     )
 
 row-of-requires-2 : tie.Need-row-of-requires-2 Inv-loop μ-loop
@@ -70,7 +71,7 @@ write-block-requires-2 c κs =
       c .before .before .before .before .before .before .row-of2 .ensures,
       omega arith,
       message-inside q (a .pre .0 .valid) (s .block) l e h x (search needs) (s .inv .2),
-      block-inside q (a .pre .0 .valid) (s .block) l e (streamed-size q _ _ (s .inv .3)) (search needs) (c .before .before .block-start .ensures .0),
+      block-inside q (a .pre .0) (s .block) l e (streamed-size q _ _ (s .inv .3)) (search needs) (c .before .before .block-start .ensures .0),
     )
 
 cast-at-2 : tie.Need-cast-at-2 Inv-loop μ-loop

@@ -1,0 +1,78 @@
+// nandpage: NAND pages at a desk. A command line over the library's calls, on files and hexadecimal words (docs/TOOL.md).
+//
+//   arguments.rt   what the arguments say
+//   files.rt       files, read into buffers and written from them
+//   say.rt         what is printed: answers on standard output, errors on standard error
+//   help.rt        the help
+//   layouts.rt     the commands layout and bits
+//   writing.rt     the command write
+//   locating.rt    the command locate
+//   claiming.rt    the command claim
+//
+// Each command prints one answer that starts with `reply` and document 01's number, or one error line and no reply. What is
+// answered comes from the proved calls; here it is only put into words.
+mod arguments;
+mod claiming;
+mod files;
+mod help;
+mod layouts;
+mod locating;
+mod say;
+mod writing;
+
+// What the first argument asks for.
+enum Command {
+    Layout,
+    Bits,
+    Write,
+    Locate,
+    Claim,
+    Help,
+    Unknown,
+}
+
+fn command_of(name: &[u8]) -> Command {
+    if check::same(name, b"layout") {
+        return Command::Layout;
+    }
+    if check::same(name, b"bits") {
+        return Command::Bits;
+    }
+    if check::same(name, b"write") {
+        return Command::Write;
+    }
+    if check::same(name, b"locate") {
+        return Command::Locate;
+    }
+    if check::same(name, b"claim") {
+        return Command::Claim;
+    }
+    if check::same(name, b"--help") {
+        return Command::Help;
+    }
+    if check::same(name, b"-h") {
+        return Command::Help;
+    }
+    if check::same(name, b"help") {
+        return Command::Help;
+    }
+    Command::Unknown
+}
+
+fn run(command: Command) {
+    match command {
+        Command::Layout => layouts::layout(),
+        Command::Bits => layouts::bits(),
+        Command::Write => writing::write(),
+        Command::Locate => locating::locate(),
+        Command::Claim => claiming::claim(),
+        Command::Help => help::all(),
+        Command::Unknown => help::unknown(),
+    }
+}
+
+fn main() {
+    let mut name = [0u8; 16];
+    let n = os::arg(1, &mut name);
+    run(command_of(&name[..n]));
+}

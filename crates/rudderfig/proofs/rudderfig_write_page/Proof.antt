@@ -1,0 +1,50 @@
+-- `rudderfig::rudderfig_write_page` meets its contract.
+use borrow.Author.Needs.{needs}
+use Rattle.rudderfig.proofs.Returns.{write-done, write-refused}
+use Rattle.rudderfig.proofs.rudderfig_write_page.Statement.{statement}
+use Rattle.rudderfig.proofs.rudderfig_write_page.Tie as tie
+
+write-page-requires : tie.Need-write-page-requires
+write-page-requires c κs = search needs
+
+enum-told : tie.Need-enum-told
+enum-told c = search needs
+
+done-requires : tie.Need-done-requires
+done-requires c κs = search needs
+
+enum-known-reply : tie.Need-enum-known-reply
+enum-known-reply c = search needs
+
+refused-requires : tie.Need-refused-requires
+refused-requires c κs = search needs
+
+same-length : tie.Need-same-length
+same-length c = search needs
+
+returns : tie.Need-returns
+returns c =
+    let told = c .before in
+    write-done (told .before .before .before .before .write-page .ensures) (told .enum-told .given .1) (c .done .ensures)
+
+same-length-2 : tie.Need-same-length-2
+same-length-2 c = search needs
+
+returns-2 : tie.Need-returns-2
+returns-2 c =
+    let known = c .before .before in
+    write-refused (known .before .before .before .before .write-page .ensures) (known .reply .given .1) (c .refused .ensures)
+
+pub rudderfig-write-page-spec : {M : Type 1} → statement M
+rudderfig-write-page-spec =
+    tie.close
+    (tie.spec
+    write-page-requires
+    enum-told
+    done-requires
+    enum-known-reply
+    refused-requires
+    same-length
+    returns
+    same-length-2
+    returns-2)

@@ -1,0 +1,3 @@
+-- Laws of numbers and bytes as people type them.
+pub mod Bytes
+pub mod Numbers

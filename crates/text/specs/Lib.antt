@@ -1,0 +1,4 @@
+-- What texts say.
+pub mod Bytes
+pub mod Numbers
+pub mod Parts

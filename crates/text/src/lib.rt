@@ -1,0 +1,32 @@
+// The text of a command line: numbers and bytes as people type them, and what a program does with them before and after a call.
+//
+//   parse_number      a number in decimal, or in hexadecimal after 0x
+//   parse_bytes       bytes in hexadecimal, two digits each
+//   layout_record     the layout record of two words
+//   total, largest    of the flip counts of a page
+//   plus, larger      of two numbers
+//   without_prefix    the digits after 0x
+//   front, front_mut, front_exponents   the first places of a buffer
+//
+// No public function asks anything of its caller.
+mod digits;
+mod pairs;
+mod parts;
+
+pub use digits::parse_number;
+pub use digits::without_prefix;
+pub use pairs::parse_bytes;
+pub use parts::front;
+pub use parts::front_exponents;
+pub use parts::front_mut;
+pub use parts::larger;
+pub use parts::largest;
+pub use parts::layout_record;
+pub use parts::plus;
+pub use parts::total;
+
+// What a text says: a number of at most 64 bits, or none.
+pub enum Number {
+    Is(u64),
+    Bad,
+}

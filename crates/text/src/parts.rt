@@ -1,0 +1,102 @@
+// Parts of buffers, and what is worked out over them.
+ghost use mathlib.Core.Path.{_≡_};
+ghost use Prim.Native.Nat.{_≤_};
+ghost use lib.ListN.{take};
+ghost use Rattle.text.specs.Parts.{recordOf, totalOf, plusOf, largerOf, largestOf};
+
+// The layout record of two words of 32 bits, word 0 first, most significant byte first.
+pub fn layout_record(first: u32, second: u32) -> [u8; 8]
+    ensures { λ r. ⌜ r ≡ recordOf first second ⌝ }
+{
+    [
+        (first / 16777216) as u8,
+        (first / 65536 % 256) as u8,
+        (first / 256 % 256) as u8,
+        (first % 256) as u8,
+        (second / 16777216) as u8,
+        (second / 65536 % 256) as u8,
+        (second / 256 % 256) as u8,
+        (second % 256) as u8,
+    ]
+}
+
+// A count at 64 bits.
+fn wide(count: u8) -> u64
+    ensures { λ r. ⌜ (r ≡ count) × (r ≤ 255) ⌝ }
+{
+    count as u64
+}
+
+// The sum of all counts.
+pub fn total(counts: &[u8; 256]) -> u64
+    ensures { λ r. ⌜ (r ≡ totalOf (now (counts .entry)) 256) × (r ≤ 65280) ⌝ }
+{
+    let mut sum = 0;
+    let mut i = 0;
+    while i < 256 {
+        sum += wide(counts[i]);
+        i += 1;
+    }
+    sum
+}
+
+// The sum of two numbers; the first where the sum has more than 64 bits.
+pub fn plus(a: u64, b: u64) -> u64
+    ensures { λ r. ⌜ r ≡ plusOf a b ⌝ }
+{
+    if 18446744073709551615 - b < a {
+        return a;
+    }
+    a + b
+}
+
+// The larger of two counts.
+pub fn larger(a: u8, b: u8) -> u8
+    ensures { λ r. ⌜ r ≡ largerOf a b ⌝ }
+{
+    if a < b {
+        return b;
+    }
+    a
+}
+
+// The largest of all counts.
+pub fn largest(counts: &[u8; 256]) -> u8
+    ensures { λ r. ⌜ r ≡ largestOf (now (counts .entry)) 256 ⌝ }
+{
+    let mut most = 0;
+    let mut i = 0;
+    while i < 256 {
+        most = larger(most, counts[i]);
+        i += 1;
+    }
+    most
+}
+
+// The first n bytes; all where there are no more.
+pub fn front(bytes: &[u8], n: usize) -> &[u8]
+    ensures { λ r. ⌜ now r ≡ take n (now (bytes .entry)) ⌝ }
+{
+    if bytes.len() <= n {
+        return bytes;
+    }
+    &bytes[..n]
+}
+
+// The first n bytes, to be written; all where there are no more.
+pub fn front_mut(bytes: &mut [u8], n: usize) -> &mut [u8] {
+    if bytes.len() <= n {
+        return bytes;
+    }
+    &mut bytes[..n]
+}
+
+// The first n exponents; all where there are no more.
+pub fn front_exponents(exponents: &[u16], n: usize) -> &[u16]
+    ensures { λ r. ⌜ now r ≡ take n (now (exponents .entry)) ⌝ }
+{
+    if exponents.len() <= n {
+        return exponents;
+    }
+    &exponents[..n]
+}
