@@ -1,3 +1,4 @@
 pub mod Words
 pub mod Fold
+pub mod Multiple
 pub mod Bytes
