@@ -12,7 +12,7 @@ use lib.Seq.{take-suc, take-length}
 use lib.Dec.{eqb}
 use lib.Pow.{pow-pos, pow-mono, pow-add, shr-shr, shr-lt}
 use lib.Bits as Bits
-use lib.Bits.{bitXor, xor-block, xor-shr, xor-zero-l, xor-step}
+use lib.Bits.{bitXor, xor-block, xor-shr, xor-zero-l, xor-zero-r, xor-step}
 use Rattle.bits.specs.Bits.{bit, digit, number, digits}
 use Rattle.bits.proofs.Numbers.{digit-lt, bit-lt, number-append, number-digits, digits-length}
 use Rattle.field.proofs.Xor.{xor-assoc, xor-bit, mod2}
@@ -99,7 +99,7 @@ module _ (d g : ℕ) where
 
   -- As many single steps as a word has bits come to one multiple of the divisor, taken off at once: the one with the same coefficients from x^d on.
   pub steps-multiple : (r : ℕ) (w : Word) → remainderFrom d g r w ≡ bitXor (multiple d g (length w) ((r * 2 ^ length w + number w) / 2 ^ d)) (r * 2 ^ length w + number w)
-  steps-multiple r w = 
+  steps-multiple r w =
       ap (remainderFrom d g r) (sym (take-length w)) ∙ take-steps r w (length w) (le-refl (length w))
       ∙ ap (λ v. bitXor (multiple d g (length w) ((r * 2 ^ length w + number v) / 2 ^ d)) (r * 2 ^ length w + number v)) (take-length w)
 
@@ -116,8 +116,8 @@ module _ (d g : ℕ) where
         | no a ↦ simp (ne-eqb (bit y d) (v % 2) a) (xor-shr g y d ∙ rw hg (flip-lowest (y / 2 ^ d) (v % 2) a (mod2 v) ∙ omega arith))
       ])
 
-  pub multiple-below : g / 2 ^ d ≡ 1 → (k v : ℕ) → v < 2 ^ k → multiple d g k v < 2 ^ k * 2 ^ d
-  multiple-below hg k v h = div-lt-iff-lt-mul (pow-pos d) .0 (rw (multiple-top hg k v h) h)
+  pub multiple-below : g / 2 ^ d ≡ 1 → (k v n : ℕ) → v < 2 ^ k → v < n → multiple d g k v < n * 2 ^ d
+  multiple-below hg k v n h l = div-lt-iff-lt-mul (pow-pos d) .0 (rw (multiple-top hg k v h) l)
 
   -- Higher digits of v that are zero change nothing.
   multiple-longer : (k v : ℕ) → v < 2 ^ k → multiple d g (suc k) v ≡ multiple d g k v
@@ -142,6 +142,14 @@ module _ (d g : ℕ) where
 
     pub multiple-other : {y : ℕ} → y ≡ bitXor g x → multiple d g (suc k) (v * 2 + (1 - c)) ≡ y
     multiple-other ey = let l = double-bit in double-next (1 - c) (omega arith) ∙ rw (ne-eqb c (1 - c) (λ z. omega arith)) (sym ey)
+
+  -- the first two
+  pub multiple-zero : (k : ℕ) → multiple d g k 0 ≡ 0
+  multiple-zero zero = multiple-none 0
+  multiple-zero (suc k) = multiple-longer k 0 (pow-pos k) ∙ multiple-zero k
+
+  pub multiple-one : (k : ℕ) → multiple d g (suc k) 1 ≡ g
+  multiple-one k = multiple-other k 0 (pow-pos k) (sym (ap (λ n. n * 2) (multiple-zero (suc k)))) (sym (none-bit d)) (sym (xor-zero-r g))
 
 -- the table of a divisor
 

@@ -40,6 +40,9 @@ low-lt ws h (suc n) =
     let p : 2 ^ (64 * suc n) ≡ 18446744073709551616 * 2 ^ (64 * n) = ap (λ (k : ℕ). 2 ^ (64 * k)) (sym (add-one n)) ∙ next-power n in
     rw p (digits-lt (h n .fits) (low-lt ws h n))
 
+pub low-lt-next : (ws : List ℕ) (n : ℕ) → low ws n < 2 ^ (64 * n) → getD ws n 0 < 18446744073709551616 → low ws (n + 1) < 2 ^ (64 * (n + 1))
+low-lt-next ws n h l = rw (next-power n, low-next ws n) (digits-lt l h)
+
 pub register-lt : (ws : List ℕ) → Words ws → register ws < 2 ^ (64 * length ws)
 unfolding register
 register-lt ws h = low-lt ws h (length ws)
@@ -130,7 +133,7 @@ low-beyond ws d ne =
     rw (place d) (omega arith)
 
 -- a bit of a number in words
-low-bit : (ws : List ℕ) → Words ws → (n p : ℕ) → p < 64 * n → bit (low ws n) p ≡ bit (getD ws (p / 64) 0) (p % 64)
+pub low-bit : (ws : List ℕ) → Words ws → (n p : ℕ) → p < 64 * n → bit (low ws n) p ≡ bit (getD ws (p / 64) 0) (p % 64)
 unfolding low
 low-bit ws h zero p l = absurd (omega arith)
 low-bit ws h (suc n) p l =
@@ -219,10 +222,10 @@ shift-fits w k c l h =
 pub carry-below : (w k : ℕ) → k ≤ 64 → w < 18446744073709551616 → w / 2 ^ (64 - k) < 2 ^ k
 carry-below w k l h = let e : k + (64 - k) ≡ 64 = omega arith in shr-lt k (64 - k) (rw e h)
 
-pub shift-next : (ws vs : List ℕ) (i k c b : ℕ) → k ≤ 64 → i < length ws → low ws i + c * 2 ^ (64 * i) ≡ low vs i * 2 ^ k + b → getD ws i 0 ≡ getD vs i 0
-    → low (set ws i (getD ws i 0 * 2 ^ k % 18446744073709551616 + c)) (i + 1) + getD ws i 0 / 2 ^ (64 - k) * 2 ^ (64 * (i + 1)) ≡ low vs (i + 1) * 2 ^ k + b
-shift-next ws vs i k c b l h inv e =
-    let w : ℕ = getD ws i 0 in
+-- a word w of a number, shifted and stored above those that are done
+pub shift-store : (ws vs : List ℕ) (i k c b : ℕ) {w : ℕ} → k ≤ 64 → i < length ws → low ws i + c * 2 ^ (64 * i) ≡ low vs i * 2 ^ k + b → w ≡ getD vs i 0
+    → low (set ws i (w * 2 ^ k % 18446744073709551616 + c)) (i + 1) + w / 2 ^ (64 - k) * 2 ^ (64 * (i + 1)) ≡ low vs (i + 1) * 2 ^ k + b
+shift-store ws vs i k c b {w} l h inv e =
     let P : ℕ = 2 ^ (64 * i) in
     let K : ℕ = 2 ^ k in
     let u : ℕ = w * K % 18446744073709551616 in
@@ -233,6 +236,10 @@ shift-next ws vs i k c b l h inv e =
     let q : v * 2 ^ (64 * (i + 1)) ≡ v * (18446744073709551616 * P) = ap (λ (x : ℕ). v * x) (next-power i) in
     let g : low vs (i + 1) * K ≡ (w * P + low vs i) * K = ap (λ (x : ℕ). x * K) n in
     omega arith
+
+pub shift-next : (ws vs : List ℕ) (i k c b : ℕ) → k ≤ 64 → i < length ws → low ws i + c * 2 ^ (64 * i) ≡ low vs i * 2 ^ k + b → getD ws i 0 ≡ getD vs i 0
+    → low (set ws i (getD ws i 0 * 2 ^ k % 18446744073709551616 + c)) (i + 1) + getD ws i 0 / 2 ^ (64 - k) * 2 ^ (64 * (i + 1)) ≡ low vs (i + 1) * 2 ^ k + b
+shift-next ws vs i k c b l h inv e = shift-store ws vs i k c b l h inv e
 
 pub shift-end : (ws vs : List ℕ) (n k c b : ℕ) → n ≤ length vs → length ws ≡ length vs → low ws n + c * 2 ^ (64 * n) ≡ low vs n * 2 ^ k + b
     → ((j : ℕ) → n ≤ j → getD ws j 0 ≡ getD vs j 0) → register vs * 2 ^ k + b < 2 ^ (64 * n) → register ws ≡ register vs * 2 ^ k + b
@@ -248,18 +255,19 @@ shift-end ws vs n k c b l es inv above h =
     rw es (omega arith)
 
 -- a sum of two words stored above those that are done
-pub xor-store : (ws vs g : List ℕ) (i : ℕ) {x u : ℕ} → i < length ws → Words vs → Words g → low ws i ≡ bitXor (low g i) (low vs i) → x ≡ getD g i 0 → u ≡ getD vs i 0
+pub xor-store : (ws vs g : List ℕ) (i : ℕ) {x u : ℕ} → i < length ws → low vs i < 2 ^ (64 * i) → low g i < 2 ^ (64 * i)
+    → low ws i ≡ bitXor (low g i) (low vs i) → x ≡ getD g i 0 → u ≡ getD vs i 0
     → low (set ws i (bitXor x u)) (i + 1) ≡ bitXor (low g (i + 1)) (low vs (i + 1))
 xor-store ws vs g i {x} {u} h hv hg inv ex eu =
     low-store ws i (bitXor x u) h
     ∙ ap₂ (λ (a b : ℕ). bitXor a b * 2 ^ (64 * i) + low ws i) ex eu
     ∙ ap (λ (b : ℕ). bitXor (getD g i 0) (getD vs i 0) * 2 ^ (64 * i) + b) inv
-    ∙ sym (xor-block (64 * i) (getD g i 0) (getD vs i 0) (low g i) (low vs i) (low-lt g hg i) (low-lt vs hv i))
+    ∙ sym (xor-block (64 * i) (getD g i 0) (getD vs i 0) (low g i) (low vs i) hg hv)
     ∙ sym (ap₂ bitXor (low-next g i) (low-next vs i))
 
 pub xor-next : (ws vs g : List ℕ) (i : ℕ) → i < length ws → Words vs → Words g → low ws i ≡ bitXor (low g i) (low vs i) → getD ws i 0 ≡ getD vs i 0
     → low (set ws i (bitXor (getD g i 0) (getD ws i 0))) (i + 1) ≡ bitXor (low g (i + 1)) (low vs (i + 1))
-xor-next ws vs g i h hv hg inv e = xor-store ws vs g i h hv hg inv refl e
+xor-next ws vs g i h hv hg inv e = xor-store ws vs g i h (low-lt vs hv i) (low-lt g hg i) inv refl e
 
 pub xor-low-end : (ws vs g : List ℕ) (n : ℕ) → n ≤ length vs → length ws ≡ length vs → low ws n ≡ bitXor (low g n) (low vs n)
     → ((k : ℕ) → n ≤ k → getD ws k 0 ≡ getD vs k 0) → register vs < 2 ^ (64 * n) → register ws ≡ bitXor (low g n) (register vs)

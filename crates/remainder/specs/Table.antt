@@ -5,13 +5,16 @@
 -- width d                how many words of 64 bits have room for d + 8 digits
 -- rowOf d words v        the number in row v of a table of such rows
 -- divisorOf d words      the divisor of a table, its row 1
+-- Filled d g n words     the first n rows are the multiples of g
 -- Multiples d words      the rows are the multiples of the divisor, for every v of eight digits
+-- Apart a b n            n words from a on and n words from b on do not overlap
+-- Only at n before after  nothing but n words from `at` on has changed
 -- Table f t words        the divisor is the generator of the level t
 use mathlib.Core.Path.{_≡_}
 use mathlib.Core.Bool.{cond}
 use mathlib.Core.List.{List}
 use Prim.Native.Nat.{ℕ, zero, suc, _+_, _*_, _/_, _%_, _^_, _<_, _≤_}
-use lib.ListN.{length, drop}
+use lib.ListN.{length, getD, drop}
 use lib.Dec.{eqb}
 use lib.Bits.{bitXor}
 use Rattle.bits.specs.Bits.{bit}
@@ -36,12 +39,24 @@ unfoldable pub divisorOf : ℕ → List ℕ → ℕ
 divisorOf d words = rowOf d words 1
 
 -- The rows stand one after the other, and each has room in a register.
-pub record Multiples (d : ℕ) (words : List ℕ) : Type 0 where
+pub record Filled (d g n : ℕ) (words : List ℕ) : Type 0 where
   pub some : 0 < d
   pub room : d ≤ 888
   pub size : 256 * width d ≤ length words
-  pub monic : divisorOf d words / 2 ^ d ≡ 1
-  pub rows : (v : ℕ) → v < 256 → rowOf d words v ≡ multiple d (divisorOf d words) 8 v
+  pub monic : g / 2 ^ d ≡ 1
+  pub rows : (v : ℕ) → v < n → rowOf d words v ≡ multiple d g 8 v
+
+abbrev pub Multiples : ℕ → List ℕ → Type 0
+Multiples d words = Filled d (divisorOf d words) 256 words
+
+pub record Only (at n : ℕ) (before after : List ℕ) : Type 0 where
+  pub lower : (k : ℕ) → k < at → getD after k 0 ≡ getD before k 0
+  pub upper : (k : ℕ) → at + n ≤ k → getD after k 0 ≡ getD before k 0
+
+-- Two rows of n words that do not overlap.
+pub data Apart (a b n : ℕ) : Type 0 where
+  before : a + n ≤ b → Apart a b n
+  after : b + n ≤ a → Apart a b n
 
 -- At t = 0 there is nothing to divide by, and no table is made.
 pub record Table (f : Field) (t : ℕ) (words : List ℕ) : Type 0 where

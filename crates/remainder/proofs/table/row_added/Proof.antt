@@ -8,7 +8,7 @@ use lib.ListN.{length, getD, drop}
 use lib.Seq.{getD-drop}
 use lib.Bits.{bitXor}
 use Rattle.code.specs.Register.{low}
-use Rattle.remainder.proofs.Words.{xor-store, xor-low-end, above-store, words-drop}
+use Rattle.remainder.proofs.Words.{xor-store, xor-low-end, above-store, words-drop, low-lt}
 use Rattle.remainder.proofs.table.row_added.Statement.{statement}
 use Rattle.remainder.proofs.table.row_added.Tie as tie
 use Rattle.remainder.proofs.table.row_added.Reads as reads
@@ -59,8 +59,8 @@ loop-again c =
     let row : List ℕ = drop (a .from) (a .table .now) in (
       omega arith,
       search needs,
-      xor-store (s .words) (a .state .words) row (s .i) (omega arith) (λ k. search needs) (words-drop _ (c .shared-slice-known .given) (a .from)) (s .inv .2)
-      (sym (getD-drop (a .from) _ (s .i) 0)) (s .inv .3 _ (le-refl _)),
+      xor-store (s .words) (a .state .words) row (s .i) (omega arith) (low-lt (a .state .words) (λ k. search needs) (s .i))
+          (low-lt row (words-drop _ (c .shared-slice-known .given) (a .from)) (s .i)) (s .inv .2) (sym (getD-drop (a .from) _ (s .i) 0)) (s .inv .3 _ (le-refl _)),
       above-store (s .words) (a .state .words) (s .i) _ (s .inv .3),
     )
 
