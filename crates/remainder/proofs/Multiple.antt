@@ -13,8 +13,9 @@ use lib.Dec.{eqb}
 use lib.Pow.{pow-pos, pow-mono, pow-add, shr-shr, shr-lt}
 use lib.Bits as Bits
 use lib.Bits.{bitXor, xor-block, xor-shr, xor-zero-l, xor-zero-r, xor-step}
-use Rattle.bits.specs.Bits.{bit, digit, number, digits}
-use Rattle.bits.proofs.Numbers.{digit-lt, bit-lt, number-append, number-digits, digits-length}
+use Rattle.bits.specs.Bits.{bit, bitOf, run, digit, number, digits}
+use Rattle.bits.proofs.Numbers.{digit-lt, bit-lt, number-append, number-digits, digits-length, digits-number}
+use Rattle.bits.proofs.Runs.{run-length, run-append}
 use Rattle.field.proofs.Xor.{xor-assoc, xor-bit, mod2}
 use Rattle.code.specs.Word.{Word}
 use Rattle.code.specs.Generator.{remainderStep}
@@ -190,3 +191,17 @@ module _ (d : ℕ) (words : List ℕ) (table : Multiples d words) (r b : ℕ) (h
     table-step eu ex =
         let e : r * 2 ^ length (digits b 8) + number (digits b 8) ≡ r * 256 + b = rw (digits-length b 8, number-digits b 8) (ap (λ n. r * 256 + n) (mod-eq-of-lt hb)) in
         ex ∙ rw (eu, table .rows _ step-row, ev, en) (sym (steps-multiple d (divisorOf d words) r (digits b 8) ∙ rw (e, digits-length b 8)))
+
+-- eight more bits of a run, as the loop feeds them
+pub remainderFrom-eight : (d g r : ℕ) (page : List ℕ) (s i : ℕ) {v b : ℕ} → v ≡ remainderFrom d g r (run (bitOf page) s (8 * i)) → b ≡ number (run (bitOf page) (s + 8 * i) 8)
+    → remainderFrom d g v (digits b 8) ≡ remainderFrom d g r (run (bitOf page) s (8 * (i + 1)))
+remainderFrom-eight d g r page s i ev eb =
+    let e : 8 * (i + 1) ≡ 8 * i + 8 = omega arith in
+    let w : digits (number (run (bitOf page) (s + 8 * i) 8)) 8 ≡ run (bitOf page) (s + 8 * i) 8 =
+    ap (digits (number (run (bitOf page) (s + 8 * i) 8))) (sym (run-length (bitOf page) (s + 8 * i) 8)) ∙ digits-number (run (bitOf page) (s + 8 * i) 8) in
+    rw (ev, eb, w, e, run-append (bitOf page) s (8 * i) 8) (sym (remainderFrom-append d g r (run (bitOf page) s (8 * i)) (run (bitOf page) (s + 8 * i) 8)))
+
+-- a run in two parts
+pub remainderFrom-parts : (d g r : ℕ) (page : List ℕ) (s i j : ℕ) {n x y t : ℕ} → n ≡ i + j → t ≡ s + i → x ≡ remainderFrom d g r (run (bitOf page) s i)
+    → y ≡ remainderFrom d g x (run (bitOf page) t j) → y ≡ remainderFrom d g r (run (bitOf page) s n)
+remainderFrom-parts d g r page s i j en et ex ey = ey ∙ rw (et, ex, en, run-append (bitOf page) s i j) (sym (remainderFrom-append d g r (run (bitOf page) s i) (run (bitOf page) (s + i) j)))

@@ -14,6 +14,7 @@
 pub mod coefficients;
 pub mod digits;
 pub mod divide;
+pub mod eight;
 pub mod feed;
 pub mod table;
 

@@ -3,10 +3,10 @@ use lib.ListN.{length}
 use native.Mathlib.Omega.{arith}
 use Rattle.remainder.proofs.Words.{top-word, top-words, top-below}
 use borrow.Author.Needs.{needs}
-use Rattle.remainder.proofs.table.top.Statement.{statement}
-use Rattle.remainder.proofs.table.top.Tie as tie
-use Rattle.remainder.proofs.table.top.Reads as reads
-use Rattle.remainder.proofs.table.top.Lts as lts
+use Rattle.remainder.proofs.eight.top.Statement.{statement}
+use Rattle.remainder.proofs.eight.top.Tie as tie
+use Rattle.remainder.proofs.eight.top.Reads as reads
+use Rattle.remainder.proofs.eight.top.Lts as lts
 
 mul-lower : tie.Need-mul-lower
 mul-lower c = search needs

@@ -1,8 +1,8 @@
 use borrow.Author.Needs.{needs}
 use mathlib.Core.Path.{refl}
 use Rattle.remainder.proofs.Multiple.{width-most, step-below, step-room, step-inside, step-product, table-step}
-use Rattle.remainder.proofs.table.step_eight.Statement.{statement}
-use Rattle.remainder.proofs.table.step_eight.Tie as tie
+use Rattle.remainder.proofs.eight.step_eight.Statement.{statement}
+use Rattle.remainder.proofs.eight.step_eight.Tie as tie
 
 row-words-requires : tie.Need-row-words-requires
 row-words-requires c κs = c .before .pre .0 .room

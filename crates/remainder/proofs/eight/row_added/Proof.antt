@@ -9,10 +9,10 @@ use lib.Seq.{getD-drop}
 use lib.Bits.{bitXor}
 use Rattle.code.specs.Register.{low}
 use Rattle.remainder.proofs.Words.{xor-store, xor-low-end, above-store, words-drop, low-lt}
-use Rattle.remainder.proofs.table.row_added.Statement.{statement}
-use Rattle.remainder.proofs.table.row_added.Tie as tie
-use Rattle.remainder.proofs.table.row_added.Reads as reads
-use Rattle.remainder.proofs.table.row_added.Lts as lts
+use Rattle.remainder.proofs.eight.row_added.Statement.{statement}
+use Rattle.remainder.proofs.eight.row_added.Tie as tie
+use Rattle.remainder.proofs.eight.row_added.Reads as reads
+use Rattle.remainder.proofs.eight.row_added.Lts as lts
 
 abbrev Inv-loop : tie.InvT-loop
 Inv-loop table from used words₀ i₀ words i = (i ≤ used) × (length words ≡ 14) × (low words i ≡ bitXor (low (drop from table) i) (low words₀ i))
