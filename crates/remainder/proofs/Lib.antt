@@ -1,3 +1,6 @@
 pub mod Words
+pub mod Rows
 pub mod Fold
+pub mod Multiple
+pub mod Filling
 pub mod Bytes

@@ -5,12 +5,12 @@ use Prim.Native.Nat.{ℕ, zero, suc, _+_, _-_, _*_, _/_, _%_, _^_, _<_, _≤_}
 use native.Mathlib.Omega.{arith}
 use native.Mathlib.Numerals.{add-one}
 use native.Mathlib.Decide.{decLt}
-use native.Mathlib.Nat.{add-zero, add-comm, le-refl, mul-le-mul-right, div-eq-of-lt, div-lt-iff-lt-mul, pow-suc, mod-lt, mul-le-mul-left, mul-mod-left}
+use native.Mathlib.Nat.{add-zero, add-comm, le-refl, mul-le-mul-right, div-eq-of-lt, div-lt-iff-lt-mul, pow-suc, mod-lt, mul-le-mul-left, mul-mod-left, mod-eq-of-lt}
 use mir.Syntax.{w64}
 use mir.Val.{Fits}
-use lib.ListN.{length, getD, set}
-use lib.Seq.{getD-set-same, getD-set-other}
-use lib.Pow.{split, mod-pow-add, shr-lt, shr-shr, shl-shr, pow-pos, pow-add, pow-mono}
+use lib.ListN.{length, getD, set, drop}
+use lib.Seq.{getD-set-same, getD-set-other, getD-drop}
+use lib.Pow.{split, high, mod-pow-add, shr-lt, shr-shr, shl-shr, pow-pos, pow-add, pow-mono}
 use lib.Arith.{digits-lt}
 use lib.Bits.{bitXor, xor-block}
 use Rattle.bits.specs.Bits.{bit}
@@ -39,6 +39,9 @@ low-lt ws h zero = omega arith
 low-lt ws h (suc n) =
     let p : 2 ^ (64 * suc n) ≡ 18446744073709551616 * 2 ^ (64 * n) = ap (λ (k : ℕ). 2 ^ (64 * k)) (sym (add-one n)) ∙ next-power n in
     rw p (digits-lt (h n .fits) (low-lt ws h n))
+
+pub low-lt-next : (ws : List ℕ) (n : ℕ) → low ws n < 2 ^ (64 * n) → getD ws n 0 < 18446744073709551616 → low ws (n + 1) < 2 ^ (64 * (n + 1))
+low-lt-next ws n h l = rw (next-power n, low-next ws n) (digits-lt l h)
 
 pub register-lt : (ws : List ℕ) → Words ws → register ws < 2 ^ (64 * length ws)
 unfolding register
@@ -130,7 +133,7 @@ low-beyond ws d ne =
     rw (place d) (omega arith)
 
 -- a bit of a number in words
-low-bit : (ws : List ℕ) → Words ws → (n p : ℕ) → p < 64 * n → bit (low ws n) p ≡ bit (getD ws (p / 64) 0) (p % 64)
+pub low-bit : (ws : List ℕ) → Words ws → (n p : ℕ) → p < 64 * n → bit (low ws n) p ≡ bit (getD ws (p / 64) 0) (p % 64)
 unfolding low
 low-bit ws h zero p l = absurd (omega arith)
 low-bit ws h (suc n) p l =
@@ -148,6 +151,52 @@ low-bit ws h (suc n) p l =
 pub register-bit : (ws : List ℕ) → Words ws → (p : ℕ) → p < 64 * length ws → bit (register ws) p ≡ bit (getD ws (p / 64) 0) (p % 64)
 unfolding register
 register-bit ws h p l = low-bit ws h (length ws) p l
+
+-- the digits from d on, at most eight of them: they stand in one word, or in two
+
+from-digit : (x d : ℕ) → x / 2 ^ d ≡ x / 2 ^ (64 * (d / 64)) / 2 ^ (d % 64)
+from-digit x d = let e : d ≡ 64 * (d / 64) + d % 64 = omega arith in ap (λ n. x / 2 ^ n) e ∙ sym (shr-shr x (64 * (d / 64)) (d % 64))
+
+from-word : (ws : List ℕ) → Words ws → (n : ℕ) → low ws (n + 1) / 2 ^ (64 * n) ≡ getD ws n 0
+from-word ws h n = rw (low-next ws n) (high (getD ws n 0) (64 * n) (low-lt ws h n))
+
+from-words : (ws : List ℕ) → Words ws → (n : ℕ) → low ws (n + 1 + 1) / 2 ^ (64 * n) ≡ getD ws (n + 1) 0 * 18446744073709551616 + getD ws n 0
+from-words ws h n =
+    let e : getD ws (n + 1) 0 * (18446744073709551616 * 2 ^ (64 * n)) + (getD ws n 0 * 2 ^ (64 * n) + low ws n)
+    ≡ (getD ws (n + 1) 0 * 18446744073709551616 + getD ws n 0) * 2 ^ (64 * n) + low ws n = omega arith in
+    rw (low-next ws (n + 1), next-power n, low-next ws n, e) (high (getD ws (n + 1) 0 * 18446744073709551616 + getD ws n 0) (64 * n) (low-lt ws h n))
+
+pub top-word : (ws : List ℕ) → Words ws → (d : ℕ) → d / 64 < length ws → d % 64 ≤ 56 → register ws < 2 ^ (8 + d) → register ws / 2 ^ d ≡ getD ws (d / 64) 0 / 2 ^ (d % 64)
+top-word ws w d l s h =
+    let m : 2 ^ (8 + d) ≤ 2 ^ (64 * (d / 64 + 1)) = pow-mono (omega arith) in
+    from-digit (register ws) d ∙ rw (register-short ws (d / 64 + 1) (omega arith) (omega arith), from-word ws w (d / 64))
+
+pub top-words : (ws : List ℕ) → Words ws → (d : ℕ) → d / 64 + 1 < length ws → register ws < 2 ^ (8 + d)
+    → register ws / 2 ^ d ≡ getD ws (d / 64 + 1) 0 * 2 ^ (64 - d % 64) % 18446744073709551616 + getD ws (d / 64) 0 / 2 ^ (d % 64)
+top-words ws w d l h =
+    let k : ℕ = d / 64 in
+    let s : ℕ = d % 64 in
+    let hi : ℕ = getD ws (k + 1) 0 in
+    let lo : ℕ = getD ws k 0 in
+    let m : 2 ^ (8 + d) ≤ 2 ^ (64 * (k + 1 + 1)) = pow-mono (omega arith) in
+    let e : 64 - s + s ≡ 64 = omega arith in
+    let p : 2 ^ (64 - s) * 2 ^ s ≡ 18446744073709551616 = sym (pow-add 2 (64 - s) s) ∙ ap (λ n. 2 ^ n) e in
+    let q : hi * (2 ^ (64 - s) * 2 ^ s) ≡ hi * 18446744073709551616 = ap (λ n. hi * n) p in
+    let t = split lo s in
+    let j : hi * 18446744073709551616 + lo ≡ (hi * 2 ^ (64 - s) + lo / 2 ^ s) * 2 ^ s + lo % 2 ^ s = omega arith in
+    let v : register ws / 2 ^ d ≡ hi * 2 ^ (64 - s) + lo / 2 ^ s =
+    from-digit (register ws) d ∙ rw (register-short ws (k + 1 + 1) (omega arith) (omega arith), from-words ws w k, j)
+    (high (hi * 2 ^ (64 - s) + lo / 2 ^ s) s (mod-lt lo (pow-pos s))) in
+    let b : register ws / 2 ^ d < 256 = shr-lt 8 d h in
+    let z : hi * 2 ^ (64 - s) % 18446744073709551616 ≡ hi * 2 ^ (64 - s) = mod-eq-of-lt (omega arith) in
+    v ∙ rw z
+
+pub top-below : (ws : List ℕ) (d : ℕ) {v : ℕ} → register ws < 2 ^ (8 + d) → register ws / 2 ^ d ≡ v → v < 256
+top-below ws d h e = rw (← e) (shr-lt 8 d h)
+
+-- the words from n on
+pub words-drop : (ws : List ℕ) → Words ws → (n : ℕ) → Words (drop n ws)
+words-drop ws h n i = rw (getD-drop n ws i 0) (h (n + i))
 
 -- what the loops over words do, one word at a time: a shift with a carry, and exclusive or
 
@@ -173,10 +222,10 @@ shift-fits w k c l h =
 pub carry-below : (w k : ℕ) → k ≤ 64 → w < 18446744073709551616 → w / 2 ^ (64 - k) < 2 ^ k
 carry-below w k l h = let e : k + (64 - k) ≡ 64 = omega arith in shr-lt k (64 - k) (rw e h)
 
-pub shift-next : (ws vs : List ℕ) (i k c b : ℕ) → k ≤ 64 → i < length ws → low ws i + c * 2 ^ (64 * i) ≡ low vs i * 2 ^ k + b → getD ws i 0 ≡ getD vs i 0
-    → low (set ws i (getD ws i 0 * 2 ^ k % 18446744073709551616 + c)) (i + 1) + getD ws i 0 / 2 ^ (64 - k) * 2 ^ (64 * (i + 1)) ≡ low vs (i + 1) * 2 ^ k + b
-shift-next ws vs i k c b l h inv e =
-    let w : ℕ = getD ws i 0 in
+-- a word w of a number, shifted and stored above those that are done
+pub shift-store : (ws vs : List ℕ) (i k c b : ℕ) {w : ℕ} → k ≤ 64 → i < length ws → low ws i + c * 2 ^ (64 * i) ≡ low vs i * 2 ^ k + b → w ≡ getD vs i 0
+    → low (set ws i (w * 2 ^ k % 18446744073709551616 + c)) (i + 1) + w / 2 ^ (64 - k) * 2 ^ (64 * (i + 1)) ≡ low vs (i + 1) * 2 ^ k + b
+shift-store ws vs i k c b {w} l h inv e =
     let P : ℕ = 2 ^ (64 * i) in
     let K : ℕ = 2 ^ k in
     let u : ℕ = w * K % 18446744073709551616 in
@@ -187,6 +236,10 @@ shift-next ws vs i k c b l h inv e =
     let q : v * 2 ^ (64 * (i + 1)) ≡ v * (18446744073709551616 * P) = ap (λ (x : ℕ). v * x) (next-power i) in
     let g : low vs (i + 1) * K ≡ (w * P + low vs i) * K = ap (λ (x : ℕ). x * K) n in
     omega arith
+
+pub shift-next : (ws vs : List ℕ) (i k c b : ℕ) → k ≤ 64 → i < length ws → low ws i + c * 2 ^ (64 * i) ≡ low vs i * 2 ^ k + b → getD ws i 0 ≡ getD vs i 0
+    → low (set ws i (getD ws i 0 * 2 ^ k % 18446744073709551616 + c)) (i + 1) + getD ws i 0 / 2 ^ (64 - k) * 2 ^ (64 * (i + 1)) ≡ low vs (i + 1) * 2 ^ k + b
+shift-next ws vs i k c b l h inv e = shift-store ws vs i k c b l h inv e
 
 pub shift-end : (ws vs : List ℕ) (n k c b : ℕ) → n ≤ length vs → length ws ≡ length vs → low ws n + c * 2 ^ (64 * n) ≡ low vs n * 2 ^ k + b
     → ((j : ℕ) → n ≤ j → getD ws j 0 ≡ getD vs j 0) → register vs * 2 ^ k + b < 2 ^ (64 * n) → register ws ≡ register vs * 2 ^ k + b
@@ -201,23 +254,33 @@ shift-end ws vs n k c b l es inv above h =
     let a : low ws (length vs) + low vs n ≡ low vs (length vs) + low ws n = rw e (low-above ws vs n above (length vs - n)) in
     rw es (omega arith)
 
+-- a sum of two words stored above those that are done
+pub xor-store : (ws vs g : List ℕ) (i : ℕ) {x u : ℕ} → i < length ws → low vs i < 2 ^ (64 * i) → low g i < 2 ^ (64 * i)
+    → low ws i ≡ bitXor (low g i) (low vs i) → x ≡ getD g i 0 → u ≡ getD vs i 0
+    → low (set ws i (bitXor x u)) (i + 1) ≡ bitXor (low g (i + 1)) (low vs (i + 1))
+xor-store ws vs g i {x} {u} h hv hg inv ex eu =
+    low-store ws i (bitXor x u) h
+    ∙ ap₂ (λ (a b : ℕ). bitXor a b * 2 ^ (64 * i) + low ws i) ex eu
+    ∙ ap (λ (b : ℕ). bitXor (getD g i 0) (getD vs i 0) * 2 ^ (64 * i) + b) inv
+    ∙ sym (xor-block (64 * i) (getD g i 0) (getD vs i 0) (low g i) (low vs i) hg hv)
+    ∙ sym (ap₂ bitXor (low-next g i) (low-next vs i))
+
 pub xor-next : (ws vs g : List ℕ) (i : ℕ) → i < length ws → Words vs → Words g → low ws i ≡ bitXor (low g i) (low vs i) → getD ws i 0 ≡ getD vs i 0
     → low (set ws i (bitXor (getD g i 0) (getD ws i 0))) (i + 1) ≡ bitXor (low g (i + 1)) (low vs (i + 1))
-xor-next ws vs g i h hv hg inv e =
-    low-store ws i (bitXor (getD g i 0) (getD ws i 0)) h
-    ∙ ap₂ (λ (a b : ℕ). bitXor (getD g i 0) a * 2 ^ (64 * i) + b) e inv
-    ∙ sym (xor-block (64 * i) (getD g i 0) (getD vs i 0) (low g i) (low vs i) (low-lt g hg i) (low-lt vs hv i))
-    ∙ sym (ap₂ bitXor (low-next g i) (low-next vs i))
+xor-next ws vs g i h hv hg inv e = xor-store ws vs g i h (low-lt vs hv i) (low-lt g hg i) inv refl e
+
+pub xor-low-end : (ws vs g : List ℕ) (n : ℕ) → n ≤ length vs → length ws ≡ length vs → low ws n ≡ bitXor (low g n) (low vs n)
+    → ((k : ℕ) → n ≤ k → getD ws k 0 ≡ getD vs k 0) → register vs < 2 ^ (64 * n) → register ws ≡ bitXor (low g n) (register vs)
+unfolding register
+xor-low-end ws vs g n l es inv above hv =
+    let e : length vs ≡ n + (length vs - n) = omega arith in
+    let s : low vs (length vs) ≡ low vs n = register-short vs n l hv in
+    let a : low ws (length vs) + low vs n ≡ low vs (length vs) + low ws n = rw e (low-above ws vs n above (length vs - n)) in
+    rw (es, s) (omega arith)
 
 pub xor-end : (ws vs g : List ℕ) (n : ℕ) → n ≤ length vs → length ws ≡ length vs → length g ≡ length vs → low ws n ≡ bitXor (low g n) (low vs n)
     → ((k : ℕ) → n ≤ k → getD ws k 0 ≡ getD vs k 0) → register vs < 2 ^ (64 * n) → register g < 2 ^ (64 * n) → register ws ≡ bitXor (register g) (register vs)
-unfolding register
-xor-end ws vs g n l es eg inv above hv hg =
-    let e : length vs ≡ n + (length vs - n) = omega arith in
-    let s : low vs (length vs) ≡ low vs n = register-short vs n l hv in
-    let t : low g (length g) ≡ low g n = register-short g n (omega arith) hg in
-    let a : low ws (length vs) + low vs n ≡ low vs (length vs) + low ws n = rw e (low-above ws vs n above (length vs - n)) in
-    rw (es, t, s) (omega arith)
+xor-end ws vs g n l es eg inv above hv hg = xor-low-end ws vs g n l es inv above hv ∙ rw (register-short g n (omega arith) hg)
 
 -- the words up to the one that holds the digit d have room for what a step makes
 

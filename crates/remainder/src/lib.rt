@@ -14,7 +14,9 @@
 pub mod coefficients;
 pub mod digits;
 pub mod divide;
+pub mod eight;
 pub mod feed;
+pub mod table;
 
 // Fourteen words of 64 bits, the lowest first: room for mt = 868, at m = 14 and t = 62.
 pub struct Register {

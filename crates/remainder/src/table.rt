@@ -1,0 +1,97 @@
+// The table of a divisor: its 256 multiples of eight coefficients. It is made row by row, two rows from one.
+ghost use mathlib.Core.Path.{_≡_};
+ghost use Prim.Native.Nat.{_+_, _*_, _/_, _%_, _^_, _≤_, _<_};
+ghost use lib.ListN.{length, getD, drop};
+ghost use lib.Bits.{bitXor};
+ghost use Rattle.bits.specs.Bits.{bit};
+ghost use Rattle.code.specs.Register.{low, register};
+ghost use Rattle.remainder.specs.Remainder.{Divisor};
+ghost use Rattle.remainder.specs.Table.{width, Filled, Only, Apart};
+
+// How many words a row of the table has.
+pub fn row_words(degree: usize) -> usize
+    requires { ⌜ degree ≤ 888 ⌝ }
+    ensures { λ r. ⌜ r ≡ width degree ⌝ }
+{
+    (degree + 7) / 64 + 1
+}
+
+// Row 0 of the table, the words from 0 on, is zero.
+fn clear_row(table: &mut [u64], used: usize)
+    requires { ⌜ used ≤ length (now table) ⌝ }
+    ensures { λ r. ⌜ low (now (table .exit)) used ≡ 0 ⌝ }
+{
+    let mut i = 0;
+    while i < used {
+        table[i] = 0;
+        i += 1;
+    }
+}
+
+// The words of a table from `to` on become twice the number in those from `from` on.
+fn double_row(table: &mut [u64], from: usize, to: usize, used: usize)
+    requires { ⌜ (from + used ≤ to) × (to + used ≤ length (now table)) × (low (drop from (now table)) used * 2 < 2 ^ (64 * used)) ⌝ }
+    ensures { λ r. ⌜ (low (drop to (now (table .exit))) used ≡ low (drop from (now (table .entry))) used * 2)
+        × Only to used (now (table .entry)) (now (table .exit)) ⌝ }
+{
+    let mut carry = 0;
+    let mut i = 0;
+    while i < used {
+        let w = table[from + i];
+        table[to + i] = (w << 1) + carry;
+        carry = w >> 63;
+        i += 1;
+    }
+}
+
+// The words of a table from `to` on become the sum over GF(2) of a divisor and of the number in those from `from` on.
+fn add_row(table: &mut [u64], divisor: [u64; 14], from: usize, to: usize, used: usize)
+    requires { ⌜ (used ≤ 14) × (from + used ≤ length (now table)) × (to + used ≤ length (now table)) × Apart from to used ⌝ }
+    ensures { λ r. ⌜ (low (drop to (now (table .exit))) used ≡ bitXor (low divisor used) (low (drop from (now (table .entry))) used))
+        × Only to used (now (table .entry)) (now (table .exit)) ⌝ }
+{
+    let mut i = 0;
+    while i < used {
+        table[to + i] = divisor[i] ^ table[from + i];
+        i += 1;
+    }
+}
+
+// The digit p of the number in the words of a table from `from` on.
+fn row_digit(table: &[u64], from: usize, p: usize) -> usize
+    requires { ⌜ from + p / 64 < length (now table) ⌝ }
+    ensures { λ r. ⌜ r ≡ bit (getD (now (table .entry)) (from + p / 64) 0) (p % 64) ⌝ }
+{
+    let word = table[from + p / 64];
+    ((word >> (p % 64)) % 2) as usize
+}
+
+// Rows 2v and 2v + 1 of the table from row v: its double, and the double plus the divisor. The coefficient of x^degree in the double
+// says which is which.
+fn row_pair(table: &mut [u64], divisor: [u64; 14], degree: usize, v: usize)
+    requires { ⌜ (Filled degree (register divisor) (2 * v) (now table)) × (0 < v) × (v < 128) ⌝ }
+    ensures { λ r. ⌜ Filled degree (register divisor) (2 * v + 2) (now (table .exit)) ⌝ }
+{
+    let used = row_words(degree);
+    let from = v * used;
+    let one = row_digit(table, from, degree - 1);
+    let to = (v * 2 + one) * used;
+    double_row(table, from, to, used);
+    let other = (v * 2 + (1 - one)) * used;
+    add_row(table, divisor, to, other, used);
+}
+
+// Internal: makes the table of a divisor.
+pub fn fill(table: &mut [u64], divisor: [u64; 14], degree: usize)
+    requires { ⌜ (0 < degree) × (degree ≤ 888) × (Divisor degree (register divisor)) × (256 * width degree ≤ length (now table)) ⌝ }
+    ensures { λ r. ⌜ Filled degree (register divisor) 256 (now (table .exit)) ⌝ }
+{
+    let used = row_words(degree);
+    clear_row(table, used);
+    add_row(table, divisor, 0, used, used);
+    let mut v = 1;
+    while v < 128 {
+        row_pair(table, divisor, degree, v);
+        v += 1;
+    }
+}
