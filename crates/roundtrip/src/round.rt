@@ -88,7 +88,17 @@ pub fn round_trip(
 {
     match check_layout(words) {
         Acceptance::Accepted(layout) => {
-            round_in(plan_of(layout), words, metadata, data, mask, page, metadata_out, data_out, counts)
+            round_in(
+                plan_of(layout),
+                words,
+                metadata,
+                data,
+                mask,
+                page,
+                metadata_out,
+                data_out,
+                counts,
+            )
         }
         Acceptance::Refused(refusal) => RoundTrip::Refused(refusal_reply(refusal)),
     }
