@@ -11,7 +11,7 @@ use lib.Seq.{getD-set-same, getD-set-other}
 use lib.Bits.{bitXor, xor-lt}
 use lib.Dec.{eqb, leb}
 use borrow.Author.Tests.{leb-true, eqb-true}
-use Rattle.bits.specs.Bits.{bitAt, bitOf, run, digit, bytes, Bytes}
+use Rattle.bits.specs.Bits.{bitAt, bitOf, run, Bytes}
 use Rattle.bits.proofs.Pages.{bitOf-digit, bytes-ext}
 use Rattle.layout.specs.declared.Plan.{Plan}
 use Rattle.layout.specs.Plan.{level}

@@ -1,5 +1,22 @@
-// Damage by a lent mask (document 01, "Damage"): a page whose ones name the bits of another page that are turned over.
+// Demand 3 of the running code (document 01, "Damage"): a page that is written and then damaged within its levels reads back.
 //
-// mask.rt counts the covered bits that a mask names in each block, finds whether there are more than t in one, and turns over every
-// bit that it names, those of the tail included.
-pub mod mask;
+//   round_trip     writes a page, turns over the bits that a lent mask names, and reads the page back
+//
+// It calls the public writer and reader, nothing of their insides, and asks nothing of its caller. Its contract, specs/Round.antt,
+// promises the payload and each block's number of turned bits. The steps:
+// 1. round.rt has the page written.
+// 2. mask.rt counts the covered bits that the mask names in each block. More than t in one, or a mask of another length than the
+//    page, ends the call.
+// 3. mask.rt turns over every bit that the mask names, those of the tail included.
+// 4. round.rt has the page read.
+mod mask;
+mod round;
+
+pub use round::round_trip;
+
+// The answer of a round trip: the page was read back, the reply of the writer or the reader, or the mask is not allowed.
+pub enum RoundTrip {
+    Done,
+    Refused(u8),
+    Mask,
+}

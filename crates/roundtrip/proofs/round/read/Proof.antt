@@ -1,0 +1,84 @@
+-- `roundtrip::round::read` meets its contract.
+use Rattle.page_read.specs.Answers.{readNumber}
+use Rattle.roundtrip.proofs.Trips.{read-told}
+use borrow.Author.Needs.{needs}
+use Rattle.roundtrip.proofs.round.read.Statement.{statement}
+use Rattle.roundtrip.proofs.round.read.Tie as tie
+
+read-page-requires : tie.Need-read-page-requires
+read-page-requires c κs = search needs
+
+enum-told : tie.Need-enum-told
+enum-told c = search needs
+
+enum-known-reply : tie.Need-enum-known-reply
+enum-known-reply c = search needs
+
+enum-known-block : tie.Need-enum-known-block
+enum-known-block c = search needs
+
+same-length : tie.Need-same-length
+same-length c = search needs
+
+same-length-2 : tie.Need-same-length-2
+same-length-2 c = search needs
+
+same-length-3 : tie.Need-same-length-3
+same-length-3 c = search needs
+
+returns : tie.Need-returns
+unfolding readNumber
+returns c =
+    let done = c .before .before .before .before .before .before .before .before in
+    read-told (c .enum-told .given .1) (done .read-page .ensures)
+
+same-length-4 : tie.Need-same-length-4
+same-length-4 c = search needs
+
+same-length-5 : tie.Need-same-length-5
+same-length-5 c = search needs
+
+same-length-6 : tie.Need-same-length-6
+same-length-6 c = search needs
+
+returns-2 : tie.Need-returns-2
+unfolding readNumber
+returns-2 c =
+    let done = c .before .before .before .before .before .before .before .before .before in
+    read-told (c .before .reply .given .1) (done .read-page .ensures)
+
+same-length-7 : tie.Need-same-length-7
+same-length-7 c = search needs
+
+same-length-8 : tie.Need-same-length-8
+same-length-8 c = search needs
+
+same-length-9 : tie.Need-same-length-9
+same-length-9 c = search needs
+
+returns-3 : tie.Need-returns-3
+unfolding readNumber
+returns-3 c =
+    let done = c .before .before .before .before .before .before .before .before .before in
+    read-told (c .before .block .given .1) (done .read-page .ensures)
+
+pub read-spec : {M : Type 1} → statement M
+read-spec =
+    tie.close
+    (tie.spec
+    read-page-requires
+    enum-told
+    enum-known-reply
+    enum-known-block
+    same-length
+    same-length-2
+    same-length-3
+    returns
+    same-length-4
+    same-length-5
+    same-length-6
+    returns-2
+    same-length-7
+    same-length-8
+    same-length-9
+    returns-3)

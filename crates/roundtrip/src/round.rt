@@ -1,0 +1,105 @@
+// The round trip of a page: written, damaged by a mask, read back.
+use crate::RoundTrip;
+use crate::mask::mask_allowed;
+use crate::mask::turn_over;
+use layout::Acceptance;
+use layout::Plan;
+use layout::check_layout;
+use layout::plan_of;
+use layout::refusal_reply;
+use page::WriteAnswer;
+use page::write_page;
+use page_read::ReadAnswer;
+use page_read::read_page;
+ghost use mathlib.Core.Path.{_≡_};
+ghost use Rattle.page_theory.specs.Damage.{Accepts};
+ghost use Rattle.page_theory.specs.Calls.{writeEnded, writeOf, readOf};
+ghost use Rattle.roundtrip.specs.Round.{ReadBack, roundEnded, roundIn, roundOf};
+
+// Writes a page. The result is the reply.
+fn write(words: &[u8], metadata: &[u8], data: &[u8], page: &mut [u8]) -> u8
+    ensures { λ r. ⌜ writeEnded r 0 (now (page .exit))
+        ≡ writeOf (now (words .entry)) (now (metadata .entry)) (now («data» .entry)) (now (page .entry)) ⌝ }
+{
+    match write_page(words, metadata, data, page) {
+        WriteAnswer::Done => 0,
+        WriteAnswer::Refused(reply) => reply,
+    }
+}
+
+// Reads a page. The result is the reply, 9 for a ruined block.
+fn read(words: &[u8], page: &[u8], metadata: &mut [u8], data: &mut [u8], counts: &mut [u8]) -> u8
+    ensures { λ r. ⌜ ReadBack r (now (metadata .exit)) (now («data» .exit)) (now (counts .exit))
+        (readOf (now (words .entry)) (now (page .entry)) (now (metadata .entry)) (now («data» .entry)) (now (counts .entry))) ⌝ }
+{
+    match read_page(words, page, metadata, data, counts) {
+        ReadAnswer::Done => 0,
+        ReadAnswer::Refused(reply) => reply,
+        ReadAnswer::Ruined(block) => 9,
+    }
+}
+
+// The round trip under a plan.
+fn round_in(
+    plan: Plan,
+    words: &[u8],
+    metadata: &[u8],
+    data: &[u8],
+    mask: &[u8],
+    page: &mut [u8],
+    metadata_out: &mut [u8],
+    data_out: &mut [u8],
+    counts: &mut [u8],
+) -> RoundTrip
+    requires { ⌜ Accepts (now words) plan ⌝ }
+    ensures { λ r. ⌜ roundEnded r (now (page .exit)) (now («metadata_out» .exit)) (now («data_out» .exit)) (now (counts .exit))
+        ≡ roundIn plan (now (metadata .entry)) (now («data» .entry)) (now (mask .entry)) (now (page .entry))
+        (now («metadata_out» .entry)) (now («data_out» .entry)) (now (counts .entry)) ⌝ }
+{
+    let written = write(words, metadata, data, page);
+    if written != 0 {
+        return RoundTrip::Refused(written);
+    }
+    if !mask_allowed(plan, mask) {
+        return RoundTrip::Mask;
+    }
+    turn_over(mask, page);
+    let reply = read(words, page, metadata_out, data_out, counts);
+    if reply != 0 {
+        return RoundTrip::Refused(reply);
+    }
+    RoundTrip::Done
+}
+
+// Writes a page, turns over the bits that a mask names, and reads the page back.
+pub fn round_trip(
+    words: &[u8],
+    metadata: &[u8],
+    data: &[u8],
+    mask: &[u8],
+    page: &mut [u8],
+    metadata_out: &mut [u8],
+    data_out: &mut [u8],
+    counts: &mut [u8],
+) -> RoundTrip
+    ensures { λ r. ⌜ roundEnded r (now (page .exit)) (now («metadata_out» .exit)) (now («data_out» .exit)) (now (counts .exit))
+        ≡ roundOf (now (words .entry)) (now (metadata .entry)) (now («data» .entry)) (now (mask .entry)) (now (page .entry))
+        (now («metadata_out» .entry)) (now («data_out» .entry)) (now (counts .entry)) ⌝ }
+{
+    match check_layout(words) {
+        Acceptance::Accepted(layout) => {
+            round_in(
+                plan_of(layout),
+                words,
+                metadata,
+                data,
+                mask,
+                page,
+                metadata_out,
+                data_out,
+                counts,
+            )
+        }
+        Acceptance::Refused(refusal) => RoundTrip::Refused(refusal_reply(refusal)),
+    }
+}
