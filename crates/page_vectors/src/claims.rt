@@ -24,7 +24,13 @@ fn claim_answer(head: &[u8], words: &[u8], page: &[u8], claims: &[u16], line: &m
 }
 
 // Reads the page and the claim into buffers of their lengths, and checks the claim.
-fn claim_body(head: &[u8], words: &[u8], page: &mut [u8], bytes: &mut [u8], line: &mut [u8]) -> usize {
+fn claim_body(
+    head: &[u8],
+    words: &[u8],
+    page: &mut [u8],
+    bytes: &mut [u8],
+    line: &mut [u8],
+) -> usize {
     if !vector_io::fill(page) {
         return 0;
     }
@@ -33,7 +39,13 @@ fn claim_body(head: &[u8], words: &[u8], page: &mut [u8], bytes: &mut [u8], line
     }
     let count = lines::length(head, 20);
     let claims = exponents(bytes);
-    claim_answer(head, words, page, text::front_exponents(&claims, count), line)
+    claim_answer(
+        head,
+        words,
+        page,
+        text::front_exponents(&claims, count),
+        line,
+    )
 }
 
 // The line for a claim.

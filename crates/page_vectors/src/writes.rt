@@ -1,14 +1,26 @@
 // Vectors that write a page.
 use crate::lines;
 
-fn write_answer(words: &[u8], metadata: &[u8], data: &[u8], page: &mut [u8], line: &mut [u8]) -> usize {
+fn write_answer(
+    words: &[u8],
+    metadata: &[u8],
+    data: &[u8],
+    page: &mut [u8],
+    line: &mut [u8],
+) -> usize {
     let answer = page::write_page(words, metadata, data, page);
     let at = lines::put_reply(line, page::write_number(answer), 0);
     lines::put_buffer(line, at, page)
 }
 
 // Reads metadata and data into buffers of their lengths, and writes the page.
-fn write_body(head: &[u8], words: &[u8], metadata: &mut [u8], data: &mut [u8], line: &mut [u8]) -> usize {
+fn write_body(
+    head: &[u8],
+    words: &[u8],
+    metadata: &mut [u8],
+    data: &mut [u8],
+    line: &mut [u8],
+) -> usize {
     if !vector_io::fill(metadata) {
         return 0;
     }
@@ -17,7 +29,13 @@ fn write_body(head: &[u8], words: &[u8], metadata: &mut [u8], data: &mut [u8], l
     }
     let mut page = [165u8; 65536];
     let size = lines::length(head, 16);
-    write_answer(words, metadata, data, text::front_mut(&mut page, size), line)
+    write_answer(
+        words,
+        metadata,
+        data,
+        text::front_mut(&mut page, size),
+        line,
+    )
 }
 
 // The line for a write.
