@@ -2,7 +2,9 @@
 use crate::say;
 
 pub fn unknown() {
-    say::error(b"no such command: there are layout, bits and write; nandpage --help says more");
+    say::error(
+        b"no such command: there are layout, bits, write, locate and claim; nandpage --help says more",
+    );
 }
 
 fn commands() {
@@ -18,13 +20,25 @@ fn commands() {
     say::text(
         b"  nandpage write WORD0 WORD1 METADATA DATA PAGE   writes a page from metadata and data\n",
     );
+    say::text(
+        b"  nandpage locate LEVEL FIELD N REMAINDER         the wrong bits of a word of N bits, from its remainder alone\n",
+    );
+    say::text(
+        b"  nandpage claim WORD0 WORD1 PAGE BLOCK EXPONENT..   are these the wrong bits of the block?\n",
+    );
 }
 
 fn arguments() {
     say::text(
         b"WORD0 and WORD1 are the two layout words, as 0x070A4080 0x10DA4080. Numbers are decimal, or hexadecimal after 0x.\n",
     );
-    say::text(b"METADATA, DATA and PAGE are files; - stands for empty metadata or data.\n");
+    say::text(
+        b"METADATA, DATA and PAGE are files; - stands for empty metadata or data, or for a page on standard input.\n",
+    );
+    say::text(
+        b"LEVEL is the level field (t is twice it), FIELD is 0 for m = 13 or 1 for m = 14, and REMAINDER is\n",
+    );
+    say::text(b"mt bits in hexadecimal, highest coefficient first, in whole bytes.\n");
 }
 
 fn answers() {

@@ -1,15 +1,22 @@
 // nandpage: NAND pages at a desk. A command line over the library's calls, on files and hexadecimal words (docs/TOOL.md).
 //
 //   arguments.rt   what the arguments say
+//   files.rt       files, read into buffers and written from them
 //   say.rt         what is printed: answers on standard output, errors on standard error
+//   help.rt        the help
 //   layouts.rt     the commands layout and bits
+//   writing.rt     the command write
+//   locating.rt    the command locate
+//   claiming.rt    the command claim
 //
 // Each command prints one answer that starts with `reply` and document 01's number, or one error line and no reply. What is
 // answered comes from the proved calls; here it is only put into words.
 mod arguments;
+mod claiming;
 mod files;
 mod help;
 mod layouts;
+mod locating;
 mod say;
 mod writing;
 
@@ -18,6 +25,8 @@ enum Command {
     Layout,
     Bits,
     Write,
+    Locate,
+    Claim,
     Help,
     Unknown,
 }
@@ -31,6 +40,12 @@ fn command_of(name: &[u8]) -> Command {
     }
     if check::same(name, b"write") {
         return Command::Write;
+    }
+    if check::same(name, b"locate") {
+        return Command::Locate;
+    }
+    if check::same(name, b"claim") {
+        return Command::Claim;
     }
     if check::same(name, b"--help") {
         return Command::Help;
@@ -49,6 +64,8 @@ fn run(command: Command) {
         Command::Layout => layouts::layout(),
         Command::Bits => layouts::bits(),
         Command::Write => writing::write(),
+        Command::Locate => locating::locate(),
+        Command::Claim => claiming::claim(),
         Command::Help => help::all(),
         Command::Unknown => help::unknown(),
     }

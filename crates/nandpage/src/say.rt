@@ -1,4 +1,5 @@
 // What is printed. Answers go to standard output, errors to standard error.
+use layout::Plan;
 use libc::STDERR_FILENO;
 use libc::STDOUT_FILENO;
 
@@ -43,6 +44,19 @@ pub fn meaning(reply: u8) {
 pub fn length(what: &[u8], found: usize, wanted: usize) {
     fact(what, found as u64, b" bytes");
     fact(b" (", wanted as u64, b" wanted)");
+}
+
+// A page that is refused, and what is wrong with it. A page of another length has its length shown.
+pub fn page_refused(reply_number: u8, plan: Plan, length_found: usize) {
+    reply(reply_number);
+    meaning(reply_number);
+    if reply_number == 5 {
+        length(b": ", length_found, plan.size as usize);
+    }
+    if reply_number == 7 {
+        fact(b": the page has ", plan.blocks as u64, b" blocks");
+    }
+    text(b"\n");
 }
 
 // An error's line.

@@ -10,7 +10,7 @@ use page::WriteAnswer;
 
 // A page was written into the buffer: it goes to the file that argument 6 names.
 fn written(page: &[u8]) {
-    if !files::write_argument(6, page) {
+    if !files::save(6, b"PAGE", page) {
         return;
     }
     say::reply(0);
@@ -40,11 +40,11 @@ fn write_from(record: &[u8], plan: Plan, metadata: &[u8], data: &[u8]) {
 
 fn write_under(record: &[u8], plan: Plan) {
     let mut metadata = [0u8; 256];
-    let Got::Bytes(m) = files::read_argument(4, &mut metadata) else {
+    let Got::Bytes(m) = files::payload(4, b"METADATA", &mut metadata) else {
         return;
     };
     let mut data = io::large_buffer();
-    let Got::Bytes(d) = files::read_argument(5, &mut data) else {
+    let Got::Bytes(d) = files::payload(5, b"DATA", &mut data) else {
         return;
     };
     write_from(

@@ -2,10 +2,12 @@
 --
 -- recordOf v w        the layout record of two words (document 01, "Layout words"): word 0 first, most significant byte first
 -- totalOf counts n    the sum of the first n counts
+-- plusOf a b          the sum of two numbers; the first where the sum has more than 64 bits
+-- largerOf a b        the larger of two numbers
 -- largestOf counts n  the largest of the first n counts
 use mathlib.Core.Bool.{cond}
 use mathlib.Core.List.{List, [], _∷_}
-use Prim.Native.Nat.{ℕ, zero, suc, _+_, _/_, _%_}
+use Prim.Native.Nat.{ℕ, zero, suc, _+_, _/_, _%_, _^_}
 use lib.ListN.{getD}
 use lib.Dec.{ltb}
 
@@ -17,6 +19,9 @@ recordOf v w =
 unfoldable pub totalOf : List ℕ → ℕ → ℕ
 totalOf counts zero = 0
 totalOf counts (suc n) = totalOf counts n + getD counts n 0
+
+unfoldable pub plusOf : ℕ → ℕ → ℕ
+plusOf a b = cond (ltb (a + b) (2 ^ 64)) (a + b) a
 
 abbrev pub largerOf : ℕ → ℕ → ℕ
 largerOf a b = cond (ltb a b) b a

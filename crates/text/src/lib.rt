@@ -4,6 +4,7 @@
 //   parse_bytes       bytes in hexadecimal, two digits each
 //   layout_record     the layout record of two words
 //   total, largest    of the flip counts of a page
+//   plus, larger      of two numbers
 //   without_prefix    the digits after 0x
 //   front, front_mut, front_exponents   the first places of a buffer
 //
@@ -18,8 +19,10 @@ pub use pairs::parse_bytes;
 pub use parts::front;
 pub use parts::front_exponents;
 pub use parts::front_mut;
+pub use parts::larger;
 pub use parts::largest;
 pub use parts::layout_record;
+pub use parts::plus;
 pub use parts::total;
 
 // What a text says: a number of at most 64 bits, or none.

@@ -2,7 +2,7 @@
 ghost use mathlib.Core.Path.{_≡_};
 ghost use Prim.Native.Nat.{_≤_};
 ghost use lib.ListN.{take};
-ghost use Rattle.text.specs.Parts.{recordOf, totalOf, largerOf, largestOf};
+ghost use Rattle.text.specs.Parts.{recordOf, totalOf, plusOf, largerOf, largestOf};
 
 // The layout record of two words of 32 bits, word 0 first, most significant byte first.
 pub fn layout_record(first: u32, second: u32) -> [u8; 8]
@@ -40,8 +40,18 @@ pub fn total(counts: &[u8; 256]) -> u64
     sum
 }
 
+// The sum of two numbers; the first where the sum has more than 64 bits.
+pub fn plus(a: u64, b: u64) -> u64
+    ensures { λ r. ⌜ r ≡ plusOf a b ⌝ }
+{
+    if 18446744073709551615 - b < a {
+        return a;
+    }
+    a + b
+}
+
 // The larger of two counts.
-fn larger(a: u8, b: u8) -> u8
+pub fn larger(a: u8, b: u8) -> u8
     ensures { λ r. ⌜ r ≡ largerOf a b ⌝ }
 {
     if a < b {

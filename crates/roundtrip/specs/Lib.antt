@@ -1,0 +1,2 @@
+-- Masks over pages.
+pub mod Mask

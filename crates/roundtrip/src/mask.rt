@@ -1,0 +1,78 @@
+// Masks: how many bits of each block they name, and turning those bits over.
+use bits::read::bit_at;
+use layout::Plan;
+use layout::block_covered;
+use layout::block_shape;
+use layout::block_start;
+ghost use mathlib.Core.Path.{_≡_};
+ghost use Prim.Native.Nat.{_+_, _<_};
+ghost use lib.ListN.{length};
+ghost use lib.Dec.{leb};
+ghost use Rattle.bits.specs.Bits.{bitOf, run};
+ghost use Rattle.layout.specs.Plan.{level};
+ghost use Rattle.code.specs.Word.{ones};
+ghost use Rattle.roundtrip.specs.Mask.{overlaid, named, fewBelow, allowed};
+
+// The number of ones of n bits from a position on.
+fn ones_at(mask: &[u8], position: usize, n: usize) -> usize
+    requires { ⌜ position + n < 18446744073709551616 ⌝ }
+    ensures { λ r. ⌜ r ≡ ones (run (bitOf (now (mask .entry))) position n) ⌝ }
+{
+    let mut count = 0;
+    let mut i = 0;
+    while i < n {
+        let bit = bit_at(mask, position + i);
+        count += bit as usize;
+        i += 1;
+    }
+    count
+}
+
+// Whether a mask names at most t covered bits of a block.
+fn block_allowed(plan: Plan, mask: &[u8], block: u16) -> bool
+    ensures { λ r. ⌜ r ≡ leb (named plan (now (mask .entry)) block) (level plan block) ⌝ }
+{
+    let position = block_start(plan, block);
+    let n = block_covered(plan, block);
+    let shape = block_shape(plan, block);
+    let count = ones_at(mask, position, n);
+    count <= shape.level as usize
+}
+
+// Whether a mask names at most t covered bits of each block.
+fn blocks_allowed(plan: Plan, mask: &[u8]) -> bool
+    ensures { λ r. ⌜ r ≡ fewBelow plan (now (mask .entry)) (plan .blocks) ⌝ }
+{
+    let blocks = plan.blocks;
+    let mut block = 0;
+    while block < blocks {
+        if !block_allowed(plan, mask, block) {
+            return false;
+        }
+        block += 1;
+    }
+    true
+}
+
+// Internal: whether a mask may be laid over a page.
+pub fn mask_allowed(plan: Plan, mask: &[u8]) -> bool
+    ensures { λ r. ⌜ r ≡ allowed plan (now (mask .entry)) ⌝ }
+{
+    if mask.len() != plan.size as usize {
+        return false;
+    }
+    blocks_allowed(plan, mask)
+}
+
+// Internal: turns over every bit of a page that the mask names.
+pub fn turn_over(mask: &[u8], page: &mut [u8])
+    requires { ⌜ length (now mask) ≡ length (now page) ⌝ }
+    ensures { λ r. ⌜ now (page .exit) ≡ overlaid (now (mask .entry)) (now (page .entry)) ⌝ }
+{
+    let n = page.len();
+    let mut i = 0;
+    while i < n {
+        page[i] = page[i] ^ mask[i];
+        i += 1;
+    }
+}
