@@ -1,0 +1,54 @@
+// Vectors that write a page.
+use crate::lines;
+
+fn write_answer(
+    words: &[u8],
+    metadata: &[u8],
+    data: &[u8],
+    page: &mut [u8],
+    line: &mut [u8],
+) -> usize {
+    let answer = page::write_page(words, metadata, data, page);
+    let at = lines::put_reply(line, page::write_number(answer), 0);
+    lines::put_buffer(line, at, page)
+}
+
+// Reads metadata and data into buffers of their lengths, and writes the page.
+fn write_body(
+    head: &[u8],
+    words: &[u8],
+    metadata: &mut [u8],
+    data: &mut [u8],
+    line: &mut [u8],
+) -> usize {
+    if !vector_io::fill(metadata) {
+        return 0;
+    }
+    if !vector_io::fill(data) {
+        return 0;
+    }
+    let mut page = [165u8; 65536];
+    let size = lines::length(head, 16);
+    write_answer(
+        words,
+        metadata,
+        data,
+        text::front_mut(&mut page, size),
+        line,
+    )
+}
+
+// The line for a write.
+pub fn write_line(head: &[u8], words: &[u8], line: &mut [u8]) -> usize {
+    let mut metadata = [0u8; 512];
+    let mut data = [0u8; 65536];
+    let m = lines::length(head, 20);
+    let d = lines::length(head, 24);
+    write_body(
+        head,
+        words,
+        text::front_mut(&mut metadata, m),
+        text::front_mut(&mut data, d),
+        line,
+    )
+}
