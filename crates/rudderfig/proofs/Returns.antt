@@ -7,9 +7,14 @@ use Rattle.page.specs.declared.WriteAnswer.the-variants as write
 use Rattle.page.specs.declared.ClaimAnswer.{ClaimAnswer}
 use Rattle.page.specs.declared.ClaimAnswer.the-variants as claim
 use Rattle.page.specs.Answers.{writeNumber, writeBlock, claimNumber}
-use Rattle.page_theory.specs.Calls.{Written, writeEnded, Claimed, claimEnded}
+use Rattle.page_read.specs.declared.ReadAnswer.{ReadAnswer}
+use Rattle.page_read.specs.declared.ReadAnswer.the-variants as read
+use Rattle.page_read.specs.declared.JudgeAnswer.{JudgeAnswer}
+use Rattle.page_read.specs.declared.JudgeAnswer.the-variants as judge
+use Rattle.page_read.specs.Answers.{readNumber, readBlock, judgeNumber, judgeBlock, judgeFlips}
+use Rattle.page_theory.specs.Calls.{Written, writeEnded, Read, readEnded, Judged, judgeEnded, Claimed, claimEnded}
 use Rattle.rudderfig.specs.Answer.{answerWord, doneWord, refusedWord}
-use Rattle.rudderfig.specs.Pages.{WriteReturns, claimWord}
+use Rattle.rudderfig.specs.Pages.{WriteReturns, ReadReturns, judgeWord, claimWord}
 
 module _ {a : WriteAnswer} {w : Written} {p : List ℕ} {r : ℕ} (e : writeEnded (writeNumber a) (writeBlock a) p ≡ w) where
   pub write-done : a ≡ write.Done → r ≡ doneWord 0 0 → WriteReturns w r p
@@ -19,6 +24,42 @@ module _ {a : WriteAnswer} {w : Written} {p : List ℕ} {r : ℕ} (e : writeEnde
   pub write-refused : {x : ℕ} → a ≡ write.Refused x → r ≡ refusedWord x 0 → WriteReturns w r p
   unfolding refusedWord writeNumber writeBlock
   write-refused h k = record { word = k ∙ simp (sym e, h); page = ap (λ w. w .page) e }
+
+-- the buffers are those that the call below left
+read-left : {x b : ℕ} {m d c : List ℕ} {w : Read} {r : ℕ} → readEnded x b m d c ≡ w → r ≡ answerWord x b 0 0 → ReadReturns w r m d c
+read-left e k =
+    record {
+      word = k ∙ ap (λ w. answerWord (w .reply) (w .block) 0 0) e;
+      metadata = ap (λ w. w .metadata) e;
+      «data» = ap (λ w. w .«data») e;
+      counts = ap (λ w. w .counts) e;
+    }
+
+module _ {a : ReadAnswer} {w : Read} {m d c : List ℕ} {r : ℕ} (e : readEnded (readNumber a) (readBlock a) m d c ≡ w) where
+  pub read-done : a ≡ read.Done → r ≡ doneWord 0 0 → ReadReturns w r m d c
+  unfolding doneWord readNumber readBlock
+  read-done h k = read-left e (k ∙ simp h)
+
+  pub read-refused : {x : ℕ} → a ≡ read.Refused x → r ≡ refusedWord x 0 → ReadReturns w r m d c
+  unfolding refusedWord readNumber readBlock
+  read-refused h k = read-left e (k ∙ simp h)
+
+  pub read-ruined : {b : ℕ} → a ≡ read.Ruined b → r ≡ refusedWord 9 b → ReadReturns w r m d c
+  unfolding refusedWord readNumber readBlock
+  read-ruined h k = read-left e (k ∙ simp h)
+
+module _ {a : JudgeAnswer} {w : Judged} {r : ℕ} (e : judgeEnded (judgeNumber a) (judgeBlock a) (judgeFlips a) ≡ w) where
+  pub judge-flips : {n : ℕ} → a ≡ judge.Flips n → r ≡ doneWord 0 n → r ≡ judgeWord w
+  unfolding doneWord judgeWord judgeNumber judgeBlock judgeFlips
+  judge-flips h k = k ∙ simp (sym e, h)
+
+  pub judge-refused : {x : ℕ} → a ≡ judge.Refused x → r ≡ refusedWord x 0 → r ≡ judgeWord w
+  unfolding refusedWord judgeWord judgeNumber judgeBlock judgeFlips
+  judge-refused h k = k ∙ simp (sym e, h)
+
+  pub judge-ruined : {b : ℕ} → a ≡ judge.Ruined b → r ≡ refusedWord 9 b → r ≡ judgeWord w
+  unfolding refusedWord judgeWord judgeNumber judgeBlock judgeFlips
+  judge-ruined h k = k ∙ simp (sym e, h)
 
 module _ {a : ClaimAnswer} {w : Claimed} {r : ℕ} (e : claimEnded (claimNumber a) ≡ w) where
   pub claim-accepted : a ≡ claim.Accepted → r ≡ doneWord 0 0 → r ≡ claimWord w

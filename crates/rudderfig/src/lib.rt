@@ -4,6 +4,8 @@
 //   rudderfig_locate_bit       where does a page bit belong?
 //   rudderfig_bit_position     where does a code bit lie?
 //   rudderfig_write_page       write a page from metadata and data
+//   rudderfig_read_page        read a page into metadata, data and flip counts
+//   rudderfig_judge_block      judge one block of a page
 //   rudderfig_check_claim      are these error locations, reported by a hardware locator, right?
 //   rudderfig_locate_errors    from a remainder alone, which bits are wrong?
 //
@@ -20,14 +22,16 @@ use layout::BitAnswer;
 use layout::PositionAnswer;
 use page::ClaimAnswer;
 use page::WriteAnswer;
+use page_read::JudgeAnswer;
+use page_read::ReadAnswer;
 ghost use mathlib.Core.Path.{_≡_};
 ghost use Rattle.bch.specs.Answers.{locateOf};
 ghost use Rattle.layout.specs.Acceptance.{acceptance};
 ghost use Rattle.layout.specs.Bits.{bitAnswer, positionAnswer};
-ghost use Rattle.page_theory.specs.Calls.{writeOf, claimOf};
+ghost use Rattle.page_theory.specs.Calls.{writeOf, readOf, judgeOf, claimOf};
 ghost use Rattle.rudderfig.specs.Bits.{acceptanceWord, bitWord, positionWord};
 ghost use Rattle.rudderfig.specs.Locating.{LocateReturns};
-ghost use Rattle.rudderfig.specs.Pages.{WriteReturns, claimWord};
+ghost use Rattle.rudderfig.specs.Pages.{WriteReturns, ReadReturns, judgeWord, claimWord};
 
 // Is this layout acceptable?
 #[no_mangle]
@@ -77,6 +81,38 @@ pub extern "C" fn rudderfig_write_page(
     match page::write_page(words, metadata, data, page) {
         WriteAnswer::Done => done(0, 0),
         WriteAnswer::Refused(reply) => refused(reply, 0),
+    }
+}
+
+// Reads a page into metadata, data and flip counts. Reply 9 names the lowest ruined block.
+#[no_mangle]
+pub extern "C" fn rudderfig_read_page(
+    words: &[u8],
+    page: &[u8],
+    metadata: &mut [u8],
+    data: &mut [u8],
+    counts: &mut [u8],
+) -> u64
+    ensures { λ r. ⌜ ReadReturns
+        (readOf (now (words .entry)) (now (page .entry)) (now (metadata .entry)) (now («data» .entry)) (now (counts .entry)))
+        r (now (metadata .exit)) (now («data» .exit)) (now (counts .exit)) ⌝ }
+{
+    match page_read::read_page(words, page, metadata, data, counts) {
+        ReadAnswer::Done => done(0, 0),
+        ReadAnswer::Refused(reply) => refused(reply, 0),
+        ReadAnswer::Ruined(block) => refused(9, block),
+    }
+}
+
+// Judges one block of a page. The value is the number of its flips; reply 9 names the block.
+#[no_mangle]
+pub extern "C" fn rudderfig_judge_block(words: &[u8], page: &[u8], block: u64) -> u64
+    ensures { λ r. ⌜ r ≡ judgeWord (judgeOf (now (words .entry)) (now (page .entry)) block) ⌝ }
+{
+    match page_read::judge_block(words, page, block) {
+        JudgeAnswer::Flips(flips) => done(0, flips as u32),
+        JudgeAnswer::Refused(reply) => refused(reply, 0),
+        JudgeAnswer::Ruined(ruined) => refused(9, ruined),
     }
 }
 

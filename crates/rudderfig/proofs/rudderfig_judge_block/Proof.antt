@@ -1,0 +1,60 @@
+-- `rudderfig::rudderfig_judge_block` meets its contract.
+use borrow.Author.Needs.{needs}
+use Rattle.rudderfig.proofs.Returns.{judge-flips, judge-refused, judge-ruined}
+use Rattle.rudderfig.proofs.rudderfig_judge_block.Statement.{statement}
+use Rattle.rudderfig.proofs.rudderfig_judge_block.Tie as tie
+
+judge-block-requires : tie.Need-judge-block-requires
+judge-block-requires c κs = search needs
+
+enum-known-flips : tie.Need-enum-known-flips
+enum-known-flips c = search needs
+
+cast-done : tie.Need-cast-done
+cast-done c = search needs
+
+done-requires : tie.Need-done-requires
+done-requires c κs = search needs
+
+enum-known-reply : tie.Need-enum-known-reply
+enum-known-reply c = search needs
+
+refused-requires : tie.Need-refused-requires
+refused-requires c κs = search needs
+
+enum-known-ruined : tie.Need-enum-known-ruined
+enum-known-ruined c = search needs
+
+refused-requires-2 : tie.Need-refused-requires-2
+refused-requires-2 c κs = search needs
+
+returns : tie.Need-returns
+returns c =
+    let known = c .before .before in
+    judge-flips (known .before .before .judge-block .ensures) (known .flips .given .1) (c .done .ensures)
+
+returns-2 : tie.Need-returns-2
+returns-2 c =
+    let known = c .before .before in
+    judge-refused (known .before .before .judge-block .ensures) (known .reply .given .1) (c .refused .ensures)
+
+returns-3 : tie.Need-returns-3
+returns-3 c =
+    let known = c .before .before in
+    judge-ruined (known .before .before .judge-block .ensures) (known .ruined .given .1) (c .refused2 .ensures)
+
+pub rudderfig-judge-block-spec : {M : Type 1} → statement M
+rudderfig-judge-block-spec =
+    tie.close
+    (tie.spec
+    judge-block-requires
+    enum-known-flips
+    cast-done
+    done-requires
+    enum-known-reply
+    refused-requires
+    enum-known-ruined
+    refused-requires-2
+    returns
+    returns-2
+    returns-3)

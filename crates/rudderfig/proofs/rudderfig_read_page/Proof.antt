@@ -1,0 +1,92 @@
+-- `rudderfig::rudderfig_read_page` meets its contract.
+use borrow.Author.Needs.{needs}
+use Rattle.rudderfig.proofs.Returns.{read-done, read-refused, read-ruined}
+use Rattle.rudderfig.proofs.rudderfig_read_page.Statement.{statement}
+use Rattle.rudderfig.proofs.rudderfig_read_page.Tie as tie
+
+read-page-requires : tie.Need-read-page-requires
+read-page-requires c κs = search needs
+
+enum-told : tie.Need-enum-told
+enum-told c = search needs
+
+done-requires : tie.Need-done-requires
+done-requires c κs = search needs
+
+enum-known-reply : tie.Need-enum-known-reply
+enum-known-reply c = search needs
+
+refused-requires : tie.Need-refused-requires
+refused-requires c κs = search needs
+
+enum-known-block : tie.Need-enum-known-block
+enum-known-block c = search needs
+
+refused-requires-2 : tie.Need-refused-requires-2
+refused-requires-2 c κs = search needs
+
+same-length : tie.Need-same-length
+same-length c = search needs
+
+same-length-2 : tie.Need-same-length-2
+same-length-2 c = search needs
+
+same-length-3 : tie.Need-same-length-3
+same-length-3 c = search needs
+
+returns : tie.Need-returns
+returns c =
+    let told = c .before in
+    read-done (told .before .before .before .before .before .before .before .before .read-page .ensures) (told .enum-told .given .1) (c .done .ensures)
+
+same-length-4 : tie.Need-same-length-4
+same-length-4 c = search needs
+
+same-length-5 : tie.Need-same-length-5
+same-length-5 c = search needs
+
+same-length-6 : tie.Need-same-length-6
+same-length-6 c = search needs
+
+returns-2 : tie.Need-returns-2
+returns-2 c =
+    let known = c .before .before in
+    read-refused (known .before .before .before .before .before .before .before .before .read-page .ensures) (known .reply .given .1) (c .refused .ensures)
+
+same-length-7 : tie.Need-same-length-7
+same-length-7 c = search needs
+
+same-length-8 : tie.Need-same-length-8
+same-length-8 c = search needs
+
+same-length-9 : tie.Need-same-length-9
+same-length-9 c = search needs
+
+returns-3 : tie.Need-returns-3
+returns-3 c =
+    let known = c .before .before in
+    read-ruined (known .before .before .before .before .before .before .before .before .read-page .ensures) (known .block .given .1) (c .refused2 .ensures)
+
+pub rudderfig-read-page-spec : {M : Type 1} → statement M
+rudderfig-read-page-spec =
+    tie.close
+    (tie.spec
+    read-page-requires
+    enum-told
+    done-requires
+    enum-known-reply
+    refused-requires
+    enum-known-block
+    refused-requires-2
+    same-length
+    same-length-2
+    same-length-3
+    returns
+    same-length-4
+    same-length-5
+    same-length-6
+    returns-2
+    same-length-7
+    same-length-8
+    same-length-9
+    returns-3)
