@@ -1,0 +1,71 @@
+-- `page_read::read::read_page` meets its contract.
+use mathlib.Core.Path.{sym, _∙_}
+use borrow.Author.Needs.{needs}
+use Rattle.page_theory.specs.Calls.{readFor, readOf}
+use Rattle.page_read.specs.Answers.{readNumber, readBlock}
+use Rattle.page_read.proofs.Plans.{accepted-planned}
+use Rattle.page_read.proofs.read.read_page.Statement.{statement}
+use Rattle.page_read.proofs.read.read_page.Tie as tie
+
+check-layout-requires : tie.Need-check-layout-requires
+check-layout-requires c κs = search needs
+
+enum-known-layout : tie.Need-enum-known-layout
+enum-known-layout c = search needs
+
+plan-of-requires : tie.Need-plan-of-requires
+plan-of-requires c κs = search needs
+
+read-in-requires : tie.Need-read-in-requires
+read-in-requires c κs =
+    let planned = c .before .before .before in
+    let known = planned .before .before in
+    let checked = known .before .before in
+    let words = checked .before .before .before .before .before in
+    rw (planned .plan-of .ensures)
+    (accepted-planned _ _ (λ i. words .shared-slice-known .given i .fits) (sym (checked .check-layout .ensures) ∙ known .layout .given .1))
+
+enum-known-refusal : tie.Need-enum-known-refusal
+enum-known-refusal c = search needs
+
+refusal-reply-requires : tie.Need-refusal-reply-requires
+refusal-reply-requires c κs = search needs
+
+same-length : tie.Need-same-length
+same-length c = search needs
+
+same-length-2 : tie.Need-same-length-2
+same-length-2 c = search needs
+
+same-length-3 : tie.Need-same-length-3
+same-length-3 c = search needs
+
+returns : tie.Need-returns
+unfolding readOf readFor
+returns c =
+    let done = c .before .before .before .before .before .before in
+    let planned = done .before .before .before .before in
+    let known = planned .before .before in
+    done .read-in .ensures ∙ simp (planned .plan-of .ensures, sym (known .before .before .check-layout .ensures), known .layout .given .1)
+
+returns-2 : tie.Need-returns-2
+unfolding readNumber readBlock readOf readFor
+returns-2 c =
+    let known = c .before .before in
+    simp (c .refusal-reply .ensures, sym (known .before .before .check-layout .ensures), known .refusal .given .1)
+
+pub read-page-spec : {M : Type 1} → statement M
+read-page-spec =
+    tie.close
+    (tie.spec
+    check-layout-requires
+    enum-known-layout
+    plan-of-requires
+    read-in-requires
+    enum-known-refusal
+    refusal-reply-requires
+    same-length
+    same-length-2
+    same-length-3
+    returns
+    returns-2)

@@ -1,0 +1,211 @@
+// Deciding the damaged blocks of a page, in ascending order, each once. What becomes of one block is the function `block_outcome`.
+// The exponents that repair a block are kept in a table with room for 64 exponents a block; their numbers are kept beside it.
+// Blocks that are not damaged have none.
+ghost use mathlib.Core.Path.{_≡_};
+ghost use Prim.Native.Nat.{_*_, _^_, _≤_, _<_};
+ghost use lib.ListN.{length};
+ghost use Rattle.field.specs.Field.{degree};
+ghost use Rattle.field.specs.Tables.{Tables};
+ghost use Rattle.layout.specs.Plan.{field, level, covered};
+ghost use Rattle.code.specs.Register.{register};
+ghost use Rattle.remainder.specs.Remainder.{Row};
+ghost use Rattle.bch.specs.Locating.{Finds};
+ghost use Rattle.page_read.specs.Looking.{Planned, Ready};
+ghost use Rattle.page_read.specs.Deciding.{KeptFor, BlockDecided, Underway, OneField, Decides};
+use crate::Decision;
+use crate::Scan;
+use crate::look::next_damaged;
+use crate::look::shape_row;
+use bch::Found;
+use bch::locate::find_errors;
+use layout::Plan;
+use layout::block_covered;
+use layout::block_shape;
+use powers::fill_tables;
+use remainder::Register;
+
+// Internal. What becomes of a block with this remainder: the exponents that repair it, or that there are none.
+pub fn block_outcome(
+    plan: Plan,
+    block: u16,
+    state: Register,
+    powers: &[u16; 16384],
+    logs: &[u16; 16384],
+) -> Found
+    requires { ⌜ (Planned plan) × (block < plan .blocks) × (Tables (field plan block) (now powers) (now logs)) ⌝ }
+    requires { ⌜ register (state .words) < 2 ^ (degree (field plan block) * level plan block) ⌝ }
+    ensures { λ r. ⌜ Finds (field plan block) (level plan block) (covered plan block) (register (state .words)) r ⌝ }
+{
+    let shape = block_shape(plan, block);
+    let f = shape.field;
+    let t = shape.level as usize;
+    let n = block_covered(plan, block);
+    find_errors(f, powers, logs, state, t, n)
+}
+
+// Keeps the exponents that were found for a block.
+fn keep(found: Found, block: u16, places: &mut [u16; 16384])
+    requires { ⌜ (block < 256) × (found .count ≤ 64) × (length (found .exponents) ≡ 64) × (length (now places) ≡ 16384) ⌝ }
+    ensures { λ r. ⌜ KeptFor block (found .count) (found .exponents) (now (places .entry)) (now (places .exit)) ⌝ }
+{
+    let count = found.count;
+    let exponents = found.exponents;
+    let at = 64 * block as usize;
+    let mut i = 0;
+    while i < count {
+        let k = at + i;
+        places[k] = exponents[i];
+        i += 1;
+    }
+}
+
+// Decides a block with this remainder: whether it can be repaired. If so, the exponents and their number are kept.
+fn decide_block(
+    plan: Plan,
+    block: u16,
+    state: Register,
+    powers: &[u16; 16384],
+    logs: &[u16; 16384],
+    places: &mut [u16; 16384],
+    flips: &mut [u8; 256],
+) -> bool
+    requires { ⌜ (Planned plan) × (block < plan .blocks) × (Tables (field plan block) (now powers) (now logs)) ⌝ }
+    requires { ⌜ register (state .words) < 2 ^ (degree (field plan block) * level plan block) ⌝ }
+    requires { ⌜ (length (now places) ≡ 16384) × (length (now flips) ≡ 256) ⌝ }
+    ensures { λ r. ⌜ BlockDecided plan block (register (state .words)) (now (places .entry)) (now (flips .entry)) (now (places .exit)) (now (flips .exit)) r ⌝ }
+{
+    let found = block_outcome(plan, block, state, powers, logs);
+    let located = found.located;
+    if !located {
+        return false;
+    }
+    keep(found, block, places);
+    let count = found.count;
+    let b = block as usize;
+    flips[b] = count as u8;
+    true
+}
+
+// Decides the damaged blocks from `scan` on with the tables of powers and logarithms of their field. `row` is that of the later
+// blocks.
+fn decide_from(
+    plan: Plan,
+    page: &[u8],
+    scan: Scan,
+    row: &[u64; 14],
+    powers: &[u16; 16384],
+    logs: &[u16; 16384],
+    places: &mut [u16; 16384],
+    flips: &mut [u8; 256],
+) -> Decision
+    requires { ⌜ (Ready plan (now page)) × (Row (plan .later .field) (plan .later .level) (now row)) × (Underway plan (now page) scan (now places) (now flips)) ⌝ }
+    requires { ⌜ (OneField plan (scan .block)) × (Tables (plan .later .field) (now powers) (now logs)) ⌝ }
+    ensures { λ r. ⌜ Decides plan (now (page .entry)) (now (places .exit)) (now (flips .exit)) r ⌝ }
+{
+    let blocks = plan.blocks;
+    let mut at = scan;
+    while at.block < blocks {
+        let b = at.block;
+        let state = at.state;
+        let sound = decide_block(plan, b, state, powers, logs, places, flips);
+        if !sound {
+            return Decision::Ruined(b);
+        }
+        at = next_damaged(plan, page, row, b + 1);
+    }
+    Decision::Sound
+}
+
+// Decides the damaged blocks from `scan` on, which all have the field of the later blocks.
+fn decide_alike(
+    plan: Plan,
+    page: &[u8],
+    scan: Scan,
+    row: &[u64; 14],
+    places: &mut [u16; 16384],
+    flips: &mut [u8; 256],
+) -> Decision
+    requires { ⌜ (Ready plan (now page)) × (Row (plan .later .field) (plan .later .level) (now row)) × (Underway plan (now page) scan (now places) (now flips)) ⌝ }
+    requires { ⌜ OneField plan (scan .block) ⌝ }
+    ensures { λ r. ⌜ Decides plan (now (page .entry)) (now (places .exit)) (now (flips .exit)) r ⌝ }
+{
+    let later = plan.later;
+    let f = later.field;
+    let mut powers = [0u16; 16384];
+    let mut logs = [0u16; 16384];
+    fill_tables(f, &mut powers, &mut logs);
+    decide_from(plan, page, scan, row, &powers, &logs, places, flips)
+}
+
+// Decides block 0, with the tables of its field.
+fn decide_first(
+    plan: Plan,
+    state: Register,
+    places: &mut [u16; 16384],
+    flips: &mut [u8; 256],
+) -> bool
+    requires { ⌜ (Planned plan) × (register (state .words) < 2 ^ (degree (field plan 0) * level plan 0)) ⌝ }
+    requires { ⌜ (length (now places) ≡ 16384) × (length (now flips) ≡ 256) ⌝ }
+    ensures { λ r. ⌜ BlockDecided plan 0 (register (state .words)) (now (places .entry)) (now (flips .entry)) (now (places .exit)) (now (flips .exit)) r ⌝ }
+{
+    let first = plan.first;
+    let f = first.field;
+    let mut powers = [0u16; 16384];
+    let mut logs = [0u16; 16384];
+    fill_tables(f, &mut powers, &mut logs);
+    decide_block(plan, 0, state, &powers, &logs, places, flips)
+}
+
+// Decides the blocks of a page whose block 0 is damaged and has another field than the later blocks.
+fn decide_mixed(
+    plan: Plan,
+    page: &[u8],
+    scan: Scan,
+    row: &[u64; 14],
+    places: &mut [u16; 16384],
+    flips: &mut [u8; 256],
+) -> Decision
+    requires { ⌜ (Ready plan (now page)) × (Row (plan .later .field) (plan .later .level) (now row)) × (Underway plan (now page) scan (now places) (now flips)) ⌝ }
+    requires { ⌜ scan .block ≡ 0 ⌝ }
+    ensures { λ r. ⌜ Decides plan (now (page .entry)) (now (places .exit)) (now (flips .exit)) r ⌝ }
+{
+    let state = scan.state;
+    let sound = decide_first(plan, state, places, flips);
+    if !sound {
+        return Decision::Ruined(0);
+    }
+    let next = next_damaged(plan, page, row, 1);
+    let block = next.block;
+    if block == plan.blocks {
+        return Decision::Sound;
+    }
+    decide_alike(plan, page, next, row, places, flips)
+}
+
+// Internal. Decides the blocks of a page of which `scan` is the first damaged one.
+pub fn decide(
+    plan: Plan,
+    page: &[u8],
+    scan: Scan,
+    places: &mut [u16; 16384],
+    flips: &mut [u8; 256],
+) -> Decision
+    requires { ⌜ (Ready plan (now page)) × (Underway plan (now page) scan (now places) (now flips)) ⌝ }
+    ensures { λ r. ⌜ Decides plan (now (page .entry)) (now (places .exit)) (now (flips .exit)) r ⌝ }
+{
+    let later = plan.later;
+    let row = shape_row(later);
+    let block = scan.block;
+    if block == 0 {
+        let first = plan.first;
+        let f = first.field;
+        let g = later.field;
+        let m = f.degree();
+        let n = g.degree();
+        if m != n {
+            return decide_mixed(plan, page, scan, &row, places, flips);
+        }
+        return decide_alike(plan, page, scan, &row, places, flips);
+    }
+    decide_alike(plan, page, scan, &row, places, flips)
+}

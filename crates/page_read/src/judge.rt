@@ -1,0 +1,94 @@
+// Judging one block of a page.
+ghost use mathlib.Core.Path.{_≡_};
+ghost use Prim.Native.Nat.{_*_, _^_, _<_};
+ghost use Rattle.field.specs.Field.{degree};
+ghost use Rattle.layout.specs.Plan.{field, level, covered};
+ghost use Rattle.code.specs.Register.{register};
+ghost use Rattle.bch.specs.Locating.{Finds};
+ghost use Rattle.page_theory.specs.Calls.{blockReply, judgeEnded, judgeIn, judgeOf};
+ghost use Rattle.page_read.specs.Answers.{judgeNumber, judgeBlock, judgeFlips};
+ghost use Rattle.page_read.specs.Looking.{Planned, Ready};
+use crate::JudgeAnswer;
+use crate::decide::block_outcome;
+use crate::look::block_remainder;
+use crate::look::shape_row;
+use bch::Found;
+use layout::Acceptance;
+use layout::Plan;
+use layout::block_shape;
+use layout::check_layout;
+use layout::plan_of;
+use layout::refusal_reply;
+use powers::fill_tables;
+use remainder::Register;
+use remainder::coefficients::is_zero;
+
+// The reply to a page's length and a block number.
+fn block_reply(plan: Plan, page: usize, block: u64) -> u8
+    ensures { λ r. ⌜ r ≡ blockReply plan page block ⌝ }
+{
+    if page != plan.size as usize {
+        return 5;
+    }
+    if plan.blocks as u64 <= block {
+        return 7;
+    }
+    0
+}
+
+// What becomes of a damaged block with this remainder. The tables are here, since only a damaged block needs them.
+fn damaged_outcome(plan: Plan, block: u16, state: Register) -> Found
+    requires { ⌜ (Planned plan) × (block < plan .blocks) ⌝ }
+    requires { ⌜ register (state .words) < 2 ^ (degree (field plan block) * level plan block) ⌝ }
+    ensures { λ r. ⌜ Finds (field plan block) (level plan block) (covered plan block) (register (state .words)) r ⌝ }
+{
+    let shape = block_shape(plan, block);
+    let f = shape.field;
+    let mut powers = [0u16; 16384];
+    let mut logs = [0u16; 16384];
+    fill_tables(f, &mut powers, &mut logs);
+    block_outcome(plan, block, state, &powers, &logs)
+}
+
+// Judges a block of a page of the right length.
+fn judge_lent(plan: Plan, page: &[u8], block: u16) -> JudgeAnswer
+    requires { ⌜ (Ready plan (now page)) × (block < plan .blocks) ⌝ }
+    ensures { λ r. ⌜ judgeEnded (judgeNumber r) (judgeBlock r) (judgeFlips r) ≡ judgeIn plan (now (page .entry)) block ⌝ }
+{
+    let shape = block_shape(plan, block);
+    let row = shape_row(shape);
+    let state = block_remainder(plan, page, &row, block);
+    let clean = is_zero(state);
+    if clean {
+        return JudgeAnswer::Flips(0);
+    }
+    let found = damaged_outcome(plan, block, state);
+    let located = found.located;
+    if !located {
+        return JudgeAnswer::Ruined(block);
+    }
+    let count = found.count;
+    JudgeAnswer::Flips(count as u8)
+}
+
+// Judges a block under the plan of an accepted layout.
+fn judge_in(plan: Plan, page: &[u8], block: u64) -> JudgeAnswer
+    requires { ⌜ Planned plan ⌝ }
+    ensures { λ r. ⌜ judgeEnded (judgeNumber r) (judgeBlock r) (judgeFlips r) ≡ judgeIn plan (now (page .entry)) block ⌝ }
+{
+    let reply = block_reply(plan, page.len(), block);
+    if reply != 0 {
+        return JudgeAnswer::Refused(reply);
+    }
+    judge_lent(plan, page, block as u16)
+}
+
+// Judges one block of a page: its flip count. `words` is the layout record.
+pub fn judge_block(words: &[u8], page: &[u8], block: u64) -> JudgeAnswer
+    ensures { λ r. ⌜ judgeEnded (judgeNumber r) (judgeBlock r) (judgeFlips r) ≡ judgeOf (now (words .entry)) (now (page .entry)) block ⌝ }
+{
+    match check_layout(words) {
+        Acceptance::Accepted(layout) => judge_in(plan_of(layout), page, block),
+        Acceptance::Refused(refusal) => JudgeAnswer::Refused(refusal_reply(refusal)),
+    }
+}

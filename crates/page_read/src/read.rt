@@ -1,0 +1,139 @@
+// Reading a page: every block is decided before any byte is written.
+ghost use mathlib.Core.Path.{_≡_};
+ghost use Prim.Native.Nat.{ℕ, _<_};
+ghost use Rattle.page_theory.specs.Damage.{Outputs};
+ghost use Rattle.page_theory.specs.Calls.{readEnded, readReply, readIn, readOf};
+ghost use Rattle.page_read.specs.Answers.{readNumber, readBlock};
+ghost use Rattle.page_read.specs.Looking.{Planned, Ready, remainderAt, Scanned};
+ghost use Rattle.page_read.specs.Deciding.{Decided};
+use crate::Decision;
+use crate::ReadAnswer;
+use crate::Scan;
+use crate::decide::decide;
+use crate::look::first_damaged;
+use crate::take::copy_messages;
+use crate::take::turn_blocks;
+use crate::take::write_counts;
+use layout::Acceptance;
+use layout::Plan;
+use layout::check_layout;
+use layout::plan_of;
+use layout::refusal_reply;
+
+// The reply to the lengths that a reader is lent.
+fn read_reply(plan: Plan, page: usize, metadata: usize, data: usize, counts: usize) -> u8
+    ensures { λ r. ⌜ r ≡ readReply plan page metadata «data» counts ⌝ }
+{
+    if page != plan.size as usize {
+        return 5;
+    }
+    if metadata != plan.metadata as usize {
+        return 6;
+    }
+    if data != plan.data as usize {
+        return 6;
+    }
+    if counts != plan.blocks as usize {
+        return 6;
+    }
+    0
+}
+
+// Takes everything out of a page of which no block is damaged.
+fn take_clean(plan: Plan, page: &[u8], metadata: &mut [u8], data: &mut [u8], counts: &mut [u8])
+    requires { ⌜ (Ready plan (now page)) × (Outputs plan (now metadata) (now «data») (now counts)) ⌝ }
+    requires { ⌜ ((b : ℕ) → b < plan .blocks → remainderAt plan (now page) b ≡ 0) ⌝ }
+    ensures { λ r. ⌜ readEnded 0 0 (now (metadata .exit)) (now («data» .exit)) (now (counts .exit))
+        ≡ readIn plan (now (page .entry)) (now (metadata .entry)) (now («data» .entry)) (now (counts .entry)) ⌝ }
+{
+    let flips = [0u8; 256];
+    copy_messages(plan, page, metadata, data);
+    write_counts(counts, &flips);
+}
+
+// Takes everything out of a page of which every block is decided.
+fn take_decided(
+    plan: Plan,
+    page: &[u8],
+    places: &[u16; 16384],
+    flips: &[u8; 256],
+    metadata: &mut [u8],
+    data: &mut [u8],
+    counts: &mut [u8],
+)
+    requires { ⌜ (Ready plan (now page)) × (Outputs plan (now metadata) (now «data») (now counts)) ⌝ }
+    requires { ⌜ Decided plan (now page) (plan .blocks) (now places) (now flips) ⌝ }
+    ensures { λ r. ⌜ readEnded 0 0 (now (metadata .exit)) (now («data» .exit)) (now (counts .exit))
+        ≡ readIn plan (now (page .entry)) (now (metadata .entry)) (now («data» .entry)) (now (counts .entry)) ⌝ }
+{
+    copy_messages(plan, page, metadata, data);
+    turn_blocks(plan, places, flips, metadata, data);
+    write_counts(counts, flips);
+}
+
+// Reads a page of which `scan` is the first damaged block. The tables are here, since only a damaged page needs them.
+fn read_damaged(
+    plan: Plan,
+    page: &[u8],
+    scan: Scan,
+    metadata: &mut [u8],
+    data: &mut [u8],
+    counts: &mut [u8],
+) -> ReadAnswer
+    requires { ⌜ (Ready plan (now page)) × (Outputs plan (now metadata) (now «data») (now counts)) ⌝ }
+    requires { ⌜ Scanned plan (now page) 0 scan ⌝ }
+    ensures { λ r. ⌜ readEnded (readNumber r) (readBlock r) (now (metadata .exit)) (now («data» .exit)) (now (counts .exit))
+        ≡ readIn plan (now (page .entry)) (now (metadata .entry)) (now («data» .entry)) (now (counts .entry)) ⌝ }
+{
+    let mut places = [0u16; 16384];
+    let mut flips = [0u8; 256];
+    match decide(plan, page, scan, &mut places, &mut flips) {
+        Decision::Ruined(block) => ReadAnswer::Ruined(block),
+        Decision::Sound => {
+            take_decided(plan, page, &places, &flips, metadata, data, counts);
+            ReadAnswer::Done
+        }
+    }
+}
+
+// Reads a page under the plan of an accepted layout.
+fn read_in(
+    plan: Plan,
+    page: &[u8],
+    metadata: &mut [u8],
+    data: &mut [u8],
+    counts: &mut [u8],
+) -> ReadAnswer
+    requires { ⌜ Planned plan ⌝ }
+    ensures { λ r. ⌜ readEnded (readNumber r) (readBlock r) (now (metadata .exit)) (now («data» .exit)) (now (counts .exit))
+        ≡ readIn plan (now (page .entry)) (now (metadata .entry)) (now («data» .entry)) (now (counts .entry)) ⌝ }
+{
+    let reply = read_reply(plan, page.len(), metadata.len(), data.len(), counts.len());
+    if reply != 0 {
+        return ReadAnswer::Refused(reply);
+    }
+    let scan = first_damaged(plan, page);
+    let block = scan.block;
+    if block == plan.blocks {
+        take_clean(plan, page, metadata, data, counts);
+        return ReadAnswer::Done;
+    }
+    read_damaged(plan, page, scan, metadata, data, counts)
+}
+
+// Reads a page into metadata, data and flip counts. `words` is the layout record.
+pub fn read_page(
+    words: &[u8],
+    page: &[u8],
+    metadata: &mut [u8],
+    data: &mut [u8],
+    counts: &mut [u8],
+) -> ReadAnswer
+    ensures { λ r. ⌜ readEnded (readNumber r) (readBlock r) (now (metadata .exit)) (now («data» .exit)) (now (counts .exit))
+        ≡ readOf (now (words .entry)) (now (page .entry)) (now (metadata .entry)) (now («data» .entry)) (now (counts .entry)) ⌝ }
+{
+    match check_layout(words) {
+        Acceptance::Accepted(layout) => read_in(plan_of(layout), page, metadata, data, counts),
+        Acceptance::Refused(refusal) => ReadAnswer::Refused(refusal_reply(refusal)),
+    }
+}
