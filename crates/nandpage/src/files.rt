@@ -1,5 +1,7 @@
 // Files: read into buffers, and written from them. An error is printed where it happens.
 use crate::say;
+use libc::SEEK_END;
+use libc::SEEK_SET;
 use libc::STDIN_FILENO;
 
 // What came of reading: so many bytes are in the buffer, or an error was printed.
@@ -109,4 +111,14 @@ pub fn save(i: usize, name: &[u8], bytes: &[u8]) -> bool {
         File::Dash => true,
         File::Failed => false,
     }
+}
+
+// Whether a file has at most so many bytes. A pipe is not known to.
+pub fn is_short(fd: i32, most: u16) -> bool {
+    let end = libc::lseek(fd, 0, SEEK_END);
+    libc::lseek(fd, 0, SEEK_SET);
+    if end < 0 {
+        return false;
+    }
+    end <= most as i64
 }

@@ -3,7 +3,7 @@ use crate::say;
 
 pub fn unknown() {
     say::error(
-        b"no such command: there are layout, bits, write, locate and claim; nandpage --help says more",
+        b"no such command: there are layout, bits, write, read, judge, locate and claim; nandpage --help says more",
     );
 }
 

@@ -6,6 +6,9 @@
 //   help.rt        the help
 //   layouts.rt     the commands layout and bits
 //   writing.rt     the command write
+//   reading.rt     the command read
+//   dumping.rt     a dump of many pages, read page by page
+//   judging.rt     the command judge
 //   locating.rt    the command locate
 //   claiming.rt    the command claim
 //
@@ -13,10 +16,13 @@
 // answered comes from the proved calls; here it is only put into words.
 mod arguments;
 mod claiming;
+mod dumping;
 mod files;
 mod help;
+mod judging;
 mod layouts;
 mod locating;
+mod reading;
 mod say;
 mod writing;
 
@@ -25,6 +31,8 @@ enum Command {
     Layout,
     Bits,
     Write,
+    Read,
+    Judge,
     Locate,
     Claim,
     Help,
@@ -40,6 +48,12 @@ fn command_of(name: &[u8]) -> Command {
     }
     if check::same(name, b"write") {
         return Command::Write;
+    }
+    if check::same(name, b"read") {
+        return Command::Read;
+    }
+    if check::same(name, b"judge") {
+        return Command::Judge;
     }
     if check::same(name, b"locate") {
         return Command::Locate;
@@ -64,6 +78,8 @@ fn run(command: Command) {
         Command::Layout => layouts::layout(),
         Command::Bits => layouts::bits(),
         Command::Write => writing::write(),
+        Command::Read => reading::read(),
+        Command::Judge => judging::judge(),
         Command::Locate => locating::locate(),
         Command::Claim => claiming::claim(),
         Command::Help => help::all(),

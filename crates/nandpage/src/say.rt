@@ -59,6 +59,19 @@ pub fn page_refused(reply_number: u8, plan: Plan, length_found: usize) {
     text(b"\n");
 }
 
+// A block that has no codeword within t flips. Its line is not ended.
+pub fn ruined(block: u16) {
+    fact(b"reply 9 block ", block as u64, b": ");
+    meaning(9);
+}
+
+// How many pages of a dump are read, on standard error.
+pub fn progress(pages: u64) {
+    io::write_all(STDERR_FILENO, b"nandpage: ");
+    io::print_decimal(STDERR_FILENO, pages);
+    io::write_all(STDERR_FILENO, b" pages so far\n");
+}
+
 // An error's line.
 pub fn error(what: &[u8]) {
     io::write_all(STDERR_FILENO, b"nandpage: ");
