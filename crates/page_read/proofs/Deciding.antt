@@ -73,19 +73,20 @@ module _ {b n : ℕ} {ps before after : List ℕ} (h : KeptFor b n ps before aft
 -- one block
 
 module _ (q : Plan) (b x : ℕ) {r : Found} (finds : Finds (field q b) (level q b) (covered q b) x r) where
-  pub found-repaired : {places places' : List ℕ} (flips : List ℕ) → r .located ≡ true → KeptFor b (r .count) (r .exponents) places places' → level q b ≤ 62
-      → b < length flips → BlockDecided q b x places flips places' (set flips b (r .count)) true
+  pub found-repaired : {places places' : List ℕ} {n : ℕ} (flips : List ℕ) → r .located ≡ true → n ≡ r .count
+      → KeptFor b (r .count) (r .exponents) places places' → level q b ≤ 62 → b < length flips
+      → BlockDecided q b x places flips places' (set flips b n) true
   unfolding answer
-  found-repaired {places} {places'} flips e h l i =
+  found-repaired {places} {places'} {n} flips e k h l i =
       let z = finds .few in
       let s = finds .size in
       record {
-        repaired = λ t. sym (finds .is) ∙ rw (e, getD-set-same flips b (r .count) 0 i, kept-own h (omega arith));
-        ruined = λ t. absurd (let n : _≡_ {A = ℕ} 0 1 = cc in omega arith);
+        repaired = λ t. sym (finds .is) ∙ rw (e, getD-set-same flips b n 0 i, k, kept-own h (omega arith));
+        ruined = λ t. absurd (let z : _≡_ {A = ℕ} 0 1 = cc in omega arith);
         other-places = kept-others h;
-        other-flips = λ c o. getD-set-other flips b c (r .count) 0 o;
+        other-flips = λ c o. getD-set-other flips b c n 0 o;
         places-length = h .same;
-        flips-length = length-set flips b (r .count);
+        flips-length = length-set flips b n;
       }
 
   pub found-ruined : (places flips : List ℕ) → r .located ≡ false → BlockDecided q b x places flips places flips false

@@ -125,11 +125,12 @@ module _ (q : Plan) (page : List ℕ) (ready : Ready q page) (b : ℕ) (inside :
     judge-ruined e = sym (judge-refuses q page b (ready .size) inside
         (located-ruined q page (ready .plan .valid) b inside (rw (← left) (sym (finds .is) ∙ rw e))))
 
-    pub judge-found : r .located ≡ true → judgeEnded 0 0 (r .count) ≡ judgeIn q page b
+    pub judge-found : {n : ℕ} → r .located ≡ true → n ≡ r .count → judgeEnded 0 0 n ≡ judgeIn q page b
     unfolding answer
-    judge-found e =
+    judge-found e k =
         let f = finds .few in
         let s = finds .size in
         let g = located-gives q page (ready .plan .valid) b inside (take (r .count) (r .exponents)) (rw (← left) (sym (finds .is) ∙ rw e)) in
         let n = ready .plan .valid .strong b inside in
-        sym (judge-gives q page b (ready .size) inside (ready .plan .valid) _ (r .count) (rw (length-take-le (r .count) (r .exponents) (omega arith)) at g))
+        rw k (sym (judge-gives q page b (ready .size) inside (ready .plan .valid) _ (r .count)
+        (rw (length-take-le (r .count) (r .exponents) (omega arith)) at g)))

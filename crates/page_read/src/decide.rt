@@ -43,6 +43,15 @@ pub fn block_outcome(
     find_errors(f, powers, logs, state, t, n)
 }
 
+// Internal. The flip count of a block that can be repaired. Every exponent is a flip, in the message or in the parity.
+pub fn flip_count(found: Found) -> u8
+    requires { ⌜ found .count ≤ 62 ⌝ }
+    ensures { λ r. ⌜ r ≡ found .count ⌝ }
+{
+    let count = found.count;
+    count as u8
+}
+
 // Keeps the exponents that were found for a block.
 fn keep(found: Found, block: u16, places: &mut [u16; 16384])
     requires { ⌜ (block < 256) × (found .count ≤ 64) × (length (found .exponents) ≡ 64) × (length (now places) ≡ 16384) ⌝ }
@@ -80,9 +89,9 @@ fn decide_block(
         return false;
     }
     keep(found, block, places);
-    let count = found.count;
+    let count = flip_count(found);
     let b = block as usize;
-    flips[b] = count as u8;
+    flips[b] = count;
     true
 }
 

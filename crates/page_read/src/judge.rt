@@ -10,6 +10,7 @@ ghost use Rattle.page_read.specs.Answers.{judgeNumber, judgeBlock, judge
 ghost use Rattle.page_read.specs.Looking.{Planned, Ready};
 use crate::JudgeAnswer;
 use crate::decide::block_outcome;
+use crate::decide::flip_count;
 use crate::look::block_remainder;
 use crate::look::shape_row;
 use bch::Found;
@@ -30,7 +31,7 @@ fn block_reply(plan: Plan, page: usize, block: u64) -> u8
     if page != plan.size as usize {
         return 5;
     }
-    if plan.blocks as u64 <= block {
+    if (plan.blocks as u64) < block {
         return 7;
     }
     0
@@ -67,8 +68,8 @@ fn judge_lent(plan: Plan, page: &[u8], block: u16) -> JudgeAnswer
     if !located {
         return JudgeAnswer::Ruined(block);
     }
-    let count = found.count;
-    JudgeAnswer::Flips(count as u8)
+    let count = flip_count(found);
+    JudgeAnswer::Flips(count)
 }
 
 // Judges a block under the plan of an accepted layout.

@@ -154,7 +154,7 @@ pub fn write_counts(counts: &mut [u8], flips: &[u8; 256])
     ensures { λ r. ⌜ Counted (now (counts .entry)) (now (flips .entry)) (now (counts .exit)) ⌝ }
 {
     let n = counts.len();
-    let mut b = 0;
+    let mut b: usize = 0;
     while b < n {
         counts[b] = flips[b];
         b += 1;

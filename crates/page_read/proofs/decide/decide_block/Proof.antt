@@ -18,8 +18,8 @@ keep-requires c κs =
     let p = c .before .before .before .pre in
     (omega (arith, p .0 .0 .few, p .0 .1), omega (arith, r .few, p .0 .0 .valid .strong _ (p .0 .1)), r .size, p .1 .1 .0)
 
-cast-flips : tie.Need-cast-flips
-cast-flips c =
+flip-count-requires : tie.Need-flip-count-requires
+flip-count-requires c κs =
     let p = c .before .before .before .before .pre .0 in
     omega (arith, c .before .before .before .block-outcome .ensures .few, p .0 .valid .strong _ (p .1))
 
@@ -28,9 +28,10 @@ element-write-flips c = search needs
 
 returns-2 : tie.Need-returns-2
 returns-2 c =
-    let p = c .before .before .before .before .pre in
-    found-repaired _ _ _ (c .before .before .before .block-outcome .ensures) _ (not-false _ (c .before .before .if1 .left)) (c .keep .ensures)
-    (p .0 .0 .valid .strong _ (p .0 .1)) (omega (arith, p .0 .0 .few, p .0 .1, p .1 .1 .1))
+    let k = c .before in
+    let p = k .before .before .before .before .pre in
+    found-repaired _ _ _ (k .before .before .before .block-outcome .ensures) _ (not-false _ (k .before .before .if1 .left)) (c .flip-count .ensures)
+    (k .keep .ensures) (p .0 .0 .valid .strong _ (p .0 .1)) (omega (arith, p .0 .0 .few, p .0 .1, p .1 .1 .1))
 
 pub decide-block-spec : {M : Type 1} → statement M
 decide-block-spec =
@@ -39,6 +40,6 @@ decide-block-spec =
     block-outcome-requires
     returns
     keep-requires
-    cast-flips
+    flip-count-requires
     element-write-flips
     returns-2)

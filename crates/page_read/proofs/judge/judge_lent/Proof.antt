@@ -45,8 +45,8 @@ returns-2 c =
     let p = r .before .before .before .before .before .pre in
     judge-ruined _ _ (p .0) _ (p .1) (r .block-remainder .ensures) (c .before .damaged-outcome .ensures) (not-true _ (c .if2 .taken))
 
-cast-t14 : tie.Need-cast-t14
-cast-t14 c =
+flip-count-requires : tie.Need-flip-count-requires
+flip-count-requires c κs =
     let r = c .before .before .before .before in
     let p = r .before .before .before .before .before .pre in
     omega (arith, c .before .damaged-outcome .ensures .few, p .0 .plan .valid .strong _ (p .1))
@@ -54,9 +54,10 @@ cast-t14 c =
 returns-3 : tie.Need-returns-3
 unfolding judgeNumber judgeBlock judgeFlips
 returns-3 c =
-    let r = c .before .before .before .before in
+    let f = c .before in
+    let r = f .before .before .before .before in
     let p = r .before .before .before .before .before .pre in
-    judge-found _ _ (p .0) _ (p .1) (r .block-remainder .ensures) (c .before .damaged-outcome .ensures) (not-false _ (c .if2 .left))
+    judge-found _ _ (p .0) _ (p .1) (r .block-remainder .ensures) (f .before .damaged-outcome .ensures) (not-false _ (f .if2 .left)) (c .flip-count .ensures)
 
 pub judge-lent-spec : {M : Type 1} → statement M
 judge-lent-spec =
@@ -69,5 +70,5 @@ judge-lent-spec =
     returns
     damaged-outcome-requires
     returns-2
-    cast-t14
+    flip-count-requires
     returns-3)
