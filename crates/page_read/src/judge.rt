@@ -31,7 +31,7 @@ fn block_reply(plan: Plan, page: usize, block: u64) -> u8
     if page != plan.size as usize {
         return 5;
     }
-    if (plan.blocks as u64) < block {
+    if plan.blocks as u64 <= block {
         return 7;
     }
     0
