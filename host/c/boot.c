@@ -1,0 +1,149 @@
+/*
+ * The library as a boot loader has it: freestanding, with no C library, on a stack of its own that is as large as the header says. Writes a page of two
+ * blocks (case E of document 01), damages it, reads it back, then ruins it. The exit status is 0 where every byte is as it should be, and else
+ * the number of the first step that was not.
+ */
+#include "rudderfig.h"
+
+/* What the archive needs from its surroundings. */
+
+void *memcpy(void *restrict to, const void *restrict from, size_t n)
+{
+    void *start = to;
+    __asm__ volatile("rep movsb" : "+D"(to), "+S"(from), "+c"(n) : : "memory");
+    return start;
+}
+
+void *memset(void *to, int value, size_t n)
+{
+    void *start = to;
+    __asm__ volatile("rep stosb" : "+D"(to), "+c"(n) : "a"(value) : "memory");
+    return start;
+}
+
+static int same(const uint8_t *found, const uint8_t *wanted, size_t n)
+{
+    size_t i = 0;
+    while (i < n && found[i] == wanted[i])
+        i++;
+    return i == n;
+}
+
+static const uint8_t record[8] = {0x01, 0x00, 0x08, 0x01, 0x00, 0x0F, 0x08, 0x01};
+static const uint8_t payload[8] = {0x01, 0x23, 0x45, 0x67, 0x89, 0xAB, 0xCD, 0xEF};
+static const uint8_t written[15] = {0x01, 0x23, 0x45, 0x67, 0x32, 0x8F, 0xB5, 0x62, 0x6A, 0xF3, 0x7B, 0xC5, 0xFC, 0x52, 0x9F};
+
+static uint64_t read_into(const uint8_t *page, uint8_t *data, uint8_t *counts)
+{
+    return rudderfig_read_page(record, sizeof record, page, sizeof written, NULL, 0, data, sizeof payload, counts, 2);
+}
+
+/* The page of all zeros has only the tail bits set; with bit 57 of block 0 turned over it reads as zeros again, with counts 1 and 0. */
+static int zeros_read_back(void)
+{
+    static const uint8_t zeros[15] = {[14] = 0x0F};
+    static const uint16_t right[1] = {57}, twice[2] = {57, 57};
+    uint8_t page[15], data[8] = {0}, counts[2] = {9, 9};
+    if (rudderfig_write_page(record, sizeof record, NULL, 0, data, sizeof data, page, sizeof page) != RUDDERFIG_DONE)
+        return 0;
+    if (!same(page, zeros, sizeof page))
+        return 0;
+    page[0] = 0x80;
+    data[3] = 0xFF;
+    if (read_into(page, data, counts) != RUDDERFIG_DONE || !same(data, zeros, sizeof data) || counts[0] != 1 || counts[1] != 0)
+        return 0;
+    return rudderfig_check_claim(record, sizeof record, page, sizeof page, 0, right, 1) == RUDDERFIG_DONE
+        && rudderfig_check_claim(record, sizeof record, page, sizeof page, 0, twice, 2) == RUDDERFIG_CLAIM_WRONG;
+}
+
+static int boot(void)
+{
+    uint8_t page[15], data[8], counts[2];
+    uint64_t answer;
+
+    if (rudderfig_check_layout(record, sizeof record) != RUDDERFIG_DONE || rudderfig_check_layout(NULL, 0) != RUDDERFIG_BUFFER_LENGTH)
+        return 1;
+    answer = rudderfig_locate_bit(record, sizeof record, 59);
+    if (rudderfig_in_tail(answer) || rudderfig_located_block(answer) != 1 || rudderfig_located_exponent(answer) != 56)
+        return 2;
+    if (rudderfig_value(rudderfig_bit_position(record, sizeof record, 1, 56)) != 59)
+        return 3;
+    if (!rudderfig_in_tail(rudderfig_locate_bit(record, sizeof record, 116)))
+        return 4;
+
+    answer = rudderfig_write_page(record, sizeof record, NULL, 0, payload, sizeof payload, page, sizeof page);
+    if (answer != RUDDERFIG_DONE || !same(page, written, sizeof page))
+        return 5;
+
+    /* Two flips in block 0, one in block 1, and all tail bits. */
+    page[0] ^= 0x81;
+    page[7] ^= 0x10;
+    page[14] ^= 0x0F;
+    if (rudderfig_value(rudderfig_judge_block(record, sizeof record, page, sizeof page, 0)) != 2)
+        return 6;
+    if (read_into(page, data, counts) != RUDDERFIG_DONE || !same(data, payload, sizeof data) || counts[0] != 2 || counts[1] != 1)
+        return 7;
+
+    /* A third flip in block 0 leaves no codeword near: the page is refused and the outputs keep what they held. */
+    page[1] ^= 0x80;
+    memset(data, 0x5A, sizeof data);
+    memset(counts, 0x5A, sizeof counts);
+    answer = read_into(page, data, counts);
+    if (rudderfig_reply(answer) != RUDDERFIG_UNCORRECTABLE || rudderfig_block(answer) != 0 || rudderfig_value(answer) != 0)
+        return 8;
+    for (size_t i = 0; i < sizeof data; i++)
+        if (data[i] != 0x5A || counts[i % 2] != 0x5A)
+            return 9;
+
+    return zeros_read_back() ? 0 : 10;
+}
+
+/* A stack of the size that the header names and what this program itself uses, between two filled areas that the calls must leave alone. */
+
+enum { OWN = 1024, AROUND = 4096 };
+
+static _Alignas(16) uint8_t stack[AROUND + RUDDERFIG_STACK + OWN + AROUND];
+
+static int untouched(const uint8_t *area)
+{
+    size_t i = 0;
+    while (i < AROUND && area[i] == 0xA5)
+        i++;
+    return i == AROUND;
+}
+
+int boot_on_own_stack(uint8_t *top);
+
+__asm__(
+    ".globl boot_on_own_stack\n"
+    "boot_on_own_stack:\n"
+    "    push %rbx\n"
+    "    mov %rsp, %rbx\n"
+    "    mov %rdi, %rsp\n"
+    "    call run_boot\n"
+    "    mov %rbx, %rsp\n"
+    "    pop %rbx\n"
+    "    ret\n");
+
+int run_boot(void)
+{
+    return boot();
+}
+
+int start(void)
+{
+    int step;
+    memset(stack, 0xA5, sizeof stack);
+    step = boot_on_own_stack(stack + sizeof stack - AROUND);
+    if (step != 0)
+        return step;
+    return untouched(stack) && untouched(stack + sizeof stack - AROUND) ? 0 : 11;
+}
+
+__asm__(
+    ".globl _start\n"
+    "_start:\n"
+    "    call start\n"
+    "    mov %eax, %edi\n"
+    "    mov $60, %eax\n"
+    "    syscall\n");

@@ -1,0 +1,205 @@
+//! The C interface of the static archive, as a library.
+
+use model::library::Library;
+use std::ptr;
+
+mod interface {
+    unsafe extern "C" {
+        pub fn rudderfig_check_layout(record: *const u8, record_len: usize) -> u64;
+
+        pub fn rudderfig_locate_bit(record: *const u8, record_len: usize, position: u64) -> u64;
+
+        pub fn rudderfig_bit_position(
+            record: *const u8,
+            record_len: usize,
+            block: u64,
+            exponent: u64,
+        ) -> u64;
+
+        pub fn rudderfig_write_page(
+            record: *const u8,
+            record_len: usize,
+            metadata: *const u8,
+            metadata_len: usize,
+            data: *const u8,
+            data_len: usize,
+            page: *mut u8,
+            page_len: usize,
+        ) -> u64;
+
+        pub fn rudderfig_read_page(
+            record: *const u8,
+            record_len: usize,
+            page: *const u8,
+            page_len: usize,
+            metadata: *mut u8,
+            metadata_len: usize,
+            data: *mut u8,
+            data_len: usize,
+            counts: *mut u8,
+            counts_len: usize,
+        ) -> u64;
+
+        pub fn rudderfig_judge_block(
+            record: *const u8,
+            record_len: usize,
+            page: *const u8,
+            page_len: usize,
+            block: u64,
+        ) -> u64;
+
+        pub fn rudderfig_locate_errors(
+            level_field: u64,
+            field_choice: u64,
+            n: u64,
+            remainder: *const u8,
+            remainder_len: usize,
+            places: *mut u16,
+            places_len: usize,
+        ) -> u64;
+
+        pub fn rudderfig_check_claim(
+            record: *const u8,
+            record_len: usize,
+            page: *const u8,
+            page_len: usize,
+            block: u64,
+            claims: *const u16,
+            claims_len: usize,
+        ) -> u64;
+    }
+}
+
+/// The pointer that is handed over for an empty slice.
+#[derive(Clone, Copy, Debug)]
+pub enum EmptyPointer {
+    Own,
+    Null,
+    Dangling,
+}
+
+/// The linked archive.
+pub struct Archive {
+    pub empty: EmptyPointer,
+}
+
+impl Archive {
+    fn of<T>(&self, slice: &[T]) -> *const T {
+        match self.empty {
+            EmptyPointer::Null if slice.is_empty() => ptr::null(),
+            EmptyPointer::Dangling if slice.is_empty() => ptr::dangling(),
+            _ => slice.as_ptr(),
+        }
+    }
+
+    fn of_mut<T>(&self, slice: &mut [T]) -> *mut T {
+        match self.empty {
+            EmptyPointer::Null if slice.is_empty() => ptr::null_mut(),
+            EmptyPointer::Dangling if slice.is_empty() => ptr::dangling_mut(),
+            _ => slice.as_mut_ptr(),
+        }
+    }
+}
+
+// SAFETY of all calls: each pointer comes with the length of the slice it was taken from.
+impl Library for Archive {
+    fn check_layout(&self, record: &[u8]) -> u64 {
+        unsafe { interface::rudderfig_check_layout(self.of(record), record.len()) }
+    }
+
+    fn locate_bit(&self, record: &[u8], position: u64) -> u64 {
+        unsafe { interface::rudderfig_locate_bit(self.of(record), record.len(), position) }
+    }
+
+    fn bit_position(&self, record: &[u8], block: u64, exponent: u64) -> u64 {
+        unsafe {
+            interface::rudderfig_bit_position(self.of(record), record.len(), block, exponent)
+        }
+    }
+
+    fn write_page(&self, record: &[u8], metadata: &[u8], data: &[u8], page: &mut [u8]) -> u64 {
+        unsafe {
+            interface::rudderfig_write_page(
+                self.of(record),
+                record.len(),
+                self.of(metadata),
+                metadata.len(),
+                self.of(data),
+                data.len(),
+                self.of_mut(page),
+                page.len(),
+            )
+        }
+    }
+
+    fn read_page(
+        &self,
+        record: &[u8],
+        page: &[u8],
+        metadata: &mut [u8],
+        data: &mut [u8],
+        counts: &mut [u8],
+    ) -> u64 {
+        unsafe {
+            interface::rudderfig_read_page(
+                self.of(record),
+                record.len(),
+                self.of(page),
+                page.len(),
+                self.of_mut(metadata),
+                metadata.len(),
+                self.of_mut(data),
+                data.len(),
+                self.of_mut(counts),
+                counts.len(),
+            )
+        }
+    }
+
+    fn judge_block(&self, record: &[u8], page: &[u8], block: u64) -> u64 {
+        unsafe {
+            interface::rudderfig_judge_block(
+                self.of(record),
+                record.len(),
+                self.of(page),
+                page.len(),
+                block,
+            )
+        }
+    }
+
+    fn locate_errors(
+        &self,
+        level_field: u64,
+        field_choice: u64,
+        n: u64,
+        remainder: &[u8],
+        places: &mut [u16],
+    ) -> u64 {
+        unsafe {
+            interface::rudderfig_locate_errors(
+                level_field,
+                field_choice,
+                n,
+                self.of(remainder),
+                remainder.len(),
+                self.of_mut(places),
+                places.len(),
+            )
+        }
+    }
+
+    fn check_claim(&self, record: &[u8], page: &[u8], block: u64, claims: &[u16]) -> u64 {
+        unsafe {
+            interface::rudderfig_check_claim(
+                self.of(record),
+                record.len(),
+                self.of(page),
+                page.len(),
+                block,
+                self.of(claims),
+                claims.len(),
+            )
+        }
+    }
+}

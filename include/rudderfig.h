@@ -1,0 +1,155 @@
+/*
+ * Rudderfig: NAND pages written and read through binary BCH codes.
+ *
+ * Link librudderfig.a, which `make lib` leaves beside this file. Eight calls answer the seven questions of the project's document 01; the
+ * numbers and names below are the document's. Each call is total: any layout words, any lengths, any page content get an answer, and a caller
+ * has to have tested nothing. Each is proved to return what its definition says, and to leave every lent byte as that definition says.
+ *
+ *
+ * The answer word
+ *
+ * Every call returns one uint64_t:
+ *
+ *     bits 0 to 7      the reply: 0 done, 1 to 10 the reason of a refusal (enum rudderfig_reply_number)
+ *     bits 8 to 23     the block that the reply is about: 0 except in reply 9 about a page
+ *     bits 24 to 31    the kind of an answer: 0, except for a page bit in the tail
+ *     bits 32 to 63    the value of an answer
+ *
+ * On a refusal kind and value are 0, and every lent buffer is byte for byte as it was. Of several reasons the smallest number is given; only a
+ * field choice that is not offered (7) comes before everything else, and the length of a layout record (6) before what the record says.
+ *
+ *
+ * What is lent
+ *
+ * A buffer is a pointer and a number of elements (bytes, or 16-bit numbers where the type says so), all of which can be read, and written where
+ * the pointer is not to const. An empty buffer may come with any pointer, NULL too. A pointer to 16-bit numbers is aligned as the type asks.
+ * A buffer that the call may write does not overlap any other buffer of the call. Nothing is kept after the call, and nothing is shared between
+ * calls: there are no variables outside the stack and no heap, so calls may run at the same time on different buffers.
+ * Numbers are taken at 64 bits and never cut: a block number of 2^32 is out of range.
+ *
+ * A layout record is two 32-bit words in eight bytes, word 0 first, each most significant byte first.
+ * A page has PAGE_SIZE bytes, metadata META_SIZE, data 4 * (DATA0_SIZE + NBLOCKS * DATAN_SIZE), counts NBLOCKS + 1.
+ * Position p of a page is byte p / 8, bit 7 - p % 8. A block of n bits has the coefficient of x^(n-1) first; exponents run from n - 1 down to 0.
+ *
+ *
+ * What the archive needs
+ *
+ * An x86-64 processor with SSE2 switched on, the System V calling convention, memcpy and memset with C's meaning (a boot loader supplies its
+ * own), and room on the stack: RUDDERFIG_STACK_.. below, without what memcpy and memset take. It needs nothing else, has no variables, can be
+ * linked freestanding and runs at any address. About 160 kB of it are code and constants. The code uses the red zone: an interrupt must not
+ * write the 128 bytes below the stack pointer, so one that is taken on the same stack has to step over them. A large frame is touched page by
+ * page from above, so that a guard page below the stack is always hit.
+ */
+#ifndef RUDDERFIG_H
+#define RUDDERFIG_H
+
+#include <stddef.h>
+#include <stdint.h>
+
+#ifdef __cplusplus
+extern "C" {
+#endif
+
+enum rudderfig_reply_number {
+    RUDDERFIG_DONE = 0,
+    RUDDERFIG_LEVEL_TOO_HIGH = 1,      /* a level field above 0x14 */
+    RUDDERFIG_EMPTY_MESSAGE = 2,       /* a block with an empty message; a remainder of a code with no message */
+    RUDDERFIG_BLOCK_TOO_LONG = 3,      /* a block with t > 0 longer than 2^m - 1 bits */
+    RUDDERFIG_PAGE_TOO_SMALL = 4,      /* the blocks need more than 8 * PAGE_SIZE bits */
+    RUDDERFIG_PAGE_LENGTH = 5,         /* the lent page has another length than PAGE_SIZE */
+    RUDDERFIG_BUFFER_LENGTH = 6,       /* another lent buffer has a wrong length */
+    RUDDERFIG_OUT_OF_RANGE = 7,        /* a block number, page bit, exponent or field choice outside its range */
+    RUDDERFIG_REMAINDER_TOO_WIDE = 8,  /* a remainder with a one above bit mt - 1 */
+    RUDDERFIG_UNCORRECTABLE = 9,       /* no codeword within t flips; for a page the lowest such block is named */
+    RUDDERFIG_CLAIM_WRONG = 10         /* the claimed locations are wrong */
+};
+
+/*
+ * Bytes of stack that a call takes at most, its return address included. `make lib` compares them with the machine code.
+ * Most of it are the decoder's tables, which are made only where a block is damaged: reading an undamaged page takes about 37,000 bytes, judging
+ * an undamaged block about 2,700.
+ */
+#define RUDDERFIG_STACK_CHECK_LAYOUT 256
+#define RUDDERFIG_STACK_LOCATE_BIT 256
+#define RUDDERFIG_STACK_BIT_POSITION 256
+#define RUDDERFIG_STACK_WRITE_PAGE 4096
+#define RUDDERFIG_STACK_READ_PAGE 106496
+#define RUDDERFIG_STACK_JUDGE_BLOCK 73728
+#define RUDDERFIG_STACK_LOCATE_ERRORS 73728
+#define RUDDERFIG_STACK_CHECK_CLAIM 8192
+
+/* The largest of them. */
+#define RUDDERFIG_STACK RUDDERFIG_STACK_READ_PAGE
+
+static inline unsigned rudderfig_reply(uint64_t answer) { return (unsigned)(answer & 0xFF); }
+static inline unsigned rudderfig_block(uint64_t answer) { return (unsigned)(answer >> 8 & 0xFFFF); }
+static inline unsigned rudderfig_kind(uint64_t answer) { return (unsigned)(answer >> 24 & 0xFF); }
+static inline uint32_t rudderfig_value(uint64_t answer) { return (uint32_t)(answer >> 32); }
+
+/* What rudderfig_locate_bit answers of a page bit: in the tail, or else its block and its exponent there. */
+static inline int rudderfig_in_tail(uint64_t answer) { return rudderfig_kind(answer) == 1; }
+static inline unsigned rudderfig_located_block(uint64_t answer) { return rudderfig_value(answer) >> 16; }
+static inline unsigned rudderfig_located_exponent(uint64_t answer) { return rudderfig_value(answer) & 0xFFFF; }
+
+/*
+ * Is this layout acceptable? Reads the record. Replies 0 to 4 and 6; no value.
+ */
+uint64_t rudderfig_check_layout(const uint8_t *record, size_t record_len);
+
+/*
+ * Where does the page bit at `position` belong? Reads the record.
+ * Kind 0: a covered bit, the value is located block << 16 | exponent. Kind 1: in the tail after the last block, the value is 0.
+ * Replies 0 to 4, 6, and 7 for a position of 8 * PAGE_SIZE or more.
+ */
+uint64_t rudderfig_locate_bit(const uint8_t *record, size_t record_len, uint64_t position);
+
+/*
+ * Where does the coefficient of x^exponent of a block lie? Reads the record. The value is the position.
+ * Replies 0 to 4, 6, and 7 for a block that the layout does not have or an exponent of the block's length or more.
+ */
+uint64_t rudderfig_bit_position(const uint8_t *record, size_t record_len, uint64_t block, uint64_t exponent);
+
+/*
+ * Writes a page: every block with its parity, the tail bits as ones. Reads record, metadata and data; writes all of `page`, and only on reply 0.
+ * Replies 0 to 6; no value.
+ */
+uint64_t rudderfig_write_page(const uint8_t *record, size_t record_len, const uint8_t *metadata, size_t metadata_len, const uint8_t *data,
+                              size_t data_len, uint8_t *page, size_t page_len);
+
+/*
+ * Reads a page: each block is repaired to the codeword within t flips of it. Reads record and page; writes all of `metadata`, `data` and `counts`,
+ * and only on reply 0, once every block is decided. counts[b] is the number of covered bits, data or parity, in which block b and its codeword
+ * differ. Replies 0 to 6, and 9 with the lowest block that has no codeword within its t flips; no value.
+ */
+uint64_t rudderfig_read_page(const uint8_t *record, size_t record_len, const uint8_t *page, size_t page_len, uint8_t *metadata,
+                             size_t metadata_len, uint8_t *data, size_t data_len, uint8_t *counts, size_t counts_len);
+
+/*
+ * Judges one block of a page. Reads record and page, of the page no other bits than the block's; writes nothing. The value is the number of flips.
+ * Replies 0 to 6, 7 for a block that the layout does not have, and 9 with that block.
+ */
+uint64_t rudderfig_judge_block(const uint8_t *record, size_t record_len, const uint8_t *page, size_t page_len, uint64_t block);
+
+/*
+ * From a remainder alone, which bits are wrong? t is twice level_field, field_choice 0 is m = 13 and 1 is m = 14, n is the code's length in bits.
+ * The remainder has exactly (m * t + 7) / 8 bytes, highest coefficient first, right-aligned. Reads it; writes, on reply 0 only, the exponents of
+ * the wrong bits in ascending order to the first places of `places`, which has at least t. The value is how many; places after them keep what
+ * they held. Replies 0; 7 first of all for another field choice; 1; 2 where t = 0 or n is at most m * t; 3 for n above 2^m - 1; 6; 8; and 9,
+ * with block 0, where there is no such set of at most t exponents.
+ */
+uint64_t rudderfig_locate_errors(uint64_t level_field, uint64_t field_choice, uint64_t n, const uint8_t *remainder, size_t remainder_len,
+                                 uint16_t *places, size_t places_len);
+
+/*
+ * Are these error locations of a block right? Accepted if they are distinct, each below the block's length, at most t, and flipping them gives a
+ * codeword; they may stand in any order. Reads record, page and claims; writes nothing.
+ * Replies 0 to 6, 7 for a block that the layout does not have, and 10; no value.
+ */
+uint64_t rudderfig_check_claim(const uint8_t *record, size_t record_len, const uint8_t *page, size_t page_len, uint64_t block,
+                               const uint16_t *claims, size_t claims_len);
+
+#ifdef __cplusplus
+}
+#endif
+
+#endif
