@@ -3,7 +3,7 @@ use crate::say;
 
 pub fn unknown() {
     say::error(
-        b"no such command: there are layout, bits, write, read, judge, locate and claim; nandpage --help says more",
+        b"the commands are layout, bits, write, read, judge, locate and claim; nandpage --help says more",
     );
 }
 
@@ -21,6 +21,12 @@ fn commands() {
         b"  nandpage write WORD0 WORD1 METADATA DATA PAGE   writes a page from metadata and data\n",
     );
     say::text(
+        b"  nandpage read WORD0 WORD1 PAGE METADATA DATA    reads a page, or a dump of many, and shows the corrected bits\n",
+    );
+    say::text(
+        b"  nandpage judge WORD0 WORD1 PAGE BLOCK           the corrected bits of one block\n",
+    );
+    say::text(
         b"  nandpage locate LEVEL FIELD N REMAINDER         the wrong bits of a word of N bits, from its remainder alone\n",
     );
     say::text(
@@ -30,31 +36,34 @@ fn commands() {
 
 fn arguments() {
     say::text(
-        b"WORD0 and WORD1 are the two layout words, as 0x070A4080 0x10DA4080. Numbers are decimal, or hexadecimal after 0x.\n",
+        b"\nWORD0 and WORD1 are the layout words, as 0x070A4080 0x10DA4080. Numbers are decimal, or hexadecimal after 0x.\n",
     );
     say::text(
-        b"METADATA, DATA and PAGE are files; - stands for empty metadata or data, or for a page on standard input.\n",
+        b"METADATA, DATA and PAGE are files. A dash is a page on standard input, an empty METADATA or DATA that is written\n",
     );
     say::text(
-        b"LEVEL is the level field (t is twice it), FIELD is 0 for m = 13 or 1 for m = 14, and REMAINDER is\n",
+        b"to a page, or one that is not wanted from it. LEVEL is the level field, half of t; FIELD is 0 for m = 13 or 1 for\n",
     );
-    say::text(b"mt bits in hexadecimal, highest coefficient first, in whole bytes.\n");
+    say::text(
+        b"m = 14; REMAINDER is in hexadecimal, two digits a byte, highest coefficient first.\n",
+    );
 }
 
 fn answers() {
     say::text(
-        b"An answer starts with reply and a number: 0 is done, any other says why not, and no file is written then.\n",
+        b"\nAn answer starts with reply and a number: 0 is done, another says why not, and then no file is written. Of a dump\n",
     );
     say::text(
-        b"An error in the arguments or with a file is one line on standard error, and there is no reply.\n",
+        b"each page with corrected bits has a line, each page that is refused has one, and its place in METADATA and DATA\n",
+    );
+    say::text(
+        b"holds bytes 0xFF. An error in the arguments or with a file is one line on standard error, with no reply.\n",
     );
 }
 
 pub fn all() {
-    say::text(b"nandpage: pages of NAND flash under BCH codes\n\n");
+    say::text(b"nandpage: pages of NAND flash under BCH codes, written, read and judged\n\n");
     commands();
-    say::text(b"\n");
     arguments();
-    say::text(b"\n");
     answers();
 }
