@@ -15,6 +15,9 @@ mod carry;
 mod rules;
 pub mod value;
 
+ghost use mathlib.Core.Path.{_≡_};
+ghost use Rattle.pieces.specs.Calls.{answered, finished, startOf, feedOf, finishOf};
+
 // A block whose message is arriving: its level field, field choice and message bytes, the bytes fed so far, and the parity of
 // these in fourteen words of 64 bits, the lowest first.
 #[repr(C)]
@@ -30,4 +33,24 @@ pub struct State {
 pub struct Answered {
     pub reply: u8,
     pub state: State,
+}
+
+// Starts a block in the lent state.
+pub fn start(state: &mut State, level_field: u64, field_choice: u64, size: u64) -> u8
+    ensures { λ r. ⌜ answered r (now (state .exit)) ≡ startOf (now (state .entry)) «level_field» «field_choice» size ⌝ }
+{
+    let s = *state;
+    let a = value::start(s, level_field, field_choice, size);
+    *state = a.state;
+    a.reply
+}
+
+// Feeds a piece of the message to the lent state.
+pub fn feed(state: &mut State, piece: &[u8]) -> u8
+    ensures { λ r. ⌜ answered r (now (state .exit)) ≡ feedOf (now (state .entry)) (now (piece .entry)) ⌝ }
+{
+    let s = *state;
+    let a = value::feed(s, piece);
+    *state = a.state;
+    a.reply
 }
