@@ -54,3 +54,13 @@ pub fn feed(state: &mut State, piece: &[u8]) -> u8
     *state = a.state;
     a.reply
 }
+
+// Finishes: the parity of the message that the lent state has taken in.
+pub fn finish(state: &mut State, parity: &mut [u8]) -> u8
+    ensures { λ r. ⌜ finished (answered r (now (state .exit))) (now (parity .exit)) ≡ finishOf (now (state .entry)) (now (parity .entry)) ⌝ }
+{
+    let s = *state;
+    let a = value::finish(s, parity);
+    *state = a.state;
+    a.reply
+}

@@ -1,6 +1,5 @@
--- `state::feed` meets its contract: a walk of its MIR, by hand. The borrow of the state is opened, the state is copied out, `feed_value` is called on it and the piece, the state that it returns is stored whole, and the borrow is closed at it.
--- All that the proof knows of `feed_value` is that it meets its contract. Both structs are plain data: what one owns is made anew from its relation wherever it is asked for.
--- Assumes nothing.
+-- `pieces::feed` meets its contract: a walk of its MIR, by hand. The borrow of the state is opened, the state is copied out, `value::feed` is called on it and the piece, the state that it returns is stored whole, and the borrow is
+-- closed at it. All that the proof knows of `value::feed` is that it meets its contract. Both structs are plain data: what one owns is made anew from its relation wherever it is asked for.
 use mathlib.Core.Path.{_≡_, refl, ap}
 use Prim.Native.Nat.{ℕ}
 use mathlib.Core.List.{List, [], _∷_}
@@ -90,7 +89,7 @@ module _ {M : Type 1} (𝓤 : URA M) (H : Heap 𝓤) (A : Atoms 𝓤) (W : Given
   abbrev Post : Val → SProp 𝓤
   Post = walkOf 𝓤 H A feed.ended stayed (feed.clauses 𝓤 H A at-mem run) .post (((κ, (κ′, tt)), (q, (q′, tt)), tt, x, at), tt)
 
-  -- the call of `feed_value`: what it is passed, what it asks, and what is known of its result
+  -- the call of `value::feed`: what it is passed, what it asks, and what is known of its result
   abbrev to-value : Value 𝓤 H A at-mem run .Ghost
   to-value = (((κ′, tt), (q′, tt), tt, (h, (p, tt)), (mach h ∷ [], (v ∷ [], tt))), tt)
 
