@@ -4,3 +4,4 @@ pub mod Fold
 pub mod Multiple
 pub mod Filling
 pub mod Bytes
+pub mod Level

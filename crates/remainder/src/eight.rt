@@ -90,9 +90,8 @@ fn feed_bytes(
     r
 }
 
-// A run of n bits: its bytes, and then its odd bits, for which row 1 of the table is the divisor.
-
-fn feed_rest(
+// Internal: a run of n bits: its bytes, and then its odd bits, for which row 1 of the table is the divisor.
+pub fn feed_rest(
     state: Register,
     table: &[u64],
     degree: usize,

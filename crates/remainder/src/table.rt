@@ -6,7 +6,10 @@ ghost use lib.Bits.{bitXor};
 ghost use Rattle.bits.specs.Bits.{bit};
 ghost use Rattle.code.specs.Register.{low, register};
 ghost use Rattle.remainder.specs.Remainder.{Divisor};
-ghost use Rattle.remainder.specs.Table.{width, Filled, Only, Apart};
+ghost use Rattle.remainder.specs.Table.{width, Filled, Only, Apart, Table};
+use crate::feed::parity_bits;
+use code::generators::generator_row;
+use field::Field;
 
 // How many words a row of the table has.
 pub fn row_words(degree: usize) -> usize
@@ -94,4 +97,17 @@ pub fn fill(table: &mut [u64], divisor: [u64; 14], degree: usize)
         row_pair(table, divisor, degree, v);
         v += 1;
     }
+}
+
+// Internal: makes the table of the generator of the level t. At t = 0 there is nothing to divide by, and none is made.
+pub fn make_table(f: Field, t: usize, table: &mut [u64])
+    requires { ⌜ (t % 2 ≡ 0) × (t ≤ 40) × (2304 ≤ length (now table)) ⌝ }
+    ensures { λ r. ⌜ Table f t (now (table .exit)) ⌝ }
+{
+    if t == 0 {
+        return;
+    }
+    let degree = parity_bits(f, t);
+    let row = generator_row(f, t / 2);
+    fill(table, row, degree);
 }
