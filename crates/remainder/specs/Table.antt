@@ -11,10 +11,10 @@
 -- Only at n before after  nothing but n words from `at` on has changed
 -- Table f t words        the divisor is the generator of the level t
 use mathlib.Core.Path.{_≡_}
-use mathlib.Core.Bool.{cond}
+use mathlib.Core.Bool.{false, cond}
 use mathlib.Core.List.{List}
 use Prim.Native.Nat.{ℕ, zero, suc, _+_, _*_, _/_, _%_, _^_, _<_, _≤_}
-use lib.ListN.{length, getD, drop}
+use lib.ListN.{length, getD, drop, replicate}
 use lib.Dec.{eqb}
 use lib.Bits.{bitXor}
 use Rattle.bits.specs.Bits.{bit}
@@ -22,12 +22,16 @@ use Rattle.field.specs.declared.Field.{Field}
 use Rattle.field.specs.Field.{degree}
 use Rattle.code.specs.Generator.{generator}
 use Rattle.code.specs.Register.{low}
+use Rattle.remainder.specs.Remainder.{remainderFrom}
 
 -- The double of a multiple, and the double plus g: they differ in the coefficient of x^d, and the one is taken that has the lowest digit of v there.
 unfoldable pub multiple : ℕ → ℕ → ℕ → ℕ → ℕ
 multiple d g zero v = 0
 multiple d g (suc k) v =
     cond (eqb (bit (multiple d g k (v / 2) * 2) d) (v % 2)) (multiple d g k (v / 2) * 2) (bitXor g (multiple d g k (v / 2) * 2))
+
+unfoldable pub rest : ℕ → ℕ → ℕ → ℕ
+rest d g v = remainderFrom d g v (replicate d false)
 
 unfoldable pub width : ℕ → ℕ
 width d = (d + 7) / 64 + 1
