@@ -91,6 +91,12 @@ module _ (d g : ℕ) where
       let z : remainderFrom d g v (replicate e false) ≡ v * 2 ^ e = zeros-short v k e h (omega arith) in
       ap (λ x. remainderFrom d g x (replicate k false)) (sym z) ∙ from-zeros v e k ∙ ap (λ n. remainderFrom d g v (replicate n false)) (sym ed)
 
+  -- A message that is cut anywhere has the same parity, fed part by part.
+  pub parity-append : (r : ℕ) (v w : Word) → parityFrom d g r (v ++ w) ≡ parityFrom d g (parityFrom d g r v) w
+  unfolding parityFrom
+  parity-append r [] w = refl
+  parity-append r (b ∷ v) w = parity-append (parityStep d g r b) v w
+
   module _ (some : 0 < d) where
     step-bit : (r : ℕ) (b : Bool) → remainderStep d g r b ≡ bitXor (remainderStep d g r false) (digit b)
     step-bit r b =
@@ -173,11 +179,6 @@ module _ (d g : ℕ) where
         ∙ unfold rest in ap (λ m. remainderFrom d g m (replicate d false)) (remainderFrom-short d g 0 0 (digits b k) (omega arith) (omega arith) ∙ rw (number-digits b k, zero-mul, zero-add) (mod-eq-of-lt hb)) in
         let m : r * 2 ^ k % 2 ^ d ≡ z * 2 ^ k = ap (λ i. r * 2 ^ k % 2 ^ i) ed ∙ mod-up r e k in
         parity-parts r (digits b k) ∙ rw (n, x, y, m, ev, rest-xor u b) (xor-assoc (rest d g u) (z * 2 ^ k) (rest d g b) ∙ ap (bitXor (rest d g u)) (xor-comm (z * 2 ^ k) (rest d g b)) ∙ sym (xor-assoc (rest d g u) (rest d g b) (z * 2 ^ k)))
-
-    pub parity-append : (r : ℕ) (v w : Word) → parityFrom d g r (v ++ w) ≡ parityFrom d g (parityFrom d g r v) w
-    unfolding parityFrom
-    parity-append r [] w = refl
-    parity-append r (b ∷ v) w = parity-append (parityStep d g r b) v w
 
     -- by a monic polynomial
 

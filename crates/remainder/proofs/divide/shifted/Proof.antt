@@ -7,14 +7,14 @@ use mir.Syntax.{w64}
 use mir.Val.{Fits}
 use lib.ListN.{length, getD}
 use Rattle.code.specs.Register.{low}
-use Rattle.remainder.proofs.Words.{shift-fits, shift-next, shift-end, carry-below, above-store}
+use Rattle.remainder.proofs.Words.{shift-fits, shift-next, shift-end, carry-below, above-store, store-below}
 use Rattle.remainder.proofs.divide.shifted.Statement.{statement}
 use Rattle.remainder.proofs.divide.shifted.Tie as tie
 
 abbrev Inv-loop : tie.InvT-loop
 Inv-loop used k lowest words₀ carry₀ i₀ words carry i =
     (i ≤ used) × (length words ≡ 14) × (carry < 2 ^ k) × (low words i + carry * 2 ^ (64 * i) ≡ low words₀ i * 2 ^ k + lowest)
-    × ((j : ℕ) → i ≤ j → getD words j 0 ≡ getD words₀ j 0)
+    × ((j : ℕ) → i ≤ j → getD words j 0 ≡ getD words₀ j 0) × (low words i < 2 ^ (64 * i))
 
 abbrev μ-loop : tie.MeasureT-loop
 μ-loop used k lowest words₀ carry₀ i₀ words carry i = used - i
@@ -64,6 +64,7 @@ loop-again c =
       carry-below _ _ (omega arith) (rw e (f .fits)),
       shift-next _ _ _ _ _ _ (omega arith) (omega arith) (s .inv .3) e,
       above-store (s .words) v (s .i) _ (s .inv .4),
+      store-below (s .words) (s .i) _ (omega arith) (shift-fits _ _ _ (omega arith) (s .inv .2)) (s .inv .5),
     )
 
 returns : tie.Need-returns Inv-loop μ-loop
@@ -73,7 +74,7 @@ returns c =
     let v = a .args .state .words in
     let l : length v ≡ 14 = search needs in
     let e : s .i ≡ a .args .used = omega arith in
-    shift-end (s .words) v (s .i) (a .args .k) (s .carry) (a .args .lowest) (omega arith) (s .inv .1 ∙ sym l) (s .inv .3) (s .inv .4) (rw e (a .pre .4))
+    shift-end (s .words) v (s .i) (a .args .k) (s .carry) (a .args .lowest) (omega arith) (s .inv .1 ∙ sym l) (s .inv .5) (s .inv .3) (s .inv .4) (rw e (a .pre .4)) ∙ rw e
 
 pub shifted-spec : {M : Type 1} → statement M
 shifted-spec =
