@@ -35,11 +35,6 @@ impl<'a> Comparison<'a> {
         }
     }
 
-    /// The number of calls compared.
-    pub fn calls(&self) -> usize {
-        self.replies.iter().flatten().sum()
-    }
-
     /// One round of calls of every kind, some 9,000.
     pub fn round(&mut self) -> Result<(), Box<Difference>> {
         self.layouts()?;

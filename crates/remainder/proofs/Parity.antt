@@ -147,17 +147,18 @@ module _ (d g : ℕ) where
     pub parity-message : (w : Word) → parityFrom d g 0 w ≡ remainderFrom d g 0 (w ++ replicate d false)
     parity-message w = ap (λ x. parityFrom d g x w) (sym rest-zero) ∙ parity-zeros 0 w
 
-    parity-parts : (r : ℕ) (w : Word) → parityFrom d g r w ≡ bitXor (remainderFrom d g r (replicate (length w) false)) (parityFrom d g 0 w)
+    -- Zeros fed to the parity so far, and the parity of the coefficients by themselves.
+    pub parity-sum : (r : ℕ) (w : Word) → parityFrom d g r w ≡ bitXor (remainderFrom d g r (replicate (length w) false)) (parityFrom d g 0 w)
     unfolding parityFrom remainderFrom
-    parity-parts r [] = sym (xor-zero-r r)
-    parity-parts r (b ∷ w) =
+    parity-sum r [] = sym (xor-zero-r r)
+    parity-sum r (b ∷ w) =
         let n : ℕ = length w in
         let s : ℕ = parityStep d g 0 b in
         let A : ℕ = remainderFrom d g (remainderStep d g r false) (replicate n false) in
-        parity-parts (parityStep d g r b) w
+        parity-sum (parityStep d g r b) w
         ∙ ap (λ y. bitXor (remainderFrom d g y (replicate n false)) (parityFrom d g 0 w)) (step-parts r b)
         ∙ ap (λ y. bitXor y (parityFrom d g 0 w)) (from-xor (remainderStep d g r false) s n)
-        ∙ xor-assoc A (remainderFrom d g s (replicate n false)) (parityFrom d g 0 w) ∙ ap (bitXor A) (sym (parity-parts s w))
+        ∙ xor-assoc A (remainderFrom d g s (replicate n false)) (parityFrom d g 0 w) ∙ ap (bitXor A) (sym (parity-sum s w))
 
     -- k coefficients at once are k single steps: b has their digits, and v is the sum of b and of the k highest coefficients so far.
     pub parity-digits : (k r b : ℕ) {v : ℕ} → k ≤ d → r < 2 ^ d → b < 2 ^ k → v ≡ bitXor (r / 2 ^ (d - k)) b
@@ -178,7 +179,7 @@ module _ (d g : ℕ) where
         parity-message (digits b k) ∙ remainderFrom-append d g 0 (digits b k) (replicate d false)
         ∙ unfold rest in ap (λ m. remainderFrom d g m (replicate d false)) (remainderFrom-short d g 0 0 (digits b k) (omega arith) (omega arith) ∙ rw (number-digits b k, zero-mul, zero-add) (mod-eq-of-lt hb)) in
         let m : r * 2 ^ k % 2 ^ d ≡ z * 2 ^ k = ap (λ i. r * 2 ^ k % 2 ^ i) ed ∙ mod-up r e k in
-        parity-parts r (digits b k) ∙ rw (n, x, y, m, ev, rest-xor u b) (xor-assoc (rest d g u) (z * 2 ^ k) (rest d g b) ∙ ap (bitXor (rest d g u)) (xor-comm (z * 2 ^ k) (rest d g b)) ∙ sym (xor-assoc (rest d g u) (rest d g b) (z * 2 ^ k)))
+        parity-sum r (digits b k) ∙ rw (n, x, y, m, ev, rest-xor u b) (xor-assoc (rest d g u) (z * 2 ^ k) (rest d g b) ∙ ap (bitXor (rest d g u)) (xor-comm (z * 2 ^ k) (rest d g b)) ∙ sym (xor-assoc (rest d g u) (rest d g b) (z * 2 ^ k)))
 
     -- by a monic polynomial
 

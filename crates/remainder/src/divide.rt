@@ -10,7 +10,7 @@ use crate::Register;
 use crate::coefficients::coefficient;
 
 // Internal: the number in the first words of a register times 2^k, with `lowest` as its k lowest digits. What leaves those words is lost.
-pub fn shifted(state: Register, used: usize, k: usize, lowest: u64) -> Register
+pub fn pushed(state: Register, used: usize, k: usize, lowest: u64) -> Register
     requires { ⌜ (used ≤ 14) × (0 < k) × (k < 64) × (lowest < 2 ^ k) × (register (state .words) < 2 ^ (64 * used)) ⌝ }
     ensures { λ r. ⌜ register (r .words) ≡ (register (state .words) * 2 ^ k + lowest) % 2 ^ (64 * used) ⌝ }
 {
@@ -24,6 +24,14 @@ pub fn shifted(state: Register, used: usize, k: usize, lowest: u64) -> Register
         i += 1;
     }
     Register { words: words }
+}
+
+// Internal: the same where nothing leaves them.
+pub fn shifted(state: Register, used: usize, k: usize, lowest: u64) -> Register
+    requires { ⌜ (used ≤ 14) × (0 < k) × (k < 64) × (lowest < 2 ^ k) × (register (state .words) * 2 ^ k + lowest < 2 ^ (64 * used)) ⌝ }
+    ensures { λ r. ⌜ register (r .words) ≡ register (state .words) * 2 ^ k + lowest ⌝ }
+{
+    pushed(state, used, k, lowest)
 }
 
 // The number in the words of a register from q on.
@@ -49,13 +57,13 @@ pub fn raised(state: Register, k: usize) -> Register
     let mut r = state;
     let mut left = k;
     while 63 < left {
-        r = shifted(r, 14, 63, 0);
+        r = pushed(r, 14, 63, 0);
         left -= 63;
     }
     if left == 0 {
         return r;
     }
-    shifted(r, 14, left, 0)
+    pushed(r, 14, left, 0)
 }
 
 // Internal: the number in a register divided by 2^k.

@@ -9,7 +9,7 @@ ghost use Rattle.code.specs.Register.{low, register};
 ghost use Rattle.remainder.specs.Remainder.{parityFrom};
 ghost use Rattle.remainder.specs.Table.{divisorOf, Rests};
 use crate::Register;
-use crate::divide::shifted;
+use crate::divide::pushed;
 use bit_reader::next_bit;
 use bit_reader::steps::bit_or_zero;
 use bits::read::byte_at;
@@ -45,7 +45,7 @@ fn step_table(state: Register, table: &[u64], used: usize, k: usize, b: u64) -> 
 {
     let highest = top(state, used, k);
     let v = (highest ^ b) as usize;
-    let next = shifted(state, used, k, 0);
+    let next = pushed(state, used, k, 0);
     row_added(next, table, v * used, used)
 }
 

@@ -18,8 +18,8 @@ abbrev μ-loop : tie.MeasureT-loop
 loop-holds : tie.Need-loop-holds Inv-loop μ-loop
 loop-holds c = search needs
 
-shifted-requires : tie.Need-shifted-requires Inv-loop μ-loop
-shifted-requires c κs =
+pushed-requires : tie.Need-pushed-requires Inv-loop μ-loop
+pushed-requires c κs =
     let s = c .before .loop in
     (search needs, search needs, search needs, search needs, raise-fits _ (s .left) _ (rw (s .inv .1) (c .before .before .pre)))
 
@@ -32,15 +32,15 @@ loop-less c = search needs
 loop-again : tie.Need-loop-again Inv-loop μ-loop
 loop-again c =
     let s = c .before .before .loop in
-    (omega arith, raise-step _ (s .left) 63 _ (omega arith) (rw (s .inv .1) (c .before .before .before .pre)) (c .shifted .ensures) ∙ s .inv .1)
+    (omega arith, raise-step _ (s .left) 63 _ (omega arith) (rw (s .inv .1) (c .before .before .before .pre)) (c .pushed .ensures) ∙ s .inv .1)
 
 returns : tie.Need-returns Inv-loop μ-loop
 returns c =
     let s = c .before .before .loop in
     raise-end _ (s .left) (omega arith) (s .inv .1)
 
-shifted-requires-2 : tie.Need-shifted-requires-2 Inv-loop μ-loop
-shifted-requires-2 c κs =
+pushed-requires-2 : tie.Need-pushed-requires-2 Inv-loop μ-loop
+pushed-requires-2 c κs =
     let s = c .before .before .loop in
     (search needs, omega arith, omega arith, pow-pos _, raise-fits _ (s .left) _ (rw (s .inv .1) (c .before .before .before .pre)))
 
@@ -48,7 +48,7 @@ returns-2 : tie.Need-returns-2 Inv-loop μ-loop
 returns-2 c =
     let s = c .before .before .before .loop in
     raise-end _ (s .left - s .left) (omega arith)
-    (raise-step _ (s .left) (s .left) _ (le-refl (s .left)) (rw (s .inv .1) (c .before .before .before .before .pre)) (c .shifted2 .ensures) ∙ s .inv .1)
+    (raise-step _ (s .left) (s .left) _ (le-refl (s .left)) (rw (s .inv .1) (c .before .before .before .before .pre)) (c .pushed2 .ensures) ∙ s .inv .1)
 
 pub raised-spec : {M : Type 1} → statement M
 raised-spec =
@@ -57,10 +57,10 @@ raised-spec =
     Inv-loop
     μ-loop
     loop-holds
-    shifted-requires
+    pushed-requires
     sub-left
     loop-less
     loop-again
     returns
-    shifted-requires-2
+    pushed-requires-2
     returns-2)

@@ -1,6 +1,4 @@
-use mathlib.Core.Path.{_∙_}
 use native.Mathlib.Omega.{arith}
-use native.Mathlib.Nat.{mod-eq-of-lt}
 use Rattle.remainder.proofs.Words.{room, divisor-room}
 use Rattle.remainder.proofs.Fold.{step-reduced, step-kept}
 use borrow.Author.Needs.{needs}
@@ -11,7 +9,7 @@ add-used : tie.Need-add-used
 add-used c = search needs
 
 shifted-requires : tie.Need-shifted-requires
-shifted-requires c κs = let h = room (c .args .degree) _ (c .args .b) (c .pre .1) (c .pre .2) in (omega arith, search needs, search needs, c .pre .2, omega arith)
+shifted-requires c κs = (omega arith, search needs, search needs, c .pre .2, room _ _ _ (c .pre .1) (c .pre .2))
 
 coefficient-requires : tie.Need-coefficient-requires
 coefficient-requires c κs = search needs
@@ -20,19 +18,17 @@ added-requires : tie.Need-added-requires
 added-requires c κs =
     let a = c .before .before .before in
     let h = room (a .args .degree) _ _ (a .pre .1) (a .pre .2) in
-    (omega arith, rw (c .before .before .shifted .ensures ∙ mod-eq-of-lt h) h, divisor-room _ _ (a .pre .0 .monic))
+    (omega arith, rw (c .before .before .shifted .ensures) h, divisor-room _ _ (a .pre .0 .monic))
 
 returns : tie.Need-returns
 returns c =
     let a = c .before .before .before .before in
-    let h = room (a .args .degree) _ _ (a .pre .1) (a .pre .2) in
-    step-reduced _ _ _ (a .args .b) (a .pre .2) (c .before .before .before .shifted .ensures ∙ mod-eq-of-lt h) (c .before .before .coefficient .ensures) (c .before .if1 .taken) (c .added .ensures)
+    step-reduced _ _ _ (a .args .b) (a .pre .2) (c .before .before .before .shifted .ensures) (c .before .before .coefficient .ensures) (c .before .if1 .taken) (c .added .ensures)
 
 returns-2 : tie.Need-returns-2
 returns-2 c =
     let a = c .before .before .before in
-    let h = room (a .args .degree) _ _ (a .pre .1) (a .pre .2) in
-    step-kept _ _ _ (a .args .b) (a .pre .2) (c .before .before .shifted .ensures ∙ mod-eq-of-lt h) (c .before .coefficient .ensures) (c .if1 .left)
+    step-kept _ _ _ (a .args .b) (a .pre .2) (c .before .before .shifted .ensures) (c .before .coefficient .ensures) (c .if1 .left)
 
 pub step-spec : {M : Type 1} → statement M
 step-spec =
