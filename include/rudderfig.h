@@ -66,17 +66,17 @@ enum rudderfig_reply_number {
 
 /*
  * Bytes of stack that a call takes at most, its return address included. `make lib` compares them with the machine code.
- * Most of it are the decoder's tables, which are made only where a block is damaged: reading an undamaged page takes about 37,000 bytes, judging
- * an undamaged block about 2,700.
+ * Most of it are the decoder's tables, which are made only where a block is damaged: reading an undamaged page takes about 56,000 bytes, judging
+ * an undamaged block about 22,000.
  */
 #define RUDDERFIG_STACK_CHECK_LAYOUT 256
 #define RUDDERFIG_STACK_LOCATE_BIT 256
 #define RUDDERFIG_STACK_BIT_POSITION 256
-#define RUDDERFIG_STACK_WRITE_PAGE 4096
-#define RUDDERFIG_STACK_READ_PAGE 106496
-#define RUDDERFIG_STACK_JUDGE_BLOCK 73728
+#define RUDDERFIG_STACK_WRITE_PAGE 24576
+#define RUDDERFIG_STACK_READ_PAGE 126976
+#define RUDDERFIG_STACK_JUDGE_BLOCK 90112
 #define RUDDERFIG_STACK_LOCATE_ERRORS 73728
-#define RUDDERFIG_STACK_CHECK_CLAIM 8192
+#define RUDDERFIG_STACK_CHECK_CLAIM 24576
 
 /* The largest of them. */
 #define RUDDERFIG_STACK RUDDERFIG_STACK_READ_PAGE
