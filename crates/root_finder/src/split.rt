@@ -216,11 +216,14 @@ pub fn fitted(degree: u16, room: usize) -> usize
     g
 }
 
-// Notes the degrees of the two parts of a factor of degree g.
+// Notes the degrees of the two parts of a factor of degree g, of which the first has degree h; none where it is whole.
 fn note(degrees: &mut [u16], at: usize, h: usize, g: usize)
     requires { ⌜ (h ≤ g) × (at + g ≤ 62) × (length (now degrees) ≡ 64) ⌝ }
     ensures { λ r. ⌜ length (now (degrees .exit)) ≡ length (now (degrees .entry)) ⌝ }
 {
+    if g <= h {
+        return;
+    }
     let next = at + h;
     let rest = g - h;
     degrees[next] = rest as u16;

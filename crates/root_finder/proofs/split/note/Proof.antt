@@ -2,9 +2,11 @@
 use native.Mathlib.Omega.{arith}
 use borrow.Author.Needs.{needs}
 use lib.ListN.{length-set}
-use borrow.Author.Needs.{needs}
 use Rattle.root_finder.proofs.split.note.Statement.{statement}
 use Rattle.root_finder.proofs.split.note.Tie as tie
+
+returns : tie.Need-returns
+returns c = search needs
 
 add-next : tie.Need-add-next
 add-next c = search needs
@@ -33,13 +35,14 @@ slice-write-degrees-2 c = simp length-set (omega arith)
 same-length : tie.Need-same-length
 same-length c = search needs
 
-returns : tie.Need-returns
-returns c = search needs
+returns-2 : tie.Need-returns-2
+returns-2 c = search needs
 
 pub note-spec : {M : Type 1} → statement M
 note-spec =
     tie.close
     (tie.spec
+    returns
     add-next
     sub-rest
     cast-degrees
@@ -49,4 +52,4 @@ note-spec =
     mul-degrees-2
     slice-write-degrees-2
     same-length
-    returns)
+    returns-2)
