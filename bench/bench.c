@@ -2,7 +2,8 @@
  * Reading and writing pages: this library and lib/bch.c of the Linux kernel side by side in one run.
  *
  *   bench            times a page, in microseconds, and the ratio of the two
- *   bench count      runs each row a few times between callgrind's marks; scripts/bench reads the counts
+ *   bench count      runs each row once between callgrind's marks; scripts/bench reads the counts
+ *   bench growth     the same for pages that grow by a factor of eight in one respect: bytes of a block, blocks, flips
  *
  * Both sides work on warm buffers. A page of the kernel's is its blocks' data and parity bytes side by side, as a driver keeps
  * them; it decodes each block from data and parity and turns the found bits over. Flips are placed by a seeded generator.
@@ -151,11 +152,12 @@ static void check(struct bench *b, unsigned flips, bool ruined)
 		fail("the kernel's page did not read back");
 }
 
+/* Microseconds of processor time, so that other work on the machine counts as little as can be. */
 static double now(void)
 {
 	struct timespec t;
 
-	clock_gettime(CLOCK_MONOTONIC, &t);
+	clock_gettime(CLOCK_PROCESS_CPUTIME_ID, &t);
 	return t.tv_sec * 1e6 + t.tv_nsec / 1e3;
 }
 
@@ -195,21 +197,27 @@ static double time_of(struct bench *b, bool writes, void (*once)(struct bench *,
 	return best;
 }
 
+/* One page of each side between callgrind's marks. */
+static void count(struct bench *b, const char *what, bool writes)
+{
+	char label[96];
+
+	snprintf(label, sizeof label, "%s|%s|ours", b->l.name, what);
+	CALLGRIND_ZERO_STATS;
+	ours_once(b, writes);
+	CALLGRIND_DUMP_STATS_AT(label);
+	snprintf(label, sizeof label, "%s|%s|linux", b->l.name, what);
+	CALLGRIND_ZERO_STATS;
+	kernel_once(b, writes);
+	CALLGRIND_DUMP_STATS_AT(label);
+}
+
 static void row(struct bench *b, const char *what, bool writes, bool counting)
 {
-	char label[64];
-
 	ours_once(b, writes);
 	kernel_once(b, writes);
 	if (counting) {
-		snprintf(label, sizeof label, "%s|%s|ours", b->l.name, what);
-		CALLGRIND_ZERO_STATS;
-		ours_once(b, writes);
-		CALLGRIND_DUMP_STATS_AT(label);
-		snprintf(label, sizeof label, "%s|%s|linux", b->l.name, what);
-		CALLGRIND_ZERO_STATS;
-		kernel_once(b, writes);
-		CALLGRIND_DUMP_STATS_AT(label);
+		count(b, what, writes);
 		return;
 	}
 	double ours = time_of(b, writes, ours_once), kernel = time_of(b, writes, kernel_once);
@@ -218,37 +226,82 @@ static void row(struct bench *b, const char *what, bool writes, bool counting)
 	fflush(stdout);
 }
 
+static void read_row(struct bench *b, unsigned flips, bool counting)
+{
+	char what[32];
+
+	damage(b, flips);
+	check(b, flips, false);
+	snprintf(what, sizeof what, flips == 0 ? "read, clean" : flips == 1 ? "read, 1 flip a block" : "read, %u flips a block", flips);
+	row(b, what, false, counting);
+}
+
+/* A written page of the layout on each side. Returns the time that the kernel's set-up took. */
+static double start(struct bench *b, struct layout l)
+{
+	double begun, took;
+
+	memset(b, 0, sizeof *b);
+	b->l = l;
+	begun = now();
+	b->kernel = bch_init(l.m, l.t, 0, false);
+	took = now() - begun;
+	if (!b->kernel)
+		fail("bch_init failed");
+	for (unsigned i = 0; i < l.blocks * l.data_bytes; i++)
+		b->data[i] = next_random();
+	if (rudderfig_reply(write_ours(b)) != 0)
+		fail("the page was not written");
+	write_kernel(b);
+	return took;
+}
+
 static void bench_layout(struct layout l, const unsigned *flips, unsigned rows, bool counting)
 {
 	static struct bench b;
-	double start;
+	double set_up = start(&b, l);
 
-	memset(&b, 0, sizeof b);
-	b.l = l;
-	start = now();
-	b.kernel = bch_init(l.m, l.t, 0, false);
-	if (!b.kernel)
-		fail("bch_init failed");
 	if (!counting)
-		printf("| %s | set-up (tables) | 0 | %.1f | |\n", l.name, now() - start);
-	for (unsigned i = 0; i < l.blocks * l.data_bytes; i++)
-		b.data[i] = next_random();
-	if (rudderfig_reply(write_ours(&b)) != 0)
-		fail("the page was not written");
-	write_kernel(&b);
+		printf("| %s | set-up (tables) | 0 | %.1f | |\n", l.name, set_up);
 	row(&b, "write", true, counting);
-	for (unsigned i = 0; i < rows; i++) {
-		char what[32];
-
-		damage(&b, flips[i]);
-		check(&b, flips[i], false);
-		snprintf(what, sizeof what, flips[i] ? "read, %u flips a block" : "read, clean", flips[i]);
-		row(&b, what, false, counting);
-	}
+	for (unsigned i = 0; i < rows; i++)
+		read_row(&b, flips[i], counting);
 	damage(&b, l.t + 5);
 	check(&b, 0, true);
 	row(&b, "read, first block ruined", false, counting);
 	bch_free(b.kernel);
+}
+
+/* Counts the rows of one size on the way up. */
+static void grow(const char *name, unsigned m, unsigned t, unsigned blocks, unsigned data_bytes, unsigned flips)
+{
+	static struct bench b;
+
+	start(&b, make_layout(name, m, t, blocks, data_bytes));
+	row(&b, "write", true, true);
+	read_row(&b, 0, true);
+	damage(&b, flips);
+	check(&b, flips, false);
+	row(&b, "read, damaged", false, true);
+	bch_free(b.kernel);
+}
+
+static void growth(void)
+{
+	char name[64];
+
+	for (unsigned bytes = 64; bytes <= 512; bytes *= 2) {
+		snprintf(name, sizeof name, "%u bytes a block", bytes);
+		grow(name, 13, 16, 8, bytes, 4);
+	}
+	for (unsigned blocks = 1; blocks <= 8; blocks *= 2) {
+		snprintf(name, sizeof name, blocks > 1 ? "%u blocks" : "%u block", blocks);
+		grow(name, 13, 16, blocks, 512, 4);
+	}
+	for (unsigned flips = 2; flips <= 16; flips *= 2) {
+		snprintf(name, sizeof name, "%u flips a block", flips);
+		grow(name, 13, 16, 8, 512, flips);
+	}
 }
 
 int main(int argc, char **argv)
@@ -256,8 +309,12 @@ int main(int argc, char **argv)
 	static const unsigned flips_a[] = { 0, 1, 4, 8, 16 }, flips_b[] = { 0, 1, 4, 8, 16, 40 };
 	bool counting = argc == 2 && strcmp(argv[1], "count") == 0;
 
+	if (argc == 2 && strcmp(argv[1], "growth") == 0) {
+		growth();
+		return 0;
+	}
 	if (argc > 1 && !counting)
-		fail("usage: bench [count]");
+		fail("usage: bench [count | growth]");
 	if (!counting)
 		printf("| Layout | Row | Rudderfig, us | Linux, us | ratio |\n|---|---|---|---|---|\n");
 	bench_layout(make_layout("A", 13, 16, 8, 512), flips_a, 5, counting);

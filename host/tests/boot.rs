@@ -1,4 +1,4 @@
-//! The archive in a program without the C library.
+//! The archive in C programs: one without the C library, and the first program of the README.
 
 use std::process::Command;
 
@@ -8,4 +8,26 @@ fn links_and_runs_freestanding() {
     let output = Command::new(script).output().unwrap();
     let said = String::from_utf8_lossy(&output.stderr);
     assert!(output.status.success(), "{said}");
+}
+
+#[test]
+fn the_first_program_runs() {
+    let root = concat!(env!("CARGO_MANIFEST_DIR"), "/..");
+    let program = concat!(env!("CARGO_TARGET_TMPDIR"), "/first");
+    let built = Command::new("cc")
+        .args(["-Wall", "-Wextra", "-Werror", "-Iinclude", "host/c/first.c"])
+        .args(["include/librudderfig.a", "-o", program])
+        .current_dir(root)
+        .status();
+    assert!(built.unwrap().success());
+    let output = Command::new(program).output().unwrap();
+    let said = String::from_utf8_lossy(&output.stdout);
+    assert_eq!(
+        said.lines().collect::<Vec<_>>(),
+        [
+            "written: reply 0",
+            "worn: reply 0, flips by block 8 0 0 1 0 0 0 0, data as written: yes",
+            "ruined: reply 9, block 5",
+        ]
+    );
 }

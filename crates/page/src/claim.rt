@@ -1,7 +1,6 @@
 // Claimed error locations of one block (document 01, "Claim"): a list of exponents in any order, whoever proposed them.
 use crate::ClaimAnswer;
 use crate::replies::block_reply;
-use crate::rows::row_of;
 use bits::copy::copy_bits;
 use bits::write::flip_bit;
 use layout::Acceptance;
@@ -14,7 +13,8 @@ use layout::covered;
 use layout::plan_of;
 use layout::refusal_reply;
 use remainder::coefficients::is_zero;
-use remainder::feed::remainder_of;
+use remainder::runs::remainder_of;
+use remainder::table::make_table;
 ghost use mathlib.Core.Path.{_≡_};
 ghost use Prim.Native.Nat.{_+_, _*_, _≤_, _<_};
 ghost use lib.ListN.{length};
@@ -95,8 +95,9 @@ fn is_code_flipped(
     let n = covered(shape);
     copy_bits(page, position, word, 0, n);
     flip_claims(claims, word, n);
-    let row = row_of(shape);
-    let rest = remainder_of(field, level, &row, word, 0, n);
+    let mut table = [0u64; 2304];
+    make_table(field, level, &mut table);
+    let rest = remainder_of(field, level, &table, word, 0, n);
     is_zero(rest)
 }
 

@@ -1,9 +1,9 @@
 // Writing a page: block after block its message and its parity, then ones into the tail.
 use crate::WriteAnswer;
 use crate::replies::write_reply;
-use crate::rows::row_of;
 use bits::copy::copy_bits;
 use bits::fill::fill_ones;
+use blocks::later_table;
 use layout::Acceptance;
 use layout::Plan;
 use layout::Shape;
@@ -13,7 +13,8 @@ use layout::plan_of;
 use layout::refusal_reply;
 use remainder::digits::place_parity;
 use remainder::feed::parity_bits;
-use remainder::feed::parity_of;
+use remainder::runs::parity_of;
+use remainder::table::make_table;
 ghost use mathlib.Core.Path.{_≡_};
 ghost use mathlib.Core.List.{_++_};
 ghost use Prim.Native.Nat.{_+_, _*_, _≤_, _<_};
@@ -21,7 +22,7 @@ ghost use lib.ListN.{length};
 ghost use Rattle.bits.specs.Bits.{bitOf, run, placed, Inside};
 ghost use Rattle.layout.specs.Plan.{coveredOf};
 ghost use Rattle.code.specs.Generator.{parity};
-ghost use Rattle.remainder.specs.Remainder.{Row};
+ghost use Rattle.remainder.specs.Table.{Table};
 ghost use Rattle.page_theory.specs.Page.{pageOf};
 ghost use Rattle.page_theory.specs.Calls.{writeEnded, writeIn, writeOf};
 ghost use Rattle.page.specs.Plans.{Ready};
@@ -48,8 +49,8 @@ fn copy_payload(metadata: &[u8], data: &[u8], at: usize, page: &mut [u8], positi
 }
 
 // Puts the parity of a block after its message, which stands at the block's position.
-fn put_parity(shape: Shape, row: &[u64; 14], page: &mut [u8], position: usize)
-    requires { ⌜ Row (shape .field) (shape .level) (now row) × Inside (now page) position (coveredOf shape) ⌝ }
+fn put_parity(shape: Shape, table: &[u64], page: &mut [u8], position: usize)
+    requires { ⌜ Table (shape .field) (shape .level) (now table) × Inside (now page) position (coveredOf shape) ⌝ }
     ensures { λ r. ⌜ now (page .exit)
         ≡ placed (now (page .entry)) (position + shape .message)
         (parity (shape .field) (shape .level) (run (bitOf (now (page .entry))) position (shape .message))) ⌝ }
@@ -61,21 +62,21 @@ fn put_parity(shape: Shape, row: &[u64; 14], page: &mut [u8], position: usize)
     }
     let n = shape.message as usize;
     let degree = parity_bits(field, level);
-    let rest = parity_of(field, level, row, page, position, n);
+    let rest = parity_of(field, level, table, page, position, n);
     place_parity(rest, degree, page, position + n);
 }
 
 // Writes a block at a position: the message that starts at position `at` of the payload, and its parity.
 fn write_block(
     shape: Shape,
-    row: &[u64; 14],
+    table: &[u64],
     metadata: &[u8],
     data: &[u8],
     at: usize,
     page: &mut [u8],
     position: usize,
 )
-    requires { ⌜ Row (shape .field) (shape .level) (now row) × (length (now metadata) < 256)
+    requires { ⌜ Table (shape .field) (shape .level) (now table) × (length (now metadata) < 256)
         × Inside (now metadata ++ now «data») at (shape .message) × Inside (now page) position (coveredOf shape) ⌝ }
     ensures { λ r. ⌜ now (page .exit)
         ≡ placed (now (page .entry)) position
@@ -83,7 +84,22 @@ fn write_block(
 {
     let n = shape.message as usize;
     copy_payload(metadata, data, at, page, position, n);
-    put_parity(shape, row, page, position);
+    put_parity(shape, table, page, position);
+}
+
+// Writes block 0, and leaves the table of the later blocks' generator. One table is made after the other in the same place.
+fn write_first(plan: Plan, table: &mut [u64], metadata: &[u8], data: &[u8], page: &mut [u8])
+    requires { ⌜ Ready plan × Lent plan (now metadata) (now «data») (now page) × (2304 ≤ length (now table)) ⌝ }
+    ensures { λ r. ⌜ (now (page .exit)
+        ≡ placed (now (page .entry)) 0 (encoded (plan .first) (run (bitOf (now (metadata .entry) ++ now («data» .entry))) 0 (plan .first .message))))
+        × Table (plan .later .field) (plan .later .level) (now (table .exit)) ⌝ }
+{
+    let first = plan.first;
+    let field = first.field;
+    let level = first.level as usize;
+    make_table(field, level, table);
+    write_block(first, table, metadata, data, 0, page, 0);
+    later_table(plan, table);
 }
 
 // Writes all blocks and the tail.
@@ -94,14 +110,13 @@ fn write_blocks(plan: Plan, metadata: &[u8], data: &[u8], page: &mut [u8])
     let blocks = plan.blocks;
     let first = plan.first;
     let later = plan.later;
-    let row_first = row_of(first);
-    write_block(first, &row_first, metadata, data, 0, page, 0);
-    let row = row_of(later);
+    let mut table = [0u64; 2304];
+    write_first(plan, &mut table, metadata, data, page);
     let mut at = first.message as usize;
     let mut block = 1;
     while block < blocks {
         let position = block_start(plan, block);
-        write_block(later, &row, metadata, data, at, page, position);
+        write_block(later, &table, metadata, data, at, page, position);
         at += later.message as usize;
         block += 1;
     }

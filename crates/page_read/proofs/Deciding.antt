@@ -9,8 +9,6 @@ use lib.ListN.{length, take, getD, set, replicate, length-set}
 use lib.Seq.{getD-set-same, getD-set-other, getD-take, length-take-le}
 use Rattle.bits.specs.Bits.{run}
 use Rattle.bits.proofs.Runs.{run-length, run-ext, run-cong}
-use Rattle.field.specs.declared.Field.{Field}
-use Rattle.field.specs.declared.Field.the-variants.{Thirteen, Fourteen}
 use Rattle.field.specs.Field.{degree}
 use Rattle.field.specs.Tables.{Tables}
 use Rattle.layout.specs.declared.Plan.{Plan}
@@ -18,6 +16,7 @@ use Rattle.layout.specs.Plan.{shape, field, level, covered}
 use Rattle.code.specs.Locations.{exponents, locate}
 use Rattle.code.specs.Register.{register}
 use Rattle.bch.specs.declared.Found.{Found}
+use Rattle.blocks.proofs.Tables.{degree-field}
 use Rattle.bch.specs.Locating.{answer, Finds}
 use Rattle.page_theory.specs.Reading.{RefusedAt, Lowest}
 use Rattle.page_theory.proofs.Reading.{outcome-gives, outcome-ruined}
@@ -26,14 +25,6 @@ use Rattle.page_read.specs.Looking.{Planned, remainderAt, LocatedAt, Sca
 use Rattle.page_read.specs.Deciding.{kept, KeptFor, BlockDecided, Decided, Underway, OneField}
 use Rattle.page_read.specs.Taking.{Kept}
 use Rattle.page_read.proofs.Remainders.{remainderAt-below, located-clean, located-gives, located-ruined, located-few, located-below}
-
--- fields of one degree are one field
-pub degree-field : (f g : Field) → degree f ≡ degree g → f ≡ g
-unfolding degree
-degree-field Thirteen Thirteen e = refl
-degree-field Thirteen Fourteen e = absurd (omega arith)
-degree-field Fourteen Thirteen e = absurd (omega arith)
-degree-field Fourteen Fourteen e = refl
 
 -- keeping exponents
 

@@ -11,16 +11,16 @@ use borrow.Author.Tests.{eqb-true, eqb-false, not-true, not-false}
 use Rattle.layout.specs.declared.Plan.{Plan}
 use Rattle.layout.specs.Plan.{shape, field, level}
 use Rattle.code.specs.Register.{register}
-use Rattle.remainder.specs.Remainder.{Row}
+use Rattle.remainder.specs.Table.{Table}
 use Rattle.remainder.specs.declared.Register.{Register}
 use Rattle.page_read.specs.declared.Scan.{Scan}
 use Rattle.page_read.specs.Looking.{remainderAt, Scanned}
 
 -- the later blocks have one generator
-pub row-later : (q : Plan) (b : ℕ) {words : List ℕ} → 0 < b → Row (q .later .field) (q .later .level) words → Row (field q b) (level q b) words
+pub table-later : (q : Plan) (b : ℕ) {words : List ℕ} → 0 < b → Table (q .later .field) (q .later .level) words → Table (field q b) (level q b) words
 unfolding shape
-row-later q zero l r = absurd (omega arith)
-row-later q (suc b) l r = r
+table-later q zero l h = absurd (omega arith)
+table-later q (suc b) l h = h
 
 module _ (q : Plan) (page : List ℕ) where
   -- the blocks from a to b have remainders of zero

@@ -8,14 +8,13 @@ ghost use Rattle.field.specs.Field.{degree};
 ghost use Rattle.field.specs.Tables.{Tables};
 ghost use Rattle.layout.specs.Plan.{field, level, covered};
 ghost use Rattle.code.specs.Register.{register};
-ghost use Rattle.remainder.specs.Remainder.{Row};
+ghost use Rattle.remainder.specs.Table.{Table};
 ghost use Rattle.bch.specs.Locating.{Finds};
 ghost use Rattle.page_read.specs.Looking.{Planned, Ready};
 ghost use Rattle.page_read.specs.Deciding.{KeptFor, BlockDecided, Underway, OneField, Decides};
 use crate::Decision;
 use crate::Scan;
 use crate::look::next_damaged;
-use crate::look::shape_row;
 use bch::Found;
 use bch::locate::find_errors;
 use layout::Plan;
@@ -95,19 +94,19 @@ fn decide_block(
     true
 }
 
-// Decides the damaged blocks from `scan` on with the tables of powers and logarithms of their field. `row` is that of the later
-// blocks.
+// Decides the damaged blocks from `scan` on with the tables of powers and logarithms of their field. `table` is that of the later
+// blocks' generator.
 fn decide_from(
     plan: Plan,
     page: &[u8],
     scan: Scan,
-    row: &[u64; 14],
+    table: &[u64],
     powers: &[u16; 16384],
     logs: &[u16; 16384],
     places: &mut [u16; 16384],
     flips: &mut [u8; 256],
 ) -> Decision
-    requires { ⌜ (Ready plan (now page)) × (Row (plan .later .field) (plan .later .level) (now row)) × (Underway plan (now page) scan (now places) (now flips)) ⌝ }
+    requires { ⌜ (Ready plan (now page)) × (Table (plan .later .field) (plan .later .level) (now table)) × (Underway plan (now page) scan (now places) (now flips)) ⌝ }
     requires { ⌜ (OneField plan (scan .block)) × (Tables (plan .later .field) (now powers) (now logs)) ⌝ }
     ensures { λ r. ⌜ Decides plan (now (page .entry)) (now (places .exit)) (now (flips .exit)) r ⌝ }
 {
@@ -120,7 +119,7 @@ fn decide_from(
         if !sound {
             return Decision::Ruined(b);
         }
-        at = next_damaged(plan, page, row, b + 1);
+        at = next_damaged(plan, page, table, b + 1);
     }
     Decision::Sound
 }
@@ -130,11 +129,11 @@ fn decide_alike(
     plan: Plan,
     page: &[u8],
     scan: Scan,
-    row: &[u64; 14],
+    table: &[u64],
     places: &mut [u16; 16384],
     flips: &mut [u8; 256],
 ) -> Decision
-    requires { ⌜ (Ready plan (now page)) × (Row (plan .later .field) (plan .later .level) (now row)) × (Underway plan (now page) scan (now places) (now flips)) ⌝ }
+    requires { ⌜ (Ready plan (now page)) × (Table (plan .later .field) (plan .later .level) (now table)) × (Underway plan (now page) scan (now places) (now flips)) ⌝ }
     requires { ⌜ OneField plan (scan .block) ⌝ }
     ensures { λ r. ⌜ Decides plan (now (page .entry)) (now (places .exit)) (now (flips .exit)) r ⌝ }
 {
@@ -143,7 +142,7 @@ fn decide_alike(
     let mut powers = [0u16; 16384];
     let mut logs = [0u16; 16384];
     fill_tables(f, &mut powers, &mut logs);
-    decide_from(plan, page, scan, row, &powers, &logs, places, flips)
+    decide_from(plan, page, scan, table, &powers, &logs, places, flips)
 }
 
 // Decides block 0, with the tables of its field.
@@ -170,11 +169,11 @@ fn decide_mixed(
     plan: Plan,
     page: &[u8],
     scan: Scan,
-    row: &[u64; 14],
+    table: &[u64],
     places: &mut [u16; 16384],
     flips: &mut [u8; 256],
 ) -> Decision
-    requires { ⌜ (Ready plan (now page)) × (Row (plan .later .field) (plan .later .level) (now row)) × (Underway plan (now page) scan (now places) (now flips)) ⌝ }
+    requires { ⌜ (Ready plan (now page)) × (Table (plan .later .field) (plan .later .level) (now table)) × (Underway plan (now page) scan (now places) (now flips)) ⌝ }
     requires { ⌜ scan .block ≡ 0 ⌝ }
     ensures { λ r. ⌜ Decides plan (now (page .entry)) (now (places .exit)) (now (flips .exit)) r ⌝ }
 {
@@ -183,38 +182,38 @@ fn decide_mixed(
     if !sound {
         return Decision::Ruined(0);
     }
-    let next = next_damaged(plan, page, row, 1);
+    let next = next_damaged(plan, page, table, 1);
     let block = next.block;
     if block == plan.blocks {
         return Decision::Sound;
     }
-    decide_alike(plan, page, next, row, places, flips)
+    decide_alike(plan, page, next, table, places, flips)
 }
 
-// Internal. Decides the blocks of a page of which `scan` is the first damaged one.
+// Internal. Decides the blocks of a page of which `scan` is the first damaged one; `table` is that of the later blocks' generator.
 pub fn decide(
     plan: Plan,
     page: &[u8],
     scan: Scan,
+    table: &[u64],
     places: &mut [u16; 16384],
     flips: &mut [u8; 256],
 ) -> Decision
-    requires { ⌜ (Ready plan (now page)) × (Underway plan (now page) scan (now places) (now flips)) ⌝ }
+    requires { ⌜ (Ready plan (now page)) × (Table (plan .later .field) (plan .later .level) (now table)) × (Underway plan (now page) scan (now places) (now flips)) ⌝ }
     ensures { λ r. ⌜ Decides plan (now (page .entry)) (now (places .exit)) (now (flips .exit)) r ⌝ }
 {
-    let later = plan.later;
-    let row = shape_row(later);
     let block = scan.block;
     if block == 0 {
         let first = plan.first;
+        let later = plan.later;
         let f = first.field;
         let g = later.field;
         let m = f.degree();
         let n = g.degree();
         if m != n {
-            return decide_mixed(plan, page, scan, &row, places, flips);
+            return decide_mixed(plan, page, scan, table, places, flips);
         }
-        return decide_alike(plan, page, scan, &row, places, flips);
+        return decide_alike(plan, page, scan, table, places, flips);
     }
-    decide_alike(plan, page, scan, &row, places, flips)
+    decide_alike(plan, page, scan, table, places, flips)
 }

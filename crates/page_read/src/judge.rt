@@ -7,12 +7,11 @@ ghost use Rattle.code.specs.Register.{register};
 ghost use Rattle.bch.specs.Locating.{Finds};
 ghost use Rattle.page_theory.specs.Calls.{blockReply, judgeEnded, judgeIn, judgeOf};
 ghost use Rattle.page_read.specs.Answers.{judgeNumber, judgeBlock, judgeFlips};
-ghost use Rattle.page_read.specs.Looking.{Planned, Ready};
+ghost use Rattle.page_read.specs.Looking.{Planned, Ready, remainderAt};
 use crate::JudgeAnswer;
 use crate::decide::block_outcome;
 use crate::decide::flip_count;
 use crate::look::block_remainder;
-use crate::look::shape_row;
 use bch::Found;
 use layout::Acceptance;
 use layout::Plan;
@@ -23,6 +22,7 @@ use layout::refusal_reply;
 use powers::fill_tables;
 use remainder::Register;
 use remainder::coefficients::is_zero;
+use remainder::table::make_table;
 
 // The reply to a page's length and a block number.
 fn block_reply(plan: Plan, page: usize, block: u64) -> u8
@@ -35,6 +35,19 @@ fn block_reply(plan: Plan, page: usize, block: u64) -> u8
         return 7;
     }
     0
+}
+
+// The remainder of one block, by a table that is made for it alone.
+fn own_remainder(plan: Plan, page: &[u8], block: u16) -> Register
+    requires { ⌜ (Ready plan (now page)) × (block < plan .blocks) ⌝ }
+    ensures { λ r. ⌜ register (r .words) ≡ remainderAt plan (now (page .entry)) block ⌝ }
+{
+    let shape = block_shape(plan, block);
+    let f = shape.field;
+    let t = shape.level as usize;
+    let mut table = [0u64; 2304];
+    make_table(f, t, &mut table);
+    block_remainder(plan, page, &table, block)
 }
 
 // What becomes of a damaged block with this remainder. The tables are here, since only a damaged block needs them.
@@ -56,9 +69,7 @@ fn judge_lent(plan: Plan, page: &[u8], block: u16) -> JudgeAnswer
     requires { ⌜ (Ready plan (now page)) × (block < plan .blocks) ⌝ }
     ensures { λ r. ⌜ judgeEnded (judgeNumber r) (judgeBlock r) (judgeFlips r) ≡ judgeIn plan (now (page .entry)) block ⌝ }
 {
-    let shape = block_shape(plan, block);
-    let row = shape_row(shape);
-    let state = block_remainder(plan, page, &row, block);
+    let state = own_remainder(plan, page, block);
     let clean = is_zero(state);
     if clean {
         return JudgeAnswer::Flips(0);

@@ -3,34 +3,22 @@ ghost use mathlib.Core.Path.{_≡_};
 ghost use Prim.Native.Nat.{_≤_, _<_};
 ghost use Rattle.layout.specs.Plan.{field, level};
 ghost use Rattle.code.specs.Register.{register};
-ghost use Rattle.remainder.specs.Remainder.{Row};
-ghost use Rattle.page_read.specs.Looking.{Stored, Ready, remainderAt, Scanned};
+ghost use Rattle.remainder.specs.Table.{Table};
+ghost use Rattle.page_read.specs.Looking.{Ready, remainderAt, Scanned};
 use crate::Scan;
-use code::generators::generator_row;
 use layout::Plan;
-use layout::Shape;
 use layout::block_covered;
 use layout::block_shape;
 use layout::block_start;
 use remainder::Register;
 use remainder::coefficients::is_zero;
 use remainder::coefficients::zero;
-use remainder::feed::remainder_of;
+use remainder::runs::remainder_of;
 
-// Internal. The generator of the level of a block.
-pub fn shape_row(shape: Shape) -> [u64; 14]
-    requires { ⌜ Stored shape ⌝ }
-    ensures { λ r. ⌜ Row (shape .field) (shape .level) r ⌝ }
-{
-    let f = shape.field;
-    let half = shape.level / 2;
-    generator_row(f, half as usize)
-}
-
-// Internal. The remainder of a block by the generator in `row`. At t = 0 no bit is looked at.
-pub fn block_remainder(plan: Plan, page: &[u8], row: &[u64; 14], block: u16) -> Register
+// Internal. The remainder of a block by the table of its generator. At t = 0 no bit is looked at.
+pub fn block_remainder(plan: Plan, page: &[u8], table: &[u64], block: u16) -> Register
     requires { ⌜ Ready plan (now page) ⌝ }
-    requires { ⌜ (block < plan .blocks) × (Row (field plan block) (level plan block) (now row)) ⌝ }
+    requires { ⌜ (block < plan .blocks) × (Table (field plan block) (level plan block) (now table)) ⌝ }
     ensures { λ r. ⌜ register (r .words) ≡ remainderAt plan (now (page .entry)) block ⌝ }
 {
     let shape = block_shape(plan, block);
@@ -41,19 +29,19 @@ pub fn block_remainder(plan: Plan, page: &[u8], row: &[u64; 14], block: u16) -> 
     }
     let start = block_start(plan, block);
     let n = block_covered(plan, block);
-    remainder_of(f, t, row, page, start, n)
+    remainder_of(f, t, table, page, start, n)
 }
 
-// Internal. The first damaged block from a later block on; `row` has the generator of the later blocks.
-pub fn next_damaged(plan: Plan, page: &[u8], row: &[u64; 14], from: u16) -> Scan
+// Internal. The first damaged block from a later block on; `table` is that of the later blocks' generator.
+pub fn next_damaged(plan: Plan, page: &[u8], table: &[u64], from: u16) -> Scan
     requires { ⌜ Ready plan (now page) ⌝ }
-    requires { ⌜ (0 < from) × (from ≤ plan .blocks) × (Row (plan .later .field) (plan .later .level) (now row)) ⌝ }
+    requires { ⌜ (0 < from) × (from ≤ plan .blocks) × (Table (plan .later .field) (plan .later .level) (now table)) ⌝ }
     ensures { λ r. ⌜ Scanned plan (now (page .entry)) from r ⌝ }
 {
     let blocks = plan.blocks;
     let mut b = from;
     while b < blocks {
-        let state = block_remainder(plan, page, row, b);
+        let state = block_remainder(plan, page, table, b);
         let clean = is_zero(state);
         if !clean {
             return Scan {
@@ -69,14 +57,12 @@ pub fn next_damaged(plan: Plan, page: &[u8], row: &[u64; 14], from: u16) -> Scan
     }
 }
 
-// Internal. The first damaged block of a page.
-pub fn first_damaged(plan: Plan, page: &[u8]) -> Scan
-    requires { ⌜ Ready plan (now page) ⌝ }
+// Internal. The first damaged block of a page whose block 0 has the remainder `state`; `table` is that of the later blocks' generator.
+pub fn first_damaged(plan: Plan, page: &[u8], state: Register, table: &[u64]) -> Scan
+    requires { ⌜ (Ready plan (now page)) × (register (state .words) ≡ remainderAt plan (now page) 0) ⌝ }
+    requires { ⌜ Table (plan .later .field) (plan .later .level) (now table) ⌝ }
     ensures { λ r. ⌜ Scanned plan (now (page .entry)) 0 r ⌝ }
 {
-    let first = plan.first;
-    let row = shape_row(first);
-    let state = block_remainder(plan, page, &row, 0);
     let clean = is_zero(state);
     if !clean {
         return Scan {
@@ -84,7 +70,5 @@ pub fn first_damaged(plan: Plan, page: &[u8]) -> Scan
             state: state,
         };
     }
-    let later = plan.later;
-    let next = shape_row(later);
-    next_damaged(plan, page, &next, 1)
+    next_damaged(plan, page, table, 1)
 }

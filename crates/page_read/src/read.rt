@@ -1,6 +1,7 @@
 // Reading a page: every block is decided before any byte is written.
 ghost use mathlib.Core.Path.{_≡_};
 ghost use Prim.Native.Nat.{ℕ, _<_};
+ghost use Rattle.remainder.specs.Table.{Table};
 ghost use Rattle.page_theory.specs.Damage.{Outputs};
 ghost use Rattle.page_theory.specs.Calls.{readEnded, readReply, readIn, readOf};
 ghost use Rattle.page_read.specs.Answers.{readNumber, readBlock};
@@ -10,15 +11,18 @@ use crate::Decision;
 use crate::ReadAnswer;
 use crate::Scan;
 use crate::decide::decide;
+use crate::look::block_remainder;
 use crate::look::first_damaged;
 use crate::take::copy_messages;
 use crate::take::turn_blocks;
 use crate::take::write_counts;
+use blocks::later_table;
 use layout::Acceptance;
 use layout::Plan;
 use layout::check_layout;
 use layout::plan_of;
 use layout::refusal_reply;
+use remainder::table::make_table;
 
 // The reply to the lengths that a reader is lent.
 fn read_reply(plan: Plan, page: usize, metadata: usize, data: usize, counts: usize) -> u8
@@ -71,29 +75,78 @@ fn take_decided(
     write_counts(counts, flips);
 }
 
-// Reads a page of which `scan` is the first damaged block. The tables are here, since only a damaged page needs them.
+// Reads a page of which `scan` is the first damaged block; `table` is that of the later blocks' generator. The places are here, since
+// only a damaged page needs them.
 fn read_damaged(
     plan: Plan,
     page: &[u8],
     scan: Scan,
+    table: &[u64],
     metadata: &mut [u8],
     data: &mut [u8],
     counts: &mut [u8],
 ) -> ReadAnswer
     requires { ⌜ (Ready plan (now page)) × (Outputs plan (now metadata) (now «data») (now counts)) ⌝ }
-    requires { ⌜ Scanned plan (now page) 0 scan ⌝ }
+    requires { ⌜ (Scanned plan (now page) 0 scan) × (Table (plan .later .field) (plan .later .level) (now table)) ⌝ }
     ensures { λ r. ⌜ readEnded (readNumber r) (readBlock r) (now (metadata .exit)) (now («data» .exit)) (now (counts .exit))
         ≡ readIn plan (now (page .entry)) (now (metadata .entry)) (now («data» .entry)) (now (counts .entry)) ⌝ }
 {
     let mut places = [0u16; 16384];
     let mut flips = [0u8; 256];
-    match decide(plan, page, scan, &mut places, &mut flips) {
+    match decide(plan, page, scan, table, &mut places, &mut flips) {
         Decision::Ruined(block) => ReadAnswer::Ruined(block),
         Decision::Sound => {
             take_decided(plan, page, &places, &flips, metadata, data, counts);
             ReadAnswer::Done
         }
     }
+}
+
+// Reads a page of which `scan` is the first damaged block, if there is one.
+fn read_scanned(
+    plan: Plan,
+    page: &[u8],
+    scan: Scan,
+    table: &[u64],
+    metadata: &mut [u8],
+    data: &mut [u8],
+    counts: &mut [u8],
+) -> ReadAnswer
+    requires { ⌜ (Ready plan (now page)) × (Outputs plan (now metadata) (now «data») (now counts)) ⌝ }
+    requires { ⌜ (Scanned plan (now page) 0 scan) × (Table (plan .later .field) (plan .later .level) (now table)) ⌝ }
+    ensures { λ r. ⌜ readEnded (readNumber r) (readBlock r) (now (metadata .exit)) (now («data» .exit)) (now (counts .exit))
+        ≡ readIn plan (now (page .entry)) (now (metadata .entry)) (now («data» .entry)) (now (counts .entry)) ⌝ }
+{
+    let block = scan.block;
+    if block == plan.blocks {
+        take_clean(plan, page, metadata, data, counts);
+        return ReadAnswer::Done;
+    }
+    read_damaged(plan, page, scan, table, metadata, data, counts)
+}
+
+// Reads a page where the lengths are right. One table is made after the other in the same place: that of block 0, by which its
+// remainder is worked out, and that of the later blocks.
+fn read_lent(
+    plan: Plan,
+    page: &[u8],
+    metadata: &mut [u8],
+    data: &mut [u8],
+    counts: &mut [u8],
+) -> ReadAnswer
+    requires { ⌜ (Ready plan (now page)) × (Outputs plan (now metadata) (now «data») (now counts)) ⌝ }
+    ensures { λ r. ⌜ readEnded (readNumber r) (readBlock r) (now (metadata .exit)) (now («data» .exit)) (now (counts .exit))
+        ≡ readIn plan (now (page .entry)) (now (metadata .entry)) (now («data» .entry)) (now (counts .entry)) ⌝ }
+{
+    let first = plan.first;
+    let f = first.field;
+    let t = first.level as usize;
+    let mut table = [0u64; 2304];
+    make_table(f, t, &mut table);
+    let state = block_remainder(plan, page, &table, 0);
+    later_table(plan, &mut table);
+    let scan = first_damaged(plan, page, state, &table);
+    read_scanned(plan, page, scan, &table, metadata, data, counts)
 }
 
 // Reads a page under the plan of an accepted layout.
@@ -112,13 +165,7 @@ fn read_in(
     if reply != 0 {
         return ReadAnswer::Refused(reply);
     }
-    let scan = first_damaged(plan, page);
-    let block = scan.block;
-    if block == plan.blocks {
-        take_clean(plan, page, metadata, data, counts);
-        return ReadAnswer::Done;
-    }
-    read_damaged(plan, page, scan, metadata, data, counts)
+    read_lent(plan, page, metadata, data, counts)
 }
 
 // Reads a page into metadata, data and flip counts. `words` is the layout record.

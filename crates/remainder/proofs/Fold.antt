@@ -152,7 +152,7 @@ module _ (d g : ℕ) where
 
 -- the remainder by a generator
 
-degree-most : (f : Field) → degree f ≤ 14
+pub degree-most : (f : Field) → degree f ≤ 14
 unfolding degree
 degree-most Thirteen = omega arith
 degree-most Fourteen = omega arith

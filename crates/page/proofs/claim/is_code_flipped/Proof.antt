@@ -23,8 +23,14 @@ flip-claims-requires c κs =
     let e = c .before .before .before .before .before .covered .ensures .0 in
     (rw e (a .pre .2), omega arith)
 
-row-of-requires : tie.Need-row-of-requires
-row-of-requires c κs = search needs
+slice-aggregate-make-table : tie.Need-slice-aggregate-make-table
+slice-aggregate-make-table c = search needs
+
+make-table-requires : tie.Need-make-table-requires
+make-table-requires c κs = search needs
+
+slice-aggregate-remainder-of : tie.Need-slice-aggregate-remainder-of
+slice-aggregate-remainder-of c = search needs
 
 remainder-of-requires : tie.Need-remainder-of-requires
 remainder-of-requires c κs = search needs
@@ -37,7 +43,7 @@ same-length c = search needs
 
 returns : tie.Need-returns
 returns c =
-    let flip = c .before .before .before .before .before .before .before in
+    let flip = c .before .before .before .before .before .before .before .before .before in
     let copy = flip .before .before .before .before in
     let a = copy .before .before .before .before .before .before .before in
     let s = a .args .shape in
@@ -55,7 +61,9 @@ is-code-flipped-spec =
     covered-requires
     copy-bits-requires
     flip-claims-requires
-    row-of-requires
+    slice-aggregate-make-table
+    make-table-requires
+    slice-aggregate-remainder-of
     remainder-of-requires
     is-zero-requires
     same-length

@@ -28,7 +28,7 @@ parity-bits-requires c κs = search needs
 parity-of-requires : tie.Need-parity-of-requires
 unfolding coveredOf
 parity-of-requires c κs =
-    let a = c .before .before .before .before .before .before in
+    let a = c .before .before .before .before .before .before .before in
     (a .pre .0, omega arith)
 
 add-place-parity : tie.Need-add-place-parity
@@ -38,7 +38,7 @@ add-place-parity c = omega arith
 place-parity-requires : tie.Need-place-parity-requires
 unfolding coveredOf
 place-parity-requires c κs =
-    let a = c .before .before .before .before .before .before .before .before in
+    let a = c .before .before .before .before .before .before .before .before .before in
     let s = a .args .shape in
     let l = parity-bits-below (s .field) (s .level) (a .pre .0 .level) in
     (omega arith, omega arith)
@@ -50,7 +50,7 @@ returns-2 : tie.Need-returns-2
 returns-2 c =
     let put = c .before .before in
     let divided = put .before .before in
-    let s = divided .before .before .before .before .before .before .before .args .shape in
+    let s = divided .before .before .before .before .before .before .before .before .args .shape in
     put .place-parity .ensures
     ∙ ap (placed _ _) (parity-digits (s .field) (s .level) _ (divided .before .before .parity-bits .ensures) (divided .parity-of .ensures))
 

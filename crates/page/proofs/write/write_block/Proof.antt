@@ -13,7 +13,7 @@ cast-n c = search needs
 copy-payload-requires : tie.Need-copy-payload-requires
 unfolding coveredOf
 copy-payload-requires c κs =
-    let a = c .before .before .before .before .before in
+    let a = c .before .before .before .before .before .before in
     (a .pre .1, a .pre .2, record { ends = omega arith; fits = omega arith })
 
 put-parity-requires : tie.Need-put-parity-requires
@@ -27,8 +27,9 @@ unfolding coveredOf
 returns c =
     let two = c .before .before in
     let one = two .before .before .before .before in
-    let a = one .before .before .before .before .before .before .args in
-    encoded-placed (a .shape) (a .page .now) (a .position) _ (run-length _ _ _) (omega arith) (one .copy-payload .ensures) (two .put-parity .ensures)
+    let s = one .before .before .before .before .before .before .before in
+    let a = s .args in
+    encoded-placed (a .shape) (a .page .now) (a .position) _ (run-length _ _ _) (omega (arith, s .pre .3 .ends)) (one .copy-payload .ensures) (two .put-parity .ensures)
 
 pub write-block-spec : {M : Type 1} → statement M
 write-block-spec =

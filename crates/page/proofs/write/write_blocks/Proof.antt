@@ -13,31 +13,17 @@ use Rattle.page.proofs.write.write_blocks.Statement.{statement}
 use Rattle.page.proofs.write.write_blocks.Tie as tie
 
 abbrev Inv-loop : tie.InvT-loop
-Inv-loop plan metadata «data» page₀ blocks later row at₀ block₀ page at block =
+Inv-loop plan metadata «data» page₀ blocks later table at₀ block₀ page at block =
     (0 < block) × (block ≤ blocks) × (at ≡ from plan block) × Streamed plan (metadata ++ «data») block page
 
 abbrev μ-loop : tie.MeasureT-loop
-μ-loop plan metadata «data» page₀ blocks later row at₀ block₀ page at block = blocks - block
+μ-loop plan metadata «data» page₀ blocks later table at₀ block₀ page at block = blocks - block
 
-row-of-requires : tie.Need-row-of-requires Inv-loop μ-loop
-row-of-requires c κs = search needs
+slice-aggregate-write-first : tie.Need-slice-aggregate-write-first Inv-loop μ-loop
+slice-aggregate-write-first c = search needs
 
-write-block-requires : tie.Need-write-block-requires Inv-loop μ-loop
-unfolding from start
-write-block-requires c κs =
-    let a = c .before .before .before .before .before .before .before .before in
-    let q = a .args .plan in
-    let h = a .pre .1 in
-    let x : q .metadata < 256 = search needs in
-    let e = shape-zero q 0 refl in (
-      c .before .before .row-of .ensures,
-      omega arith,
-      message-inside q (a .pre .0 .valid) 0 (a .pre .0 .some) e h x (search needs) refl,
-      block-inside q (a .pre .0) 0 (a .pre .0 .some) e (h .size) (search needs) refl,
-    )
-
-row-of-requires-2 : tie.Need-row-of-requires-2 Inv-loop μ-loop
-row-of-requires-2 c κs = search needs
+write-first-requires : tie.Need-write-first-requires Inv-loop μ-loop
+write-first-requires c κs = search needs
 
 cast-at : tie.Need-cast-at Inv-loop μ-loop
 cast-at c = search needs
@@ -45,30 +31,35 @@ cast-at c = search needs
 loop-holds : tie.Need-loop-holds Inv-loop μ-loop
 unfolding from start
 loop-holds c =
-    let a = c .before .before .before .before .before .before .before .before .before .before .before .before .before in
+    let known = c .before .before .before .before .before .before .before .before .before in
+    let a = known .before .before .before in
     let q = a .args .plan in
-    let h = a .pre .1 in
-    let known = c .before .before .before .before .before .before .before .before .before .before in
-    let fresh = streamed-start q _ _ (record { count = refl; small = λ i. known .slice-known .given i .fits }) (h .size) in (
+    let fresh = streamed-start q _ _ (record { count = refl; small = λ i. known .slice-known .given i .fits }) (a .pre .1 .size) in (
       omega arith,
       a .pre .0 .some,
       from-first q,
-      streamed-next q _ 0 fresh (shape-zero q 0 refl) refl refl (c .before .before .before .before .write-block .ensures),
+      streamed-next q _ 0 fresh (shape-zero q 0 refl) refl refl (c .before .before .before .before .write-first .ensures .0),
     )
 
 block-start-requires : tie.Need-block-start-requires Inv-loop μ-loop
 block-start-requires c κs = search needs
 
-write-block-requires-2 : tie.Need-write-block-requires-2 Inv-loop μ-loop
-write-block-requires-2 c κs =
-    let a = c .before .before .before .before .before .before .before .before .before .before .before .before .before .before .before .before .before .before in
+slice-aggregate-write-block : tie.Need-slice-aggregate-write-block Inv-loop μ-loop
+slice-aggregate-write-block c = search needs
+
+write-block-requires : tie.Need-write-block-requires Inv-loop μ-loop
+write-block-requires c κs =
+    let turn = c .before .before .before .before in
+    let first = turn .before .before .before .before .before in
+    let a = first .before .before .before .before .before .before .before .before in
     let q = a .args .plan in
-    let s = c .before .before .before .before .loop in
+    let s = turn .loop in
     let h = a .pre .1 in
+    let known = a .good .0 in
     let x : q .metadata < 256 = search needs in
     let e = shape-later q (s .block) (s .inv .0) in
     let l = c .before .before .before .loop-test .taken in (
-      c .before .before .before .before .before .before .row-of2 .ensures,
+      first .write-first .ensures .1,
       omega arith,
       message-inside q (a .pre .0 .valid) (s .block) l e h x (search needs) (s .inv .2),
       block-inside q (a .pre .0) (s .block) l e (streamed-size q _ _ (s .inv .3)) (search needs) (c .before .before .block-start .ensures .0),
@@ -80,7 +71,7 @@ cast-at-2 c = search needs
 add-at : tie.Need-add-at Inv-loop μ-loop
 add-at c =
     let turn = c .before .before .before .before .before .before .before .before in
-    let a = turn .before .before .before .before .before .before .before .before .before .before .before .before .before .before in
+    let a = turn .before .before .before .before .before .before .before .before .before .before .before .before .before in
     let q = a .args .plan in
     let s = turn .loop in
     let h = a .pre .1 in
@@ -91,7 +82,7 @@ add-at c =
 add-block : tie.Need-add-block Inv-loop μ-loop
 add-block c =
     let turn = c .before .before .before .before .before .before .before .before in
-    let a = turn .before .before .before .before .before .before .before .before .before .before .before .before .before .before in
+    let a = turn .before .before .before .before .before .before .before .before .before .before .before .before .before in
     let x : a .args .plan .blocks < 65536 = search needs in
     let l = c .before .before .before .before .before .before .before .loop-test .taken in
     record { fits = omega arith }
@@ -102,14 +93,14 @@ loop-less c = search needs
 loop-again : tie.Need-loop-again Inv-loop μ-loop
 loop-again c =
     let turn = c .before .before .before .before .before .before .before .before in
-    let q = turn .before .before .before .before .before .before .before .before .before .before .before .before .before .before .args .plan in
+    let q = turn .before .before .before .before .before .before .before .before .before .before .before .before .before .args .plan in
     let s = turn .loop in
     let l = c .before .before .before .before .before .before .before .loop-test .taken in
     let put = c .before .before .before in (
       omega arith,
       omega arith,
       rw (s .inv .2) (from-next q (s .block) (s .inv .0)),
-      streamed-next q _ (s .block) (s .inv .3) (shape-later q (s .block) (s .inv .0)) (s .inv .2) (put .before .before .before .block-start .ensures .0) (put .write-block2 .ensures),
+      streamed-next q _ (s .block) (s .inv .3) (shape-later q (s .block) (s .inv .0)) (s .inv .2) (put .before .before .before .block-start .ensures .0) (put .write-block .ensures),
     )
 
 block-start-requires-2 : tie.Need-block-start-requires-2 Inv-loop μ-loop
@@ -117,7 +108,7 @@ block-start-requires-2 c κs = search needs
 
 mul-fill-ones : tie.Need-mul-fill-ones Inv-loop μ-loop
 mul-fill-ones c =
-    let q = c .before .before .before .before .before .before .before .before .before .before .before .before .before .before .before .before .before .args .plan in
+    let q = c .before .before .before .before .before .before .before .before .before .before .before .before .before .before .before .before .args .plan in
     let n = streamed-size q _ _ (c .before .before .before .loop .inv .3) in
     let x : q .size < 65536 = search needs in
     record { fits = omega arith }
@@ -125,7 +116,7 @@ mul-fill-ones c =
 sub-fill-ones : tie.Need-sub-fill-ones Inv-loop μ-loop
 unfolding used
 sub-fill-ones c =
-    let a = c .before .before .before .before .before .before .before .before .before .before .before .before .before .before .before .before .before in
+    let a = c .before .before .before .before .before .before .before .before .before .before .before .before .before .before .before .before in
     let q = a .args .plan in
     let n = streamed-size q _ _ (c .before .before .before .loop .inv .3) in
     let r = used-room q (a .pre .0 .valid) in
@@ -135,7 +126,7 @@ sub-fill-ones c =
 fill-ones-requires : tie.Need-fill-ones-requires Inv-loop μ-loop
 unfolding used
 fill-ones-requires c κs =
-    let a = c .before .before .before .before .before .before .before .before .before .before .before .before .before .before .before .before .before in
+    let a = c .before .before .before .before .before .before .before .before .before .before .before .before .before .before .before .before in
     let q = a .args .plan in
     let n = streamed-size q _ _ (c .before .before .before .loop .inv .3) in
     let r = used-room q (a .pre .0 .valid) in
@@ -146,7 +137,7 @@ fill-ones-requires c κs =
 same-length : tie.Need-same-length Inv-loop μ-loop
 same-length c =
     let done = c .before .before in
-    let a = done .before .before .before .before .before .before .before .before .before .before .before .before .before .before .before .before .before .before in
+    let a = done .before .before .before .before .before .before .before .before .before .before .before .before .before .before .before .before .before in
     let n = streamed-size (a .args .plan) _ _ (done .before .before .before .before .loop .inv .3) in
     let m = a .pre .1 .size in
     search needs
@@ -154,7 +145,7 @@ same-length c =
 returns : tie.Need-returns Inv-loop μ-loop
 returns c =
     let done = c .before .before in
-    let a = done .before .before .before .before .before .before .before .before .before .before .before .before .before .before .before .before .before .before in
+    let a = done .before .before .before .before .before .before .before .before .before .before .before .before .before .before .before .before .before in
     let s = done .before .before .before .before .loop in
     let e : s .block ≡ a .args .plan .blocks = omega arith in
     streamed-end (a .args .plan) _ (a .pre .0 .valid) (rw e at (s .inv .3)) (done .before .before .block-start2 .ensures .0) (done .fill-ones .ensures)
@@ -165,13 +156,13 @@ write-blocks-spec =
     (tie.spec
     Inv-loop
     μ-loop
-    row-of-requires
-    write-block-requires
-    row-of-requires-2
+    slice-aggregate-write-first
+    write-first-requires
     cast-at
     loop-holds
     block-start-requires
-    write-block-requires-2
+    slice-aggregate-write-block
+    write-block-requires
     cast-at-2
     add-at
     add-block

@@ -6,9 +6,6 @@ use Rattle.page_read.proofs.Deciding.{later-field, same-field}
 use Rattle.page_read.proofs.decide.decide.Statement.{statement}
 use Rattle.page_read.proofs.decide.decide.Tie as tie
 
-shape-row-requires : tie.Need-shape-row-requires
-shape-row-requires c κs = search needs
-
 degree-requires : tie.Need-degree-requires
 degree-requires c κs = search needs
 
@@ -23,11 +20,10 @@ returns c = search needs
 
 decide-alike-requires : tie.Need-decide-alike-requires
 decide-alike-requires c κs =
-    let d = c .before .before .before .before in
-    let s = d .before .before .before .before in
-    let p = s .before .before .before .pre in (
-      (p .0, s .shape-row .ensures, p .1),
-      same-field _ _ (sym (d .before .degree .ensures) ∙ c .before .before .before .if2 .left ∙ d .degree2 .ensures),
+    let d = c .before .before .before in
+    let p = d .before .before .before .before .before .before .before .pre in (
+      p,
+      same-field _ _ (sym (d .before .degree .ensures) ∙ c .before .before .if2 .left ∙ d .degree2 .ensures),
     )
 
 returns-2 : tie.Need-returns-2
@@ -35,9 +31,8 @@ returns-2 c = search needs
 
 decide-alike-requires-2 : tie.Need-decide-alike-requires-2
 decide-alike-requires-2 c κs =
-    let s = c .before .before .before .before in
-    let p = s .before .before .before .pre in
-    ((p .0, s .shape-row .ensures, p .1), later-field _ _ (pos-of-ne-zero (c .before .before .before .if1 .left)))
+    let p = c .before .before .before .before .before .pre in
+    (p, later-field _ _ (pos-of-ne-zero (c .before .before .if1 .left)))
 
 returns-3 : tie.Need-returns-3
 returns-3 c = search needs
@@ -46,7 +41,6 @@ pub decide-spec : {M : Type 1} → statement M
 decide-spec =
     tie.close
     (tie.spec
-    shape-row-requires
     degree-requires
     degree-requires-2
     decide-mixed-requires

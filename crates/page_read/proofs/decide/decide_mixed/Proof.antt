@@ -9,7 +9,7 @@ use Rattle.page_read.proofs.decide.decide_mixed.Tie as tie
 
 decide-first-requires : tie.Need-decide-first-requires
 decide-first-requires c κs =
-    let p = c .before .before .before .before .pre in
+    let p = c .before .before .before .before .before .pre in
     let u = p .0 .2 in
     let plan = p .0 .0 .plan in
     ((plan, underway-low _ _ plan u (p .1) (plan .some)), (u .places-length, u .flips-length))
@@ -17,7 +17,7 @@ decide-first-requires c κs =
 returns : tie.Need-returns
 unfolding Decides
 returns c =
-    let p = c .before .before .before .before .before .before .pre in
+    let p = c .before .before .before .before .before .before .before .pre in
     let plan = p .0 .0 .plan in
     underway-ruined _ _ plan (p .0 .2) (p .1) (plan .some) (c .before .decide-first .ensures) (not-true _ (c .if1 .taken))
 
@@ -28,7 +28,7 @@ returns-2 : tie.Need-returns-2
 unfolding Decides
 returns-2 c =
     let s = c .before .before .before in
-    let p = s .before .before .before .before .before .before .pre in
+    let p = s .before .before .before .before .before .before .before .pre in
     let plan = p .0 .0 .plan in
     underway-sound _ _ plan (underway-next _ _ plan (p .0 .2) (p .1) (plan .some) (s .before .decide-first .ensures) (not-false _ (s .if1 .left))
     (c .before .before .next-damaged .ensures)) (omega arith)
@@ -37,7 +37,7 @@ decide-alike-requires : tie.Need-decide-alike-requires
 decide-alike-requires c κs =
     let n = c .before .before .before .before in
     let s = n .before in
-    let p = s .before .before .before .before .before .before .pre in
+    let p = s .before .before .before .before .before .before .before .pre in
     let plan = p .0 .0 .plan in (
       (
         p .0 .0,

@@ -23,7 +23,7 @@ zero-requires c κs = search needs
 returns : tie.Need-returns
 returns c =
     let s = c .before .before .before in
-    let a = s .before .before .args in
+    let a = s .before .before .before .args in
     let e : level (a .plan) (a .block) ≡ 0 = ap (λ (x : Shape). x .level) (sym (s .block-shape .ensures)) ∙ c .before .if1 .taken in
     c .zero .ensures ∙ sym (remainderAt-none (a .plan) (now (a .page)) (a .block) e)
 
@@ -36,7 +36,7 @@ block-covered-requires c κs = search needs
 remainder-of-requires : tie.Need-remainder-of-requires
 remainder-of-requires c κs =
     let s = c .before .before .before .before in
-    (rw (s .block-shape .ensures) (s .before .before .pre .1 .1), omega arith)
+    (rw (s .block-shape .ensures) (s .before .before .before .pre .1 .1), omega arith)
 
 returns-2 : tie.Need-returns-2
 unfolding remainderAt blockWord

@@ -1,46 +1,32 @@
 -- `page_read::look::first_damaged` meets its contract: block 0 has a shape of its own, and the later blocks are looked at in turn.
 use native.Mathlib.Omega.{arith}
 use borrow.Author.Needs.{needs}
-use Rattle.layout.specs.Plan as plan
 use Rattle.page_read.proofs.Scanning.{scanned-found, clean-next, scanned-first}
 use Rattle.page_read.proofs.look.first_damaged.Statement.{statement}
 use Rattle.page_read.proofs.look.first_damaged.Tie as tie
-
-shape-row-requires : tie.Need-shape-row-requires
-shape-row-requires c κs = search needs
-
-block-remainder-requires : tie.Need-block-remainder-requires
-unfolding plan.shape
-block-remainder-requires c κs = let p = c .before .before .before .before .pre in (p, (p .plan .some, c .before .shape-row .ensures))
 
 is-zero-requires : tie.Need-is-zero-requires
 is-zero-requires c κs = search needs
 
 returns : tie.Need-returns
 returns c = scanned-found _ _ _ (omega arith) (omega arith) (λ k l m. absurd (omega arith))
-    (c .before .before .block-remainder .ensures) (c .before .is-zero .ensures) (c .if1 .taken)
-
-shape-row-requires-2 : tie.Need-shape-row-requires-2
-shape-row-requires-2 c κs = search needs
+    (c .before .before .before .before .pre .0 .1) (c .before .is-zero .ensures) (c .if1 .taken)
 
 next-damaged-requires : tie.Need-next-damaged-requires
 next-damaged-requires c κs = search needs
 
 returns-2 : tie.Need-returns-2
 returns-2 c =
-    let s = c .before .before .before .before in
+    let s = c .before in
     scanned-first _ _
-    (clean-next _ _ _ (λ k l m. absurd (omega arith)) (s .before .before .block-remainder .ensures) (s .before .is-zero .ensures) (s .if1 .left))
+    (clean-next _ _ _ (λ k l m. absurd (omega arith)) (s .before .before .before .before .pre .0 .1) (s .before .is-zero .ensures) (s .if1 .left))
     (c .next-damaged .ensures)
 
 pub first-damaged-spec : {M : Type 1} → statement M
 first-damaged-spec =
     tie.close
     (tie.spec
-    shape-row-requires
-    block-remainder-requires
     is-zero-requires
     returns
-    shape-row-requires-2
     next-damaged-requires
     returns-2)

@@ -2,24 +2,24 @@
 use Prim.Native.Nat.{_-_, _≤_}
 use native.Mathlib.Omega.{arith}
 use borrow.Author.Needs.{needs}
-use Rattle.page_read.proofs.Scanning.{row-later, Clean, scanned-found, clean-next, scanned-end}
+use Rattle.page_read.proofs.Scanning.{table-later, Clean, scanned-found, clean-next, scanned-end}
 use Rattle.page_read.proofs.look.next_damaged.Statement.{statement}
 use Rattle.page_read.proofs.look.next_damaged.Tie as tie
 
 abbrev Inv-loop : tie.InvT-loop
-Inv-loop plan page row from blocks b₀ b = (from ≤ b) × (b ≤ blocks) × Clean plan page from b
+Inv-loop plan page table from blocks b₀ b = (from ≤ b) × (b ≤ blocks) × Clean plan page from b
 
 abbrev μ-loop : tie.MeasureT-loop
-μ-loop plan page row from blocks b₀ b = blocks - b
+μ-loop plan page table from blocks b₀ b = blocks - b
 
 loop-holds : tie.Need-loop-holds Inv-loop μ-loop
 loop-holds c = (search needs, search needs, λ k l m. absurd (omega arith))
 
 block-remainder-requires : tie.Need-block-remainder-requires Inv-loop μ-loop
 block-remainder-requires c κs =
-    let a = c .before .before .before in
+    let a = c .before .before .before .before in
     let p = a .pre .1 in
-    (a .pre .0, (search needs, row-later _ _ (omega (arith, p .0, c .before .loop .inv .0)) (p .2)))
+    (a .pre .0, (search needs, table-later _ _ (omega (arith, p .0, c .before .loop .inv .0)) (p .2)))
 
 is-zero-requires : tie.Need-is-zero-requires Inv-loop μ-loop
 is-zero-requires c κs = search needs

@@ -11,8 +11,8 @@ use Rattle.page_read.proofs.read.read_damaged.Tie as tie
 
 decide-requires : tie.Need-decide-requires
 decide-requires c κs =
-    let p = c .before .before .before .before .before .before .pre in
-    (p .0 .0, underway-start _ _ (p .0 .0 .plan) _ _ _ (p .1) (length-replicate {A = ℕ} 16384 0) (length-replicate {A = ℕ} 256 0) (zeros-at 256))
+    let p = c .before .before .before .before .before .before .before .pre in
+    (p .0 .0, p .1 .1, underway-start _ _ (p .0 .0 .plan) _ _ _ (p .1 .0) (length-replicate {A = ℕ} 16384 0) (length-replicate {A = ℕ} 256 0) (zeros-at 256))
 
 enum-known-block : tie.Need-enum-known-block
 enum-known-block c = search needs
@@ -25,14 +25,14 @@ unfolding Decides
 take-decided-requires c κs =
     let told = c .before .before .before .before .before in
     let d = told .before .before in
-    let p = d .before .before .before .before .before .before .before .pre in
+    let p = d .before .before .before .before .before .before .before .before .pre in
     (p .0, rw (told .enum-told .given .1) at (d .decide .ensures))
 
 returns : tie.Need-returns
 unfolding Decides readNumber readBlock
 returns c =
     let d = c .before .before .before in
-    let p = d .before .before .before .before .before .before .before .pre in
+    let p = d .before .before .before .before .before .before .before .before .pre in
     read-ruined _ _ (p .0 .0) _ _ _ (p .0 .1) _ (rw (c .before .block .given .1) at (d .decide .ensures))
 
 same-length : tie.Need-same-length

@@ -1,0 +1,2 @@
+-- Laws behind what writing and reading pages share.
+pub mod Tables

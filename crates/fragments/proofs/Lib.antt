@@ -1,0 +1,5 @@
+pub mod Numbers
+pub mod Replies
+pub mod Meaning
+pub mod Back
+pub mod Trips

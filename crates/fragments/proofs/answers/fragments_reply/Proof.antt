@@ -1,0 +1,29 @@
+-- `fragments::answers::fragments_reply` meets its contract.
+use mathlib.Core.Path.{sym, ap, _∙_}
+use mathlib.Core.List.{[]}
+use borrow.Author.Needs.{needs}
+use Rattle.fragments.specs.declared.FragmentsAnswer.{FragmentsAnswer}
+use Rattle.fragments.specs.Calls.{ended}
+use Rattle.fragments.proofs.answers.fragments_reply.Statement.{statement}
+use Rattle.fragments.proofs.answers.fragments_reply.Tie as tie
+
+enum-told : tie.Need-enum-told
+enum-told c = search needs
+
+enum-known-answer : tie.Need-enum-known-answer
+enum-known-answer c = search needs
+
+refusal-reply-requires : tie.Need-refusal-reply-requires
+refusal-reply-requires c κs = search needs
+
+returns : tie.Need-returns
+unfolding ended
+returns c = sym (ap (λ (a : FragmentsAnswer). ended a [] .reply) (c .enum-told .given .1))
+
+returns-2 : tie.Need-returns-2
+unfolding ended
+returns-2 c = c .refusal-reply .ensures ∙ sym (ap (λ (a : FragmentsAnswer). ended a [] .reply) (c .before .before .answer .given .1))
+
+pub fragments-reply-spec : {M : Type 1} → statement M
+fragments-reply-spec =
+    tie.close (tie.spec enum-told enum-known-answer refusal-reply-requires returns returns-2)
