@@ -13,6 +13,7 @@
 // reply, the reply's block, a kind and a value. None asks anything of its caller but that a slice is one: include/rudderfig.h
 // says what that means in C.
 mod answer;
+mod parity;
 
 use answer::done;
 use answer::refused;
