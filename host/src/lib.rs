@@ -12,6 +12,10 @@
 //! - [`check_claim`]: are these error locations right?
 //! - [`pieces::Pieces`]: the parity of a block whose message arrives in pieces (document 02, E4).
 //!
+//! and those of document 02
+//!
+//! - [`export_fragments`], [`import_fragments`]: a remainder to a hardware locator's fragments, and back.
+//!
 //! Each takes any arguments. `Ok` is reply 0; a [`Refusal`] holds the reply's number and block, and
 //! then every lent buffer keeps its content.
 //!
@@ -25,6 +29,7 @@ pub mod code;
 pub mod compare;
 pub mod decoder;
 pub mod field;
+pub mod fragments;
 pub mod guarded;
 pub mod layout;
 pub mod library;
@@ -35,6 +40,7 @@ pub mod random;
 pub mod reply;
 pub mod samples;
 
+pub use fragments::{export_fragments, import_fragments};
 pub use layout::{BitPlace, Layout, bit_position, check_layout, locate_bit};
 pub use locate::locate_errors;
 pub use page::{check_claim, judge_block, read_page, write_page};

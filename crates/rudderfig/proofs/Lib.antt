@@ -5,4 +5,5 @@ pub mod Bits
 pub mod Pages
 pub mod Returns
 pub mod Locating
+pub mod Fragments
 pub mod Pieces

@@ -3,4 +3,5 @@ pub mod Answer
 pub mod Bits
 pub mod Pages
 pub mod Locating
+pub mod Fragments
 pub mod Pieces
