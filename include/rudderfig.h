@@ -1,8 +1,8 @@
 /*
  * Rudderfig: NAND pages written and read through binary BCH codes.
  *
- * Link librudderfig.a, which `make lib` leaves beside this file. Eight calls answer the seven questions of the project's document 01; the
- * numbers and names below are the document's. Each call is total: any layout words, any lengths, any page content get an answer, and a caller
+ * Link librudderfig.a, which `make lib` leaves beside this file. Eight calls answer the seven questions of the project's document 01, and two
+ * more hand a remainder to a hardware locator and take it back; the numbers and names below are the documents'. Each call is total: any layout words, any lengths, any page content get an answer, and a caller
  * has to have tested nothing. Each is proved to return what its definition says, and to leave every lent byte as that definition says.
  *
  *
@@ -21,8 +21,8 @@
  *
  * What is lent
  *
- * A buffer is a pointer and a number of elements (bytes, or 16-bit numbers where the type says so), all of which can be read, and written where
- * the pointer is not to const. An empty buffer may come with any pointer, NULL too. A pointer to 16-bit numbers is aligned as the type asks.
+ * A buffer is a pointer and a number of elements (bytes, or numbers of 16 or 32 bits where the type says so), all of which can be read, and
+ * written where the pointer is not to const. An empty buffer may come with any pointer, NULL too. A pointer is aligned as its type asks.
  * A buffer that the call may write does not overlap any other buffer of the call. Nothing is kept after the call, and nothing is shared between
  * calls: there are no variables outside the stack and no heap, so calls may run at the same time on different buffers.
  * Numbers are taken at 64 bits and never cut: a block number of 2^32 is out of range.
@@ -52,14 +52,14 @@ extern "C" {
 
 enum rudderfig_reply_number {
     RUDDERFIG_DONE = 0,
-    RUDDERFIG_LEVEL_TOO_HIGH = 1,      /* a level field above 0x14 */
+    RUDDERFIG_LEVEL_TOO_HIGH = 1,      /* a level field above 0x14; for fragments, one that the locator does not have */
     RUDDERFIG_EMPTY_MESSAGE = 2,       /* a block with an empty message; a remainder of a code with no message */
     RUDDERFIG_BLOCK_TOO_LONG = 3,      /* a block with t > 0 longer than 2^m - 1 bits */
     RUDDERFIG_PAGE_TOO_SMALL = 4,      /* the blocks need more than 8 * PAGE_SIZE bits */
     RUDDERFIG_PAGE_LENGTH = 5,         /* the lent page has another length than PAGE_SIZE */
     RUDDERFIG_BUFFER_LENGTH = 6,       /* another lent buffer has a wrong length */
     RUDDERFIG_OUT_OF_RANGE = 7,        /* a block number, page bit, exponent or field choice outside its range */
-    RUDDERFIG_REMAINDER_TOO_WIDE = 8,  /* a remainder with a one above bit mt - 1 */
+    RUDDERFIG_REMAINDER_TOO_WIDE = 8,  /* a remainder, or fragments, with a one above bit mt - 1 */
     RUDDERFIG_UNCORRECTABLE = 9,       /* no codeword within t flips; for a page the lowest such block is named */
     RUDDERFIG_CLAIM_WRONG = 10         /* the claimed locations are wrong */
 };
@@ -77,6 +77,8 @@ enum rudderfig_reply_number {
 #define RUDDERFIG_STACK_JUDGE_BLOCK 90112
 #define RUDDERFIG_STACK_LOCATE_ERRORS 73728
 #define RUDDERFIG_STACK_CHECK_CLAIM 24576
+#define RUDDERFIG_STACK_EXPORT_FRAGMENTS 512
+#define RUDDERFIG_STACK_IMPORT_FRAGMENTS 512
 
 /* The largest of them. */
 #define RUDDERFIG_STACK RUDDERFIG_STACK_READ_PAGE
@@ -147,6 +149,29 @@ uint64_t rudderfig_locate_errors(uint64_t level_field, uint64_t field_choice, ui
  */
 uint64_t rudderfig_check_claim(const uint8_t *record, size_t record_len, const uint8_t *page, size_t page_len, uint64_t block,
                                const uint16_t *claims, size_t claims_len);
+
+/*
+ * A remainder for a hardware locator that takes seven 32-bit fragments (ELM_SYNDROME_FRAGMENT_0 to 6 of document 004), with m = 13 and t = 4, 8
+ * or 16: level_field is 2, 4 or 8. The coefficient of x^p stands in bit p % 32 of fragment p / 32; every other bit is zero, the start bit too.
+ * To start the locator, set RUDDERFIG_START_BIT in fragment 6 afterwards.
+ * Reads the remainder, (13 * t + 7) / 8 bytes, highest coefficient first, right-aligned; writes all seven fragments, and only on reply 0.
+ * Replies 0; 1 for another level field; 6 for a remainder of another length or not exactly seven fragments; 8 for a one above bit mt - 1;
+ * no value.
+ */
+#define RUDDERFIG_FRAGMENTS 7
+#define RUDDERFIG_START_BIT UINT32_C(0x10000)
+
+uint64_t rudderfig_export_fragments(uint64_t level_field, const uint8_t *remainder, size_t remainder_len, uint32_t *fragments,
+                                    size_t fragments_len);
+
+/*
+ * The same the other way. Reads the seven fragments; writes all of `remainder`, and only on reply 0. Replies as above, 8 where an unused bit of
+ * the fragments or the start bit is one. Import undoes export, and export undoes import.
+ * rudderfig_locate_errors takes the remainder, with field choice 0. A locator that is told the message's length alone counts addresses within
+ * the message: each is smaller by the 13 * t parity bits than the exponent.
+ */
+uint64_t rudderfig_import_fragments(uint64_t level_field, const uint32_t *fragments, size_t fragments_len, uint8_t *remainder,
+                                    size_t remainder_len);
 
 #ifdef __cplusplus
 }

@@ -50,10 +50,21 @@ pub enum Call {
         block: u64,
         claims: Vec<u16>,
     },
+    ExportFragments {
+        level_field: u64,
+        remainder: Vec<u8>,
+        fragments: Vec<u32>,
+    },
+    ImportFragments {
+        level_field: u64,
+        fragments: Vec<u32>,
+        remainder: Vec<u8>,
+    },
 }
 
 const GUARD_BYTE: u8 = 0x5C;
 const GUARD_PLACE: u16 = 0x5C5C;
+const GUARD_FRAGMENT: u32 = 0x5C5C_5C5C;
 
 impl Call {
     /// The kinds of calls in order, from 0.
@@ -67,6 +78,8 @@ impl Call {
             Call::JudgeBlock { .. } => 5,
             Call::LocateErrors { .. } => 6,
             Call::CheckClaim { .. } => 7,
+            Call::ExportFragments { .. } => 8,
+            Call::ImportFragments { .. } => 9,
         }
     }
 
@@ -92,7 +105,9 @@ impl Call {
             Call::JudgeBlock { record, page, .. } | Call::CheckClaim { record, page, .. } => {
                 vec![record, page]
             }
-            Call::LocateErrors { remainder, .. } => vec![remainder],
+            Call::LocateErrors { remainder, .. }
+            | Call::ExportFragments { remainder, .. }
+            | Call::ImportFragments { remainder, .. } => vec![remainder],
         }
     }
 
@@ -101,6 +116,16 @@ impl Call {
         match self {
             Call::LocateErrors { places: list, .. } | Call::CheckClaim { claims: list, .. } => {
                 Some(list)
+            }
+            _ => None,
+        }
+    }
+
+    /// The fragments of a remainder.
+    fn fragments(&mut self) -> Option<&mut Vec<u32>> {
+        match self {
+            Call::ExportFragments { fragments, .. } | Call::ImportFragments { fragments, .. } => {
+                Some(fragments)
             }
             _ => None,
         }
@@ -119,7 +144,9 @@ impl Call {
         }
         let content = self.list().cloned().unwrap_or_default();
         let mut list = Guarded::new(&content, GUARD_PLACE, random);
-        let answer = self.lend_to(library, &mut bytes, list.lend());
+        let content = self.fragments().cloned().unwrap_or_default();
+        let mut fragments = Guarded::new(&content, GUARD_FRAGMENT, random);
+        let answer = self.lend_to(library, &mut bytes, list.lend(), fragments.lend());
         for (buffer, guarded) in self.bytes().into_iter().zip(bytes) {
             *buffer = guarded.content()?;
         }
@@ -127,10 +154,20 @@ impl Call {
         if let Some(list) = self.list() {
             *list = content;
         }
+        let content = fragments.content()?;
+        if let Some(fragments) = self.fragments() {
+            *fragments = content;
+        }
         Ok(answer)
     }
 
-    fn lend_to(&self, library: &dyn Library, bytes: &mut [Guarded<u8>], list: &mut [u16]) -> u64 {
+    fn lend_to(
+        &self,
+        library: &dyn Library,
+        bytes: &mut [Guarded<u8>],
+        list: &mut [u16],
+        fragments: &mut [u32],
+    ) -> u64 {
         let mut lent = bytes.iter_mut().map(Guarded::lend);
         let mut next = || lent.next().unwrap();
         match *self {
@@ -149,6 +186,12 @@ impl Call {
                 ..
             } => library.locate_errors(level_field, field_choice, n, next(), list),
             Call::CheckClaim { block, .. } => library.check_claim(next(), next(), block, list),
+            Call::ExportFragments { level_field, .. } => {
+                library.export_fragments(level_field, next(), fragments)
+            }
+            Call::ImportFragments { level_field, .. } => {
+                library.import_fragments(level_field, fragments, next())
+            }
         }
     }
 
@@ -171,6 +214,12 @@ impl Call {
                     .iter_mut()
                     .for_each(|place| *place = random.number() as u16);
             }
+            Call::ExportFragments { fragments, .. } => {
+                fragments
+                    .iter_mut()
+                    .for_each(|fragment| *fragment = random.number() as u32);
+            }
+            Call::ImportFragments { remainder, .. } => *remainder = random.bytes(remainder.len()),
             _ => (),
         }
     }

@@ -6,6 +6,7 @@ use crate::guarded::GuardBroken;
 use crate::layout::{LayoutWords, check_layout};
 use crate::library::{Library, Model};
 use crate::random::Random;
+use crate::samples::fragments::{round_trips, spoilt as spoilt_fragments};
 use crate::samples::layouts::{CASE_A, accepted_words, code_bits, positions, records};
 use crate::samples::pages::{WrittenPage, damage_tail, spoil};
 use crate::samples::remainders::{document_cases, random_remainder, spoilt, sums};
@@ -15,7 +16,7 @@ pub struct Comparison<'a> {
     library: &'a dyn Library,
     random: Random,
     /// How many calls of each kind got each reply, in the order of the kinds of [`Call`].
-    pub replies: [[usize; 11]; 8],
+    pub replies: [[usize; 11]; 10],
 }
 
 /// A call in which the library and the model differ.
@@ -31,7 +32,7 @@ impl<'a> Comparison<'a> {
         Comparison {
             library,
             random: Random::new(seed),
-            replies: [[0; 11]; 8],
+            replies: [[0; 11]; 10],
         }
     }
 
@@ -39,6 +40,7 @@ impl<'a> Comparison<'a> {
     pub fn round(&mut self) -> Result<(), Box<Difference>> {
         self.layouts()?;
         self.remainders()?;
+        self.fragments()?;
         self.pages()
     }
 
@@ -111,6 +113,15 @@ impl<'a> Comparison<'a> {
             self.perform_filled(sample.into())?;
         }
         Ok(())
+    }
+
+    /// Remainders to a hardware locator, and back.
+    pub fn fragments(&mut self) -> Result<(), Box<Difference>> {
+        let mut calls = round_trips(&mut self.random);
+        calls.extend((0..400).map(|_| spoilt_fragments(&mut self.random)));
+        calls
+            .into_iter()
+            .try_for_each(|call| self.perform_filled(call).map(|_| ()))
     }
 
     /// Pages of many layouts, most of them small.

@@ -11,6 +11,10 @@
 //! - [`locate_errors`]: the wrong bits, from a remainder alone;
 //! - [`check_claim`]: are these error locations right?
 //!
+//! and those of document 02
+//!
+//! - [`export_fragments`], [`import_fragments`]: a remainder to a hardware locator's fragments, and back.
+//!
 //! Each takes any arguments. `Ok` is reply 0; a [`Refusal`] holds the reply's number and block, and
 //! then every lent buffer keeps its content.
 //!
@@ -24,6 +28,7 @@ pub mod code;
 pub mod compare;
 pub mod decoder;
 pub mod field;
+pub mod fragments;
 pub mod guarded;
 pub mod layout;
 pub mod library;
@@ -33,6 +38,7 @@ pub mod random;
 pub mod reply;
 pub mod samples;
 
+pub use fragments::{export_fragments, import_fragments};
 pub use layout::{BitPlace, Layout, bit_position, check_layout, locate_bit};
 pub use locate::locate_errors;
 pub use page::{check_claim, judge_block, read_page, write_page};

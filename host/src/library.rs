@@ -1,5 +1,6 @@
 //! The library as its C interface shows it, and the model in that form.
 
+use crate::fragments::{export_fragments, import_fragments};
 use crate::layout::{BitPlace, bit_position, check_layout, locate_bit};
 use crate::locate::locate_errors;
 use crate::page::{check_claim, judge_block, read_page, write_page};
@@ -42,6 +43,10 @@ pub trait Library {
     ) -> u64;
 
     fn check_claim(&self, record: &[u8], page: &[u8], block: u64, claims: &[u16]) -> u64;
+
+    fn export_fragments(&self, level_field: u64, remainder: &[u8], fragments: &mut [u32]) -> u64;
+
+    fn import_fragments(&self, level_field: u64, fragments: &[u32], remainder: &mut [u8]) -> u64;
 }
 
 /// The answer word of a call that is done with a kind and a value, or refused.
@@ -104,5 +109,13 @@ impl Library for Model {
 
     fn check_claim(&self, record: &[u8], page: &[u8], block: u64, claims: &[u16]) -> u64 {
         answer(check_claim(record, page, block, claims).map(|()| (0, 0)))
+    }
+
+    fn export_fragments(&self, level_field: u64, remainder: &[u8], fragments: &mut [u32]) -> u64 {
+        answer(export_fragments(level_field, remainder, fragments).map(|()| (0, 0)))
+    }
+
+    fn import_fragments(&self, level_field: u64, fragments: &[u32], remainder: &mut [u8]) -> u64 {
+        answer(import_fragments(level_field, fragments, remainder).map(|()| (0, 0)))
     }
 }

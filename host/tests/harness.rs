@@ -7,7 +7,7 @@ use model::compare::Comparison;
 use model::library::{Library, Model};
 
 /// The replies that each kind of call can give.
-const POSSIBLE: [&[usize]; 8] = [
+const POSSIBLE: [&[usize]; 10] = [
     &[0, 1, 2, 3, 4, 6],
     &[0, 1, 2, 3, 4, 6, 7],
     &[0, 1, 2, 3, 4, 6, 7],
@@ -16,6 +16,8 @@ const POSSIBLE: [&[usize]; 8] = [
     &[0, 1, 2, 3, 4, 5, 6, 7, 9],
     &[0, 1, 2, 3, 6, 7, 8, 9],
     &[0, 1, 2, 3, 4, 5, 6, 7, 10],
+    &[0, 1, 6, 8],
+    &[0, 1, 6, 8],
 ];
 
 #[test]
@@ -53,12 +55,18 @@ enum Fault {
     PlacesAfterwardsCleared,
     PlaceWrittenOnRefusal,
     EqualClaimsAccepted,
+    FragmentsReversed,
+    StartBitSet,
+    StartBitPassed,
+    RemainderWrittenOnRefusal,
 }
 
 /// The model with a fault.
 struct Faulty(Fault);
 
+const TOO_WIDE: u64 = 8;
 const UNCORRECTABLE: u64 = 9;
+const START_BIT: u32 = 0x1_0000;
 
 impl Library for Faulty {
     fn check_layout(&self, record: &[u8]) -> u64 {
@@ -148,6 +156,28 @@ impl Library for Faulty {
         }
         Model.check_claim(record, page, block, &claims)
     }
+
+    fn export_fragments(&self, level_field: u64, remainder: &[u8], fragments: &mut [u32]) -> u64 {
+        let answer = Model.export_fragments(level_field, remainder, fragments);
+        match (self.0, answer & 0xFF) {
+            (Fault::FragmentsReversed, 0) => fragments.reverse(),
+            (Fault::StartBitSet, 0) => fragments[6] |= START_BIT,
+            _ => (),
+        }
+        answer
+    }
+
+    fn import_fragments(&self, level_field: u64, fragments: &[u32], remainder: &mut [u8]) -> u64 {
+        let mut fragments = fragments.to_vec();
+        if let (Fault::StartBitPassed, Some(last)) = (self.0, fragments.get_mut(6)) {
+            *last &= !START_BIT;
+        }
+        let answer = Model.import_fragments(level_field, &fragments, remainder);
+        if self.0 == Fault::RemainderWrittenOnRefusal && answer == TOO_WIDE {
+            remainder[0] ^= 1;
+        }
+        answer
+    }
 }
 
 #[test]
@@ -175,6 +205,16 @@ fn faulty_libraries_are_found_out() {
     }
     for fault in remainders {
         let found_out = Comparison::new(&Faulty(fault), 12).remainders().is_err();
+        assert!(found_out, "{fault:?}");
+    }
+    let fragments = [
+        Fault::FragmentsReversed,
+        Fault::StartBitSet,
+        Fault::StartBitPassed,
+        Fault::RemainderWrittenOnRefusal,
+    ];
+    for fault in fragments {
+        let found_out = Comparison::new(&Faulty(fault), 12).fragments().is_err();
         assert!(found_out, "{fault:?}");
     }
     for fault in pages {

@@ -5,3 +5,4 @@ pub mod Bits
 pub mod Pages
 pub mod Returns
 pub mod Locating
+pub mod Fragments

@@ -3,3 +3,4 @@ pub mod Answer
 pub mod Bits
 pub mod Pages
 pub mod Locating
+pub mod Fragments

@@ -67,6 +67,22 @@ mod interface {
             claims: *const u16,
             claims_len: usize,
         ) -> u64;
+
+        pub fn rudderfig_export_fragments(
+            level_field: u64,
+            remainder: *const u8,
+            remainder_len: usize,
+            fragments: *mut u32,
+            fragments_len: usize,
+        ) -> u64;
+
+        pub fn rudderfig_import_fragments(
+            level_field: u64,
+            fragments: *const u32,
+            fragments_len: usize,
+            remainder: *mut u8,
+            remainder_len: usize,
+        ) -> u64;
     }
 }
 
@@ -112,9 +128,7 @@ impl Library for Archive {
     }
 
     fn bit_position(&self, record: &[u8], block: u64, exponent: u64) -> u64 {
-        unsafe {
-            interface::rudderfig_bit_position(self.of(record), record.len(), block, exponent)
-        }
+        unsafe { interface::rudderfig_bit_position(self.of(record), record.len(), block, exponent) }
     }
 
     fn write_page(&self, record: &[u8], metadata: &[u8], data: &[u8], page: &mut [u8]) -> u64 {
@@ -199,6 +213,30 @@ impl Library for Archive {
                 block,
                 self.of(claims),
                 claims.len(),
+            )
+        }
+    }
+
+    fn export_fragments(&self, level_field: u64, remainder: &[u8], fragments: &mut [u32]) -> u64 {
+        unsafe {
+            interface::rudderfig_export_fragments(
+                level_field,
+                self.of(remainder),
+                remainder.len(),
+                self.of_mut(fragments),
+                fragments.len(),
+            )
+        }
+    }
+
+    fn import_fragments(&self, level_field: u64, fragments: &[u32], remainder: &mut [u8]) -> u64 {
+        unsafe {
+            interface::rudderfig_import_fragments(
+                level_field,
+                self.of(fragments),
+                fragments.len(),
+                self.of_mut(remainder),
+                remainder.len(),
             )
         }
     }

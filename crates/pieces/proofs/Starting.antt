@@ -1,0 +1,23 @@
+-- The state before the first byte.
+use mathlib.Core.Path.{_≡_, refl, sym, ap, _∙_}
+use mathlib.Core.Bool.{false}
+use mathlib.Core.List.{List, []}
+use Prim.Native.Nat.{ℕ, _*_}
+use lib.ListN.{replicate}
+use Rattle.bits.specs.Bits.{run}
+use Rattle.field.specs.declared.Field.{Field}
+use Rattle.field.specs.Field.{degree}
+use Rattle.code.specs.Generator.{remainder}
+use Rattle.pieces.specs.declared.State.{State}
+use Rattle.pieces.specs.State.{bitsOf, carried, wordsOf, choiceOf, stateOf}
+use Rattle.pieces.proofs.Words.{wordsOf-zero}
+use Rattle.pieces.proofs.Carrying.{parity-none}
+
+pub bitsOf-empty : bitsOf [] ≡ []
+unfolding bitsOf run
+bitsOf-empty = refl
+
+pub state-start : (f : Field) (level n : ℕ) {c : ℕ} → c ≡ choiceOf f
+    → record { level = level; choice = c; size = n; fed = 0; words = replicate 14 0 } ≡ stateOf f level n []
+unfolding stateOf
+state-start f level n e = rw (e, bitsOf-empty, parity-none f (2 * level), ← wordsOf-zero)

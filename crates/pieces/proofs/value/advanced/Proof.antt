@@ -1,0 +1,26 @@
+-- `pieces::value::advanced` meets its contract.
+use mathlib.Core.Path.{_≡_, sym, _∙_}
+use native.Mathlib.Omega.{arith}
+use Rattle.pieces.specs.State.{after}
+use Rattle.pieces.proofs.Words.{words-number}
+use Rattle.pieces.proofs.Replies.{usable-going, usable-level, piece-short}
+use borrow.Author.Needs.{needs}
+use Rattle.pieces.proofs.value.advanced.Statement.{statement}
+use Rattle.pieces.proofs.value.advanced.Tie as tie
+
+carried-requires : tie.Need-carried-requires
+carried-requires c κs =
+    let s = c .before .before in
+    (usable-level _ _ (s .pre .0), usable-going _ _ (s .pre .0) .below, λ l. piece-short _ _ (s .pre .0) _ (s .pre .1) l)
+
+add-t11 : tie.Need-add-t11
+add-t11 c = search needs
+
+returns : tie.Need-returns
+unfolding after
+returns c =
+    let r = c .before .before .carried .ensures in
+    rw (words-number (c .before .before .carried .result .words) (search needs) (λ k. search needs) r)
+
+pub advanced-spec : {M : Type 1} → statement M
+advanced-spec = tie.close (tie.spec carried-requires add-t11 returns)

@@ -1,0 +1,112 @@
+-- The calls of a writer that takes one block's message in pieces (document 02, E4): what each answers and leaves.
+-- Each is a function of everything that is handed in or lent, for every state, whoever made it. Of several replies the first in the
+-- order 7, 1, 2, 3, 6 is given. A refusal leaves the state and the parity buffer as they were, and finishing leaves the state.
+--
+-- shapeFor f level n        the shape of a block with a message of n bytes (layout/Plan)
+-- blockReply f level n      1, 2 or 3 where a block of a page would get it (layout/Acceptance), else 0
+-- usable f s                a start in the field f accepts the numbers of the state, no more is fed than the message has, and what is carried is below 2^(mt)
+-- parityBytes f t           the bytes of a parity: mt / 8 rounded up
+-- answered reply s          an answer; Finished: a reply, the state and the lent parity buffer afterwards
+-- startIn, feedIn, finishIn     the calls in a field; startFor, feedFor, finishFor: with the answer to a field choice
+-- startOf s level choice n  starting a block: the state before the first byte of its message
+-- feedOf s piece            feeding a piece: all of it is taken in, or none
+-- finishOf s buffer         finishing: the parity in the buffer
+use mathlib.Core.Bool.{Bool, false, cond}
+use mathlib.Core.List.{List, []}
+use Prim.Native.Nat.{ℕ, _+_, _*_, _/_, _^_}
+use lib.ListN.{length}
+use lib.Dec.{eqb, leb, ltb}
+use Rattle.field.specs.declared.Field.{Field}
+use Rattle.field.specs.declared.Choice.{Choice}
+use Rattle.field.specs.declared.Choice.the-variants.{Offered, Unknown}
+use Rattle.field.specs.Field.{degree, chosen}
+use Rattle.layout.specs.declared.BlockFields.{BlockFields}
+use Rattle.layout.specs.declared.Shape.{Shape}
+use Rattle.layout.specs.declared.Finding.{Finding}
+use Rattle.layout.specs.declared.Finding.the-variants.{Kept, Broken}
+use Rattle.layout.specs.declared.Kind.the-variants.{First}
+use Rattle.layout.specs.Acceptance.{either, levelRule, messageRule, lengthRule, ruleNumber}
+use Rattle.code.specs.Register.{register}
+use Rattle.remainder.specs.Remainder.{bytesOf}
+use Rattle.pieces.specs.declared.State.{State}
+use Rattle.pieces.specs.declared.Answered.{Answered}
+use Rattle.pieces.specs.State.{stateOf, after}
+
+-- t is twice the level field, 0 where there is no ECC.
+unfoldable pub shapeFor : Field → ℕ → ℕ → Shape
+shapeFor f level n = record { message = 8 * n; field = f; level = 2 * level }
+
+unfoldable pub findingReply : Finding → ℕ
+findingReply Kept = 0
+findingReply (Broken reason) = ruleNumber (reason .rule)
+
+-- The rules of one block, in their order.
+unfoldable pub blockReply : Field → ℕ → ℕ → ℕ
+blockReply f level n =
+    findingReply
+    (either (levelRule First (record { ecc = level; gf = f; units = 0 }))
+    (either (messageRule First (shapeFor f level n)) (lengthRule First (shapeFor f level n))))
+
+unfoldable pub usable : Field → State → Bool
+usable f s =
+    cond (eqb (blockReply f (s .level) (s .size)) 0)
+    (cond (leb (s .fed) (s .size)) (ltb (register (s .words)) (2 ^ (degree f * (2 * s .level)))) false)
+    false
+
+unfoldable pub parityBytes : Field → ℕ → ℕ
+parityBytes f t = (degree f * t + 7) / 8
+
+abbrev pub answered : ℕ → State → Answered
+answered reply s = record { reply = reply; state = s }
+
+pub record Finished : Type 0 where
+  pub reply : ℕ
+  pub state : State
+  pub parity : List ℕ
+
+-- what the code answers, with the buffer that it leaves
+unfoldable pub finished : Answered → List ℕ → Finished
+finished a parity = record { reply = a .reply; state = a .state; parity = parity }
+
+unfoldable pub startIn : Field → State → ℕ → ℕ → Answered
+startIn f s level n = cond (eqb (blockReply f level n) 0) (answered 0 (stateOf f level n [])) (answered (blockReply f level n) s)
+
+-- 7: a field choice that is not offered
+unfoldable pub startFor : Choice → State → ℕ → ℕ → Answered
+startFor (Offered f) s level n = startIn f s level n
+startFor Unknown s level n = answered 7 s
+
+unfoldable pub startOf : State → ℕ → ℕ → ℕ → Answered
+startOf s level choice n = startFor (chosen choice) s level n
+
+-- 7: a state that cannot be gone on with. 6: a piece that would pass the length stated at the start.
+unfoldable pub feedIn : Field → State → List ℕ → Answered
+feedIn f s piece =
+    cond (usable f s)
+    (cond (leb (s .fed + length piece) (s .size)) (answered 0 (after f s piece)) (answered 6 s))
+    (answered 7 s)
+
+unfoldable pub feedFor : Choice → State → List ℕ → Answered
+feedFor (Offered f) s piece = feedIn f s piece
+feedFor Unknown s piece = answered 7 s
+
+unfoldable pub feedOf : State → List ℕ → Answered
+feedOf s piece = feedFor (chosen (s .choice)) s piece
+
+-- 7: a state that cannot be gone on with. 6: a message that is not whole, or a buffer of another length than a parity's.
+unfoldable pub finishReply : Field → State → ℕ → ℕ
+finishReply f s n = cond (usable f s) (cond (eqb (s .fed) (s .size)) (cond (eqb n (parityBytes f (2 * s .level))) 0 6) 6) 7
+
+-- Document 01's form of a remainder: the highest coefficient first, right-aligned.
+unfoldable pub finishIn : Field → State → List ℕ → Finished
+finishIn f s buffer =
+    cond (eqb (finishReply f s (length buffer)) 0)
+    (finished (answered 0 s) (bytesOf (length buffer) (register (s .words))))
+    (finished (answered (finishReply f s (length buffer)) s) buffer)
+
+unfoldable pub finishFor : Choice → State → List ℕ → Finished
+finishFor (Offered f) s buffer = finishIn f s buffer
+finishFor Unknown s buffer = finished (answered 7 s) buffer
+
+unfoldable pub finishOf : State → List ℕ → Finished
+finishOf s buffer = finishFor (chosen (s .choice)) s buffer

@@ -1,0 +1,57 @@
+-- What exporting and importing fragments return: reply and block come back out of the word, and there is nothing beside them.
+use mathlib.Core.Path.{_≡_, refl, sym, ap, _∙_}
+use mathlib.Core.Bool.{Bool, true, false}
+use mathlib.Core.List.{List, []}
+use Prim.Native.Nat.{ℕ, _^_, _<_}
+use native.Mathlib.Omega.{arith}
+use lib.ListN.{length}
+use lib.Dec.{ltb}
+use Rattle.remainder.specs.Remainder.{numberOf}
+use Rattle.fragments.specs.declared.FragmentsAnswer.{FragmentsAnswer}
+use Rattle.fragments.specs.declared.FragmentsAnswer.the-variants.{Done, Refused}
+use Rattle.fragments.specs.Fragments.{joined}
+use Rattle.fragments.specs.Calls.{Ended, refusalReply, ended, ending, unless, offered, coefficients, fitting, reply, exportOf, importOf}
+use Rattle.rudderfig.specs.Answer.{answerWord}
+use Rattle.rudderfig.specs.Fragments.{FragmentsReturns}
+use Rattle.rudderfig.proofs.Words.{Holds, word-holds}
+
+reply-low : (field bytes count x : ℕ) → reply field bytes count x < 256
+unfolding reply
+reply-low field bytes count x = by (offered field) (fitting (coefficients field) bytes count) (ltb x (2 ^ coefficients field))
+  where
+    by : (a b c : Bool) → unless a 1 (unless b 6 (unless c 8 0)) < 256
+    by true true true = omega arith
+    by true true false = omega arith
+    by true false c = omega arith
+    by false b c = omega arith
+
+pub export-holds : (field : ℕ) (remainder fragments : List ℕ) → let w = exportOf field remainder fragments in Holds (w .reply) (w .block) 0 (answerWord (w .reply) (w .block) 0 0)
+unfolding exportOf ending
+export-holds field remainder fragments = word-holds 0 (reply-low field (length remainder) (length fragments) (numberOf remainder)) (omega arith) (λ h. refl)
+
+pub import-holds : (field : ℕ) (fragments remainder : List ℕ) → let w = importOf field fragments remainder in Holds (w .reply) (w .block) 0 (answerWord (w .reply) (w .block) 0 0)
+unfolding importOf ending
+import-holds field fragments remainder = word-holds 0 (reply-low field (length remainder) (length fragments) (joined fragments)) (omega arith) (λ h. refl)
+
+-- from what the call of the crate below ensures
+
+answer-lent : (a : FragmentsAnswer) (l : List ℕ) → ended a l .lent ≡ l
+unfolding ended
+answer-lent Done l = refl
+answer-lent (Refused r) l = refl
+
+answer-block : (a : FragmentsAnswer) (l : List ℕ) → ended a l .block ≡ 0
+unfolding ended
+answer-block Done l = refl
+answer-block (Refused r) l = refl
+
+answer-reply : (a : FragmentsAnswer) (k l : List ℕ) → ended a k .reply ≡ ended a l .reply
+unfolding ended
+answer-reply Done k l = refl
+answer-reply (Refused r) k l = refl
+
+pub fragments-returns : (a : FragmentsAnswer) {w : Ended} {x r : ℕ} (l : List ℕ) → ended a l ≡ w → x ≡ ended a [] .reply → r ≡ answerWord x 0 0 0 → FragmentsReturns w r l
+fragments-returns a l e h k = record {
+  word = k ∙ rw (h, ← e, answer-block a l) (ap (λ (y : ℕ). answerWord y 0 0 0) (answer-reply a [] l));
+  lent = rw (← e) (sym (answer-lent a l));
+}
