@@ -5,17 +5,17 @@ use mathlib.Core.List.{List, [], _∷_, _++_}
 use Prim.Native.Nat.{ℕ, zero, suc, _+_, _-_, _*_, _/_, _%_, _^_, _<_, _≤_}
 use native.Mathlib.Omega.{arith}
 use native.Mathlib.Numerals.{add-one}
-use lib.ListN.{length, getD, take, length-take}
+use lib.ListN.{length, getD, set, take, length-take}
 use lib.Seq.{take-suc, take-length}
 use lib.Dec.{eqb}
-use lib.Pow.{pow-mono, pow-add}
-use lib.Arith.{digits-lt}
 use Rattle.bits.specs.Bits.{bit, bitOf, run, number, digits, bytes, Bytes, placed}
-use Rattle.bits.proofs.Numbers.{digits-length, digits-at, digits-number, number-append, number-digits}
+use Rattle.bits.proofs.Numbers.{digits-length, digits-at, digits-number, number-append, number-high, number-digits}
 use Rattle.bits.proofs.Runs.{run-length, run-at, run-append, run-ext}
-use Rattle.bits.proofs.Pages.{number-run-lt, byte-number, bytes-length, bytes-bit, bytes-ext}
+use Rattle.bits.proofs.Pages.{bytes-length, bytes-bit, bytes-ext}
 use Rattle.bits.proofs.Placed.{placed-append, placed-whole}
+use Rattle.code.specs.Register.{low}
 use Rattle.remainder.specs.Remainder.{numberOf, bytesOf}
+use Rattle.remainder.proofs.Words.{low-store}
 
 -- the digits of x put into a page one by one, the highest first
 
@@ -36,25 +36,32 @@ module _ (page : List ℕ) (s d x : ℕ) where
       let n : i ≡ length (digits x d) = e ∙ sym (digits-length x d) in
       eq ∙ rw (n, take-length (digits x d))
 
--- a remainder handed in, byte by byte
+-- bits read as a number, a word at a time from the last on
 
-pub number-start : (l : List ℕ) → number (run (bitOf l) 0 (8 * 0)) ≡ 0
-unfolding number run
-number-start l = refl
+pub words-start : (l : List ℕ) (at : ℕ) (ws : List ℕ) → low ws 0 ≡ number (run (bitOf l) at (64 * 0))
+unfolding low number run
+words-start l at ws = refl
 
-pub number-next : (l : List ℕ) (i : ℕ) {x y : ℕ} → getD l i 0 < 256 → x ≡ number (run (bitOf l) 0 (8 * i)) → y ≡ x * 256 + getD l i 0 → y ≡ number (run (bitOf l) 0 (8 * (i + 1)))
-number-next l i h ex ey =
-    let e : 8 * (i + 1) ≡ 8 * i + 8 = omega arith in
-    let z : 0 + 8 * i ≡ 8 * i = omega arith in
-    ey ∙ rw (ex, e, run-append (bitOf l) 0 (8 * i) 8, z, number-append, run-length (bitOf l) (8 * i) 8, byte-number l i h) refl
+pub words-next : (l ws : List ℕ) (at n i : ℕ) {w : ℕ} → i < n → i < length ws → low ws i ≡ number (run (bitOf l) (at + 64 * (n - i)) (64 * i)) → w ≡ number (run (bitOf l) (at + 64 * (n - 1 - i)) 64)
+    → low (set ws i w) (i + 1) ≡ number (run (bitOf l) (at + 64 * (n - (i + 1))) (64 * (i + 1)))
+words-next l ws at n i {w} h k inv ew =
+    let p : ℕ = at + 64 * (n - (i + 1)) in
+    let a : at + 64 * (n - 1 - i) ≡ p = omega arith in
+    let b : at + 64 * (n - i) ≡ p + 64 = omega arith in
+    let e : 64 * (i + 1) ≡ 64 + 64 * i = omega arith in
+    low-store ws i w k ∙ rw (ew, inv, a, b, e, run-append (bitOf l) p 64 (64 * i), number-append (run (bitOf l) p 64) (run (bitOf l) (p + 64) (64 * i)), run-length (bitOf l) (p + 64) (64 * i)) refl
 
-pub number-room : (l : List ℕ) (i n : ℕ) {x b : ℕ} → i < n → x ≡ number (run (bitOf l) 0 (8 * i)) → b < 256 → x * 256 + b < 2 ^ (8 * n)
-number-room l i n h ex hb =
-    let e : 8 * suc i ≡ 8 + 8 * i = omega arith in
-    let p : 2 ^ (8 * suc i) ≡ 256 * 2 ^ (8 * i) = ap (λ (k : ℕ). 2 ^ k) e ∙ pow-add 2 8 (8 * i) in
-    let m : 2 ^ (8 * suc i) ≤ 2 ^ (8 * n) = pow-mono (omega arith) in
-    let r = number-run-lt (bitOf l) 0 (8 * i) in
-    omega arith
+-- the first bits, fewer than a word, above the words of those after them
+pub words-top : (l : List ℕ) (at n : ℕ) {x y w : ℕ} → 0 < n % 64 → x ≡ number (run (bitOf l) (at + n % 64) (64 * (n / 64))) → w ≡ number (run (bitOf l) at 64)
+    → y ≡ w / 2 ^ (64 - n % 64) * 2 ^ (64 * (n / 64)) + x → y ≡ number (run (bitOf l) at n)
+words-top l at n h ex ew ey =
+    let k : ℕ = n % 64 in
+    let e : 64 ≡ k + (64 - k) = omega arith in
+    let c : n ≡ k + 64 * (n / 64) = omega arith in
+    let r : run (bitOf l) at 64 ≡ run (bitOf l) at k ++ run (bitOf l) (at + k) (64 - k) = ap (run (bitOf l) at) e ∙ run-append (bitOf l) at k (64 - k) in
+    let q : number (run (bitOf l) at 64) / 2 ^ (64 - k) ≡ number (run (bitOf l) at k) =
+    ap₂ (λ v m. number v / 2 ^ m) r (sym (run-length (bitOf l) (at + k) (64 - k))) ∙ number-high (run (bitOf l) at k) (run (bitOf l) (at + k) (64 - k)) in
+    ey ∙ rw (ew, ex, q) (sym (ap (λ m. number (run (bitOf l) at m)) c ∙ rw (run-append (bitOf l) at k (64 * (n / 64)), number-append (run (bitOf l) at k) (run (bitOf l) (at + k) (64 * (n / 64))), run-length (bitOf l) (at + k) (64 * (n / 64))) refl))
 
 -- bytes written from a number, and a number read from bytes
 

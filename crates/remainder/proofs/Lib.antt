@@ -1,7 +1,8 @@
 pub mod Words
 pub mod Rows
 pub mod Fold
-pub mod Multiple
+pub mod Parity
 pub mod Filling
+pub mod Steps
 pub mod Bytes
 pub mod Level

@@ -7,9 +7,11 @@ use native.Mathlib.Nat.{mul-le-mul-right, add-zero}
 use lib.ListN.{length, getD, set, drop, length-drop}
 use lib.Seq.{getD-set-other, getD-drop, drop-set-add}
 use lib.Bits.{bitXor}
+use lib.Pow as Pow
+use lib.Arith.{digits-lt}
 use Rattle.code.specs.Register.{low}
 use Rattle.remainder.specs.Table.{Only, Apart, before, after}
-use Rattle.remainder.proofs.Words.{low-agree, low-store, shift-store, xor-store, no-carry, low-lt-next}
+use Rattle.remainder.proofs.Words.{low-agree, low-store, shift-store, xor-store, next-power, low-lt-next}
 
 -- the words outside
 
@@ -62,11 +64,12 @@ module _ (from to n : ℕ) (ws vs : List ℕ) (i : ℕ) (apart : Apart from to n
       rw (drop-set-add to vs i (bitXor (getD g i 0) (getD vs (from + i) 0)))
       (xor-store (drop to vs) (drop from ws) g i inside hw hg inv refl word-read)
 
+  pub double-below : (c : ℕ) → getD vs (from + i) 0 * 2 % 18446744073709551616 + c < 18446744073709551616 → low (drop to vs) i < 2 ^ (64 * i)
+      → low (drop to (set vs (to + i) (getD vs (from + i) 0 * 2 % 18446744073709551616 + c))) (i + 1) < 2 ^ (64 * (i + 1))
+  double-below c f h = rw (row-set to i (getD vs (from + i) 0 * 2 % 18446744073709551616 + c) vs (omega arith), next-power i) (digits-lt f h)
+
   pub read-next : low (drop from ws) i < 2 ^ (64 * i) → getD vs (from + i) 0 < 18446744073709551616 → low (drop from ws) (i + 1) < 2 ^ (64 * (i + 1))
   read-next h f = low-lt-next (drop from ws) i h (rw (← word-read) f)
 
-pub double-end : (x y c n : ℕ) → x + c * 2 ^ (64 * n) ≡ y * 2 → y * 2 < 2 ^ (64 * n) → x ≡ y * 2
-double-end x y c n e h =
-    let z : c ≡ 0 = no-carry c (2 ^ (64 * n)) x (omega arith) in
-    let w : c * 2 ^ (64 * n) ≡ 0 = ap (λ (k : ℕ). k * 2 ^ (64 * n)) z ∙ omega arith in
-    omega arith
+pub double-end : (x y c n : ℕ) → x + c * 2 ^ (64 * n) ≡ y * 2 → x < 2 ^ (64 * n) → x ≡ y * 2 % 2 ^ (64 * n)
+double-end x y c n e h = let m : c * 2 ^ (64 * n) + x ≡ y * 2 = omega arith in rw (← m) (sym (Pow.low c (64 * n) h))

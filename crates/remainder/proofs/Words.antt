@@ -5,12 +5,13 @@ use Prim.Native.Nat.{ℕ, zero, suc, _+_, _-_, _*_, _/_, _%_, _^_, _<_, _≤_}
 use native.Mathlib.Omega.{arith}
 use native.Mathlib.Numerals.{add-one}
 use native.Mathlib.Decide.{decLt}
-use native.Mathlib.Nat.{add-zero, add-comm, le-refl, mul-le-mul-right, div-eq-of-lt, div-lt-iff-lt-mul, pow-suc, mod-lt, mul-le-mul-left, mul-mod-left, mod-eq-of-lt}
+use native.Mathlib.Nat.{add-zero, add-comm, le-refl, le-trans, mul-le-mul-right, div-eq-of-lt, div-lt-iff-lt-mul, pow-suc, mod-lt, mul-le-mul-left, mul-mod-left, mod-eq-of-lt, zero-mul, zero-add, mul-one}
 use mir.Syntax.{w64}
 use mir.Val.{Fits}
-use lib.ListN.{length, getD, set, drop}
+use lib.ListN.{length, getD, set, drop, replicate, length-set}
 use lib.Seq.{getD-set-same, getD-set-other, getD-drop}
-use lib.Pow.{split, high, mod-pow-add, shr-lt, shr-shr, shl-shr, pow-pos, pow-add, pow-mono}
+use lib.Pow as Pow
+use lib.Pow.{split, high, mod-pow-add, shr-lt, shr-shr, shl-shr, shl-lt, pow-pos, pow-add, pow-mono}
 use lib.Arith.{digits-lt}
 use lib.Bits.{bitXor, xor-block}
 use Rattle.bits.specs.Bits.{bit}
@@ -93,6 +94,9 @@ low-store ws i v h =
     ∙ ap₂ (λ (a b : ℕ). a * 2 ^ (64 * i) + b) (getD-set-same ws i v 0 h)
     (low-agree (set ws i v) ws i (λ k l. getD-set-other ws i k v 0 (λ e. omega arith)))
 
+pub store-below : (ws : List ℕ) (i v : ℕ) → i < length ws → v < 18446744073709551616 → low ws i < 2 ^ (64 * i) → low (set ws i v) (i + 1) < 2 ^ (64 * (i + 1))
+store-below ws i v l f h = rw (low-store ws i v l, next-power i) (digits-lt f h)
+
 -- what is above the words that are done is as before, after one more
 pub above-store : (ws vs : List ℕ) (i v : ℕ) → ((k : ℕ) → i ≤ k → getD ws k 0 ≡ getD vs k 0) → (k : ℕ) → i + 1 ≤ k → getD (set ws i v) k 0 ≡ getD vs k 0
 above-store ws vs i v e k h = getD-set-other ws i k v 0 (λ z. omega arith) ∙ e k (omega arith)
@@ -152,47 +156,46 @@ pub register-bit : (ws : List ℕ) → Words ws → (p : ℕ) → p < 64 * lengt
 unfolding register
 register-bit ws h p l = low-bit ws h (length ws) p l
 
--- the digits from d on, at most eight of them: they stand in one word, or in two
+-- the words from n on, and those before them
+pub low-drop : (ws : List ℕ) (n j : ℕ) → low ws (n + j) ≡ low (drop n ws) j * 2 ^ (64 * n) + low ws n
+unfolding low
+low-drop ws n zero = rw (add-zero n, zero-mul (2 ^ (64 * n))) (sym (zero-add (low ws n)))
+low-drop ws n (suc j) =
+    let i = low-drop ws n j in
+    let e : 64 * (n + j) ≡ 64 * j + 64 * n = omega arith in
+    let p : 2 ^ (64 * (n + j)) ≡ 2 ^ (64 * j) * 2 ^ (64 * n) = ap (λ k. 2 ^ k) e ∙ pow-add 2 (64 * j) (64 * n) in
+    let g = getD-drop n ws j 0 in
+    low-more ws n j ∙ rw (p, i, g) (omega arith)
 
-from-digit : (x d : ℕ) → x / 2 ^ d ≡ x / 2 ^ (64 * (d / 64)) / 2 ^ (d % 64)
-from-digit x d = let e : d ≡ 64 * (d / 64) + d % 64 = omega arith in ap (λ n. x / 2 ^ n) e ∙ sym (shr-shr x (64 * (d / 64)) (d % 64))
+pub register-drop : (ws : List ℕ) → Words ws → (n : ℕ) → n ≤ length ws → register ws / 2 ^ (64 * n) ≡ low (drop n ws) (length ws - n)
+unfolding register
+register-drop ws h n l =
+    let e : length ws ≡ n + (length ws - n) = omega arith in
+    ap (λ k. low ws k / 2 ^ (64 * n)) e ∙ ap (λ x. x / 2 ^ (64 * n)) (low-drop ws n (length ws - n)) ∙ high (low (drop n ws) (length ws - n)) (64 * n) (low-lt ws h n)
 
-from-word : (ws : List ℕ) → Words ws → (n : ℕ) → low ws (n + 1) / 2 ^ (64 * n) ≡ getD ws n 0
-from-word ws h n = rw (low-next ws n) (high (getD ws n 0) (64 * n) (low-lt ws h n))
+pub register-mod : (ws : List ℕ) → Words ws → (n : ℕ) → n ≤ length ws → register ws % 2 ^ (64 * n) ≡ low ws n
+unfolding register
+register-mod ws h n l =
+    let e : length ws ≡ n + (length ws - n) = omega arith in
+    ap (λ k. low ws k % 2 ^ (64 * n)) e ∙ ap (λ x. x % 2 ^ (64 * n)) (low-drop ws n (length ws - n)) ∙ Pow.low (low (drop n ws) (length ws - n)) (64 * n) (low-lt ws h n)
 
-from-words : (ws : List ℕ) → Words ws → (n : ℕ) → low ws (n + 1 + 1) / 2 ^ (64 * n) ≡ getD ws (n + 1) 0 * 18446744073709551616 + getD ws n 0
-from-words ws h n =
-    let e : getD ws (n + 1) 0 * (18446744073709551616 * 2 ^ (64 * n)) + (getD ws n 0 * 2 ^ (64 * n) + low ws n)
-    ≡ (getD ws (n + 1) 0 * 18446744073709551616 + getD ws n 0) * 2 ^ (64 * n) + low ws n = omega arith in
-    rw (low-next ws (n + 1), next-power n, low-next ws n, e) (high (getD ws (n + 1) 0 * 18446744073709551616 + getD ws n 0) (64 * n) (low-lt ws h n))
+-- words of zero above change nothing
+pub low-zeros : (ws : List ℕ) (n : ℕ) → ((k : ℕ) → n ≤ k → getD ws k 0 ≡ 0) → (j : ℕ) → low ws (n + j) ≡ low ws n
+low-zeros ws n z zero = rw (add-zero n)
+low-zeros ws n z (suc j) = low-more ws n j ∙ rw (z (n + j) (omega arith), zero-mul (2 ^ (64 * (n + j)))) (zero-add (low ws (n + j)) ∙ low-zeros ws n z j)
 
-pub top-word : (ws : List ℕ) → Words ws → (d : ℕ) → d / 64 < length ws → d % 64 ≤ 56 → register ws < 2 ^ (8 + d) → register ws / 2 ^ d ≡ getD ws (d / 64) 0 / 2 ^ (d % 64)
-top-word ws w d l s h =
-    let m : 2 ^ (8 + d) ≤ 2 ^ (64 * (d / 64 + 1)) = pow-mono (omega arith) in
-    from-digit (register ws) d ∙ rw (register-short ws (d / 64 + 1) (omega arith) (omega arith), from-word ws w (d / 64))
+pub register-zeros : (ws : List ℕ) (n : ℕ) → n ≤ length ws → ((k : ℕ) → n ≤ k → getD ws k 0 ≡ 0) → register ws ≡ low ws n
+unfolding register
+register-zeros ws n l z = let e : length ws ≡ n + (length ws - n) = omega arith in rw e (low-zeros ws n z (length ws - n))
 
-pub top-words : (ws : List ℕ) → Words ws → (d : ℕ) → d / 64 + 1 < length ws → register ws < 2 ^ (8 + d)
-    → register ws / 2 ^ d ≡ getD ws (d / 64 + 1) 0 * 2 ^ (64 - d % 64) % 18446744073709551616 + getD ws (d / 64) 0 / 2 ^ (d % 64)
-top-words ws w d l h =
-    let k : ℕ = d / 64 in
-    let s : ℕ = d % 64 in
-    let hi : ℕ = getD ws (k + 1) 0 in
-    let lo : ℕ = getD ws k 0 in
-    let m : 2 ^ (8 + d) ≤ 2 ^ (64 * (k + 1 + 1)) = pow-mono (omega arith) in
-    let e : 64 - s + s ≡ 64 = omega arith in
-    let p : 2 ^ (64 - s) * 2 ^ s ≡ 18446744073709551616 = sym (pow-add 2 (64 - s) s) ∙ ap (λ n. 2 ^ n) e in
-    let q : hi * (2 ^ (64 - s) * 2 ^ s) ≡ hi * 18446744073709551616 = ap (λ n. hi * n) p in
-    let t = split lo s in
-    let j : hi * 18446744073709551616 + lo ≡ (hi * 2 ^ (64 - s) + lo / 2 ^ s) * 2 ^ s + lo % 2 ^ s = omega arith in
-    let v : register ws / 2 ^ d ≡ hi * 2 ^ (64 - s) + lo / 2 ^ s =
-    from-digit (register ws) d ∙ rw (register-short ws (k + 1 + 1) (omega arith) (omega arith), from-words ws w k, j)
-    (high (hi * 2 ^ (64 - s) + lo / 2 ^ s) s (mod-lt lo (pow-pos s))) in
-    let b : register ws / 2 ^ d < 256 = shr-lt 8 d h in
-    let z : hi * 2 ^ (64 - s) % 18446744073709551616 ≡ hi * 2 ^ (64 - s) = mod-eq-of-lt (omega arith) in
-    v ∙ rw z
-
-pub top-below : (ws : List ℕ) (d : ℕ) {v : ℕ} → register ws < 2 ^ (8 + d) → register ws / 2 ^ d ≡ v → v < 256
-top-below ws d h e = rw (← e) (shr-lt 8 d h)
+-- the k highest digits of a number that fills u words
+pub top-digits : (ws : List ℕ) → Words ws → (u k : ℕ) → 0 < u → u ≤ length ws → k ≤ 64 → register ws < 2 ^ (64 * u) → getD ws (u - 1) 0 / 2 ^ (64 - k) ≡ register ws / 2 ^ (64 * u - k)
+top-digits ws h u k some l m r =
+    let n : ℕ = u - 1 in
+    let e : u ≡ n + 1 = omega arith in
+    let p : 64 * u - k ≡ 64 * n + (64 - k) = omega arith in
+    let w : low ws (n + 1) / 2 ^ (64 * n) ≡ getD ws n 0 = rw (low-next ws n) (high (getD ws n 0) (64 * n) (low-lt ws h n)) in
+    sym (ap (λ x. x / 2 ^ (64 * u - k)) (register-short ws u l r ∙ ap (low ws) e) ∙ ap (λ i. low ws (n + 1) / 2 ^ i) p ∙ sym (shr-shr (low ws (n + 1)) (64 * n) (64 - k)) ∙ ap (λ x. x / 2 ^ (64 - k)) w)
 
 -- the words from n on
 pub words-drop : (ws : List ℕ) → Words ws → (n : ℕ) → Words (drop n ws)
@@ -241,18 +244,73 @@ pub shift-next : (ws vs : List ℕ) (i k c b : ℕ) → k ≤ 64 → i < length 
     → low (set ws i (getD ws i 0 * 2 ^ k % 18446744073709551616 + c)) (i + 1) + getD ws i 0 / 2 ^ (64 - k) * 2 ^ (64 * (i + 1)) ≡ low vs (i + 1) * 2 ^ k + b
 shift-next ws vs i k c b l h inv e = shift-store ws vs i k c b l h inv e
 
-pub shift-end : (ws vs : List ℕ) (n k c b : ℕ) → n ≤ length vs → length ws ≡ length vs → low ws n + c * 2 ^ (64 * n) ≡ low vs n * 2 ^ k + b
-    → ((j : ℕ) → n ≤ j → getD ws j 0 ≡ getD vs j 0) → register vs * 2 ^ k + b < 2 ^ (64 * n) → register ws ≡ register vs * 2 ^ k + b
+-- what is left of a shifted number in as many words as it had
+pub shift-end : (ws vs : List ℕ) (n k c b : ℕ) → n ≤ length vs → length ws ≡ length vs → low ws n < 2 ^ (64 * n) → low ws n + c * 2 ^ (64 * n) ≡ low vs n * 2 ^ k + b
+    → ((j : ℕ) → n ≤ j → getD ws j 0 ≡ getD vs j 0) → register vs < 2 ^ (64 * n) → register ws ≡ (register vs * 2 ^ k + b) % 2 ^ (64 * n)
 unfolding register
-shift-end ws vs n k c b l es inv above h =
+shift-end ws vs n k c b l es hw inv above h =
     let e : length vs ≡ n + (length vs - n) = omega arith in
-    let p : register vs * 1 ≤ register vs * 2 ^ k = mul-le-mul-left (register vs) (pow-pos k) in
-    let s : low vs (length vs) ≡ low vs n = register-short vs n l (omega arith) in
-    let m : low vs (length vs) * 2 ^ k ≡ low vs n * 2 ^ k = ap (λ (x : ℕ). x * 2 ^ k) s in
-    let z : c ≡ 0 = no-carry c (2 ^ (64 * n)) (low ws n) (omega arith) in
-    let y : c * 2 ^ (64 * n) ≡ 0 = ap (λ (x : ℕ). x * 2 ^ (64 * n)) z ∙ omega arith in
+    let s : low vs (length vs) ≡ low vs n = register-short vs n l h in
     let a : low ws (length vs) + low vs n ≡ low vs (length vs) + low ws n = rw e (low-above ws vs n above (length vs - n)) in
-    rw es (omega arith)
+    let m : c * 2 ^ (64 * n) + low ws n ≡ low vs n * 2 ^ k + b = omega arith in
+    rw (es, s, ← m) (omega arith ∙ sym (Pow.low c (64 * n) hw))
+
+-- a number moved up by l digits, k of them first
+pub raise-step : (x l k N : ℕ) {y : ℕ} → k ≤ l → x * 2 ^ l < N → y ≡ (x * 2 ^ k + 0) % N → y * 2 ^ (l - k) ≡ x * 2 ^ l
+raise-step x l k N {y} h r ey =
+    let e : l ≡ k + (l - k) = omega arith in
+    let p : 2 ^ l ≡ 2 ^ k * 2 ^ (l - k) = ap (λ n. 2 ^ n) e ∙ pow-add 2 k (l - k) in
+    let q : x * 2 ^ l ≡ x * 2 ^ k * 2 ^ (l - k) = ap (λ n. x * n) p ∙ omega arith in
+    let m : x * 2 ^ k * 1 ≤ x * 2 ^ k * 2 ^ (l - k) = mul-le-mul-left (x * 2 ^ k) (pow-pos (l - k)) in
+    let z : y ≡ x * 2 ^ k + 0 = ey ∙ mod-eq-of-lt (omega arith) in
+    rw z (omega arith)
+
+pub raise-end : (x l : ℕ) {y : ℕ} → l ≡ 0 → x * 2 ^ l ≡ y → x ≡ y
+raise-end x l el e = sym (ap (λ n. x * 2 ^ n) el ∙ mul-one x) ∙ e
+
+pub raise-fits : (x l N : ℕ) → x * 2 ^ l < N → x < N
+raise-fits x l N h = let m : x * 1 ≤ x * 2 ^ l = mul-le-mul-left x (pow-pos l) in omega arith
+
+-- a number moved up to whole words, and then down by them
+pub lower-fits : (x k : ℕ) → x < 2 ^ 832 → x * 2 ^ (64 * ((k + 63) / 64) - k) < 2 ^ 896
+lower-fits x k h =
+    let s : ℕ = 64 * ((k + 63) / 64) - k in
+    let m : 2 ^ (832 + s) ≤ 2 ^ 896 = pow-mono {i = 832 + s} {j = 896} (omega arith) in
+    let l : x * 2 ^ s < 2 ^ (832 + s) = shl-lt 832 s h in
+    le-trans l m
+
+pub lower-end : (x k : ℕ) {y z : ℕ} → y ≡ x * 2 ^ (64 * ((k + 63) / 64) - k) → z ≡ y / 2 ^ (64 * ((k + 63) / 64)) → z ≡ x / 2 ^ k
+lower-end x k ey ez =
+    let s : ℕ = 64 * ((k + 63) / 64) - k in
+    let e : 64 * ((k + 63) / 64) ≡ s + k = omega arith in
+    ez ∙ ap₂ (λ (a b : ℕ). a / 2 ^ b) ey e ∙ sym (shr-shr (x * 2 ^ s) s k) ∙ ap (λ a. a / 2 ^ k) (shl-shr x s)
+
+-- words moved down by q places
+pub move-next : (ws vs : List ℕ) (q i : ℕ) → i < length ws → low ws i ≡ low (drop q vs) i → low (set ws i (getD vs (i + q) 0)) (i + 1) ≡ low (drop q vs) (i + 1)
+move-next ws vs q i h inv =
+    let g : getD vs (i + q) 0 ≡ getD (drop q vs) i 0 = ap (λ k. getD vs k 0) (add-comm i q) ∙ sym (getD-drop q vs i 0) in
+    low-store ws i (getD vs (i + q) 0) h ∙ rw (g, inv) (sym (low-next (drop q vs) i))
+
+pub zeros-at : (n k : ℕ) → _≡_ {A = ℕ} (getD (replicate n 0) k 0) 0
+zeros-at zero k = refl
+zeros-at (suc n) zero = refl
+zeros-at (suc n) (suc k) = zeros-at n k
+
+pub zeros-store : (ws : List ℕ) (i v : ℕ) → ((k : ℕ) → i ≤ k → getD ws k 0 ≡ 0) → (k : ℕ) → i + 1 ≤ k → getD (set ws i v) k 0 ≡ 0
+zeros-store ws i v z k h = getD-set-other ws i k v 0 (λ e. omega arith) ∙ z k (omega arith)
+
+-- a word stored above a number
+pub top-store : (ws : List ℕ) (n v : ℕ) → n < length ws → register ws < 2 ^ (64 * n) → register (set ws n v) ≡ v * 2 ^ (64 * n) + register ws
+unfolding register
+top-store ws n v l h =
+    let e : length ws ≡ n + 1 + (length ws - (n + 1)) = omega arith in
+    let m : 2 ^ (64 * n) ≤ 2 ^ (64 * (n + 1)) = pow-mono (omega arith) in
+    let a : low ws (length ws) ≡ low ws n = register-short ws n (omega arith) h in
+    let b : low ws (length ws) ≡ low ws (n + 1) = register-short ws (n + 1) (omega arith) (omega arith) in
+    let s = low-store ws n v l in
+    let c : low (set ws n v) (length ws) + low ws (n + 1) ≡ low ws (length ws) + low (set ws n v) (n + 1) =
+    rw e (low-above (set ws n v) ws (n + 1) (λ k i. getD-set-other ws n k v 0 (λ z. omega arith)) (length ws - (n + 1))) in
+    rw (length-set ws n v) (omega arith)
 
 -- a sum of two words stored above those that are done
 pub xor-store : (ws vs g : List ℕ) (i : ℕ) {x u : ℕ} → i < length ws → low vs i < 2 ^ (64 * i) → low g i < 2 ^ (64 * i)

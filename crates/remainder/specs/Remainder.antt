@@ -2,16 +2,19 @@
 -- A polynomial over GF(2) is a number: its binary digit p is the coefficient of x^p.
 --
 -- remainderFrom d g r w    the remainder by g of degree d, from the remainder r on, after the coefficients w
+-- parityStep d g r b       the parity of one more coefficient b of a message, from the parity r of those before
+-- parityFrom d g r w       the same for the coefficients w
 -- Divisor d g              g is monic of degree d, and d is within the room of a register
 -- Row f t words            the words hold the generator of the level t
 -- numberOf l               the number whose binary digits are the bits of the bytes l
 -- bytesOf n x              the n bytes whose bits are the lowest 8n binary digits of x
 use mathlib.Core.Path.{_≡_}
-use mathlib.Core.Bool.{false}
+use mathlib.Core.Bool.{Bool, false}
 use mathlib.Core.List.{List, [], _∷_}
-use Prim.Native.Nat.{ℕ, _*_, _/_, _^_, _<_, _≤_}
+use Prim.Native.Nat.{ℕ, _-_, _*_, _/_, _^_, _<_, _≤_}
 use lib.ListN.{length, getD}
-use Rattle.bits.specs.Bits.{bitOf, run, number, digits, bytes}
+use lib.Bits.{bitXor}
+use Rattle.bits.specs.Bits.{bitOf, run, digit, number, digits, bytes}
 use Rattle.field.specs.declared.Field.{Field}
 use Rattle.code.specs.Word.{Word}
 use Rattle.code.specs.Generator.{generator, remainderStep}
@@ -21,6 +24,14 @@ use Rattle.code.specs.Register.{register}
 unfoldable pub remainderFrom : ℕ → ℕ → ℕ → Word → ℕ
 remainderFrom d g r [] = r
 remainderFrom d g r (b ∷ w) = remainderFrom d g (remainderStep d g r b) w
+
+-- A message is divided with d zeros after it: its coefficients enter at x^d, beside the highest one of the remainder so far.
+unfoldable pub parityStep : ℕ → ℕ → ℕ → Bool → ℕ
+parityStep d g r b = remainderStep d g (bitXor r (digit b * 2 ^ (d - 1))) false
+
+unfoldable pub parityFrom : ℕ → ℕ → ℕ → Word → ℕ
+parityFrom d g r [] = r
+parityFrom d g r (b ∷ w) = parityFrom d g (parityStep d g r b) w
 
 -- A register has 14 words of 64 bits, so room for 896 digits.
 pub record Divisor (d g : ℕ) : Type 0 where

@@ -1,53 +1,57 @@
--- The table by which a division takes eight coefficients of the dividend at a time: 256 multiples of the divisor.
+-- The table by which the parity of a message is worked out eight coefficients at a time: 256 remainders.
 -- A polynomial over GF(2) is a number: its binary digit p is the coefficient of x^p.
 --
--- multiple d g k v       the multiple of g whose coefficients from x^d on are the k lowest binary digits of v
--- width d                how many words of 64 bits have room for d + 8 digits
--- rowOf d words v        the number in row v of a table of such rows
--- divisorOf d words      the divisor of a table, its row 1
--- Filled d g n words     the first n rows are the multiples of g
--- Multiples d words      the rows are the multiples of the divisor, for every v of eight digits
+-- A row has u words of 64 bits, and the divisor has the degree 64 u, so that no place in a word depends on the level. A generator of
+-- degree d becomes such a divisor by moving it up by 64 u - d digits; its remainders then stand as many digits higher.
+--
+-- rest d g v             the remainder of v x^d by g of degree d
+-- width d                how many words a row has for a generator of degree d
+-- gap d                  by how many digits that generator is moved up
+-- rowOf u words v        the number in row v of a table
+-- divisorOf u words      the divisor of a table: its row 1, and x^(64u)
+-- Filled u g n words     the first n rows are the remainders by g of the numbers below n, moved up to the degree of g
+-- Rests u words          that holds for all 256 rows and the divisor of the table
 -- Apart a b n            n words from a on and n words from b on do not overlap
 -- Only at n before after  nothing but n words from `at` on has changed
--- Table f t words        the divisor is the generator of the level t
+-- Table f t words        the divisor is the generator of the level t, moved up
 use mathlib.Core.Path.{_≡_}
-use mathlib.Core.Bool.{cond}
+use mathlib.Core.Bool.{false, cond}
 use mathlib.Core.List.{List}
-use Prim.Native.Nat.{ℕ, zero, suc, _+_, _*_, _/_, _%_, _^_, _<_, _≤_}
-use lib.ListN.{length, getD, drop}
-use lib.Dec.{eqb}
-use lib.Bits.{bitXor}
-use Rattle.bits.specs.Bits.{bit}
+use Prim.Native.Nat.{ℕ, _+_, _-_, _*_, _/_, _^_, _<_, _≤_}
+use lib.ListN.{length, getD, drop, replicate}
+use lib.Dec.{leb}
 use Rattle.field.specs.declared.Field.{Field}
 use Rattle.field.specs.Field.{degree}
 use Rattle.code.specs.Generator.{generator}
 use Rattle.code.specs.Register.{low}
+use Rattle.remainder.specs.Remainder.{remainderFrom}
 
--- The double of a multiple, and the double plus g: they differ in the coefficient of x^d, and the one is taken that has the lowest digit of v there.
-unfoldable pub multiple : ℕ → ℕ → ℕ → ℕ → ℕ
-multiple d g zero v = 0
-multiple d g (suc k) v =
-    cond (eqb (bit (multiple d g k (v / 2) * 2) d) (v % 2)) (multiple d g k (v / 2) * 2) (bitXor g (multiple d g k (v / 2) * 2))
+unfoldable pub rest : ℕ → ℕ → ℕ → ℕ
+rest d g v = remainderFrom d g v (replicate d false)
 
+-- Four words, or nine: enough for t = 40.
 unfoldable pub width : ℕ → ℕ
-width d = (d + 7) / 64 + 1
+width d = cond (leb d 256) 4 9
+
+unfoldable pub gap : ℕ → ℕ
+gap d = 64 * width d - d
 
 unfoldable pub rowOf : ℕ → List ℕ → ℕ → ℕ
-rowOf d words v = low (drop (v * width d) words) (width d)
+rowOf u words v = low (drop (v * u) words) u
 
 unfoldable pub divisorOf : ℕ → List ℕ → ℕ
-divisorOf d words = rowOf d words 1
+divisorOf u words = 2 ^ (64 * u) + rowOf u words 1
 
 -- The rows stand one after the other, and each has room in a register.
-pub record Filled (d g n : ℕ) (words : List ℕ) : Type 0 where
-  pub some : 0 < d
-  pub room : d ≤ 888
-  pub size : 256 * width d ≤ length words
-  pub monic : g / 2 ^ d ≡ 1
-  pub rows : (v : ℕ) → v < n → rowOf d words v ≡ multiple d g 8 v
+pub record Filled (u g n : ℕ) (words : List ℕ) : Type 0 where
+  pub some : 0 < u
+  pub room : u ≤ 14
+  pub size : 256 * u ≤ length words
+  pub monic : g / 2 ^ (64 * u) ≡ 1
+  pub rows : (v : ℕ) → v < n → rowOf u words v ≡ rest (64 * u) g v
 
-abbrev pub Multiples : ℕ → List ℕ → Type 0
-Multiples d words = Filled d (divisorOf d words) 256 words
+abbrev pub Rests : ℕ → List ℕ → Type 0
+Rests u words = Filled u (divisorOf u words) 256 words
 
 pub record Only (at n : ℕ) (before after : List ℕ) : Type 0 where
   pub lower : (k : ℕ) → k < at → getD after k 0 ≡ getD before k 0
@@ -61,5 +65,6 @@ pub data Apart (a b n : ℕ) : Type 0 where
 -- At t = 0 there is nothing to divide by, and no table is made.
 pub record Table (f : Field) (t : ℕ) (words : List ℕ) : Type 0 where
   pub level : t ≤ 62
-  pub multiples : 0 < t → Multiples (degree f * t) words
-  pub generates : 0 < t → divisorOf (degree f * t) words ≡ generator f t
+  pub room : degree f * t ≤ 576
+  pub rests : 0 < t → Rests (width (degree f * t)) words
+  pub generates : 0 < t → divisorOf (width (degree f * t)) words ≡ generator f t * 2 ^ gap (degree f * t)

@@ -1,6 +1,6 @@
-// One step of the division by a generator. Only the words in use are touched: those up to the one that holds the degree.
+// Registers moved up and down by digits, and added; one step of the division by a generator.
 ghost use mathlib.Core.Path.{_≡_};
-ghost use Prim.Native.Nat.{_+_, _*_, _/_, _^_, _≤_, _<_};
+ghost use Prim.Native.Nat.{_+_, _*_, _/_, _%_, _^_, _≤_, _<_};
 ghost use lib.Bits.{bitXor};
 ghost use lib.Dec.{eqb};
 ghost use Rattle.code.specs.Register.{register};
@@ -9,10 +9,10 @@ ghost use Rattle.remainder.specs.Remainder.{Divisor};
 use crate::Register;
 use crate::coefficients::coefficient;
 
-// Internal: the number in the first words of a register times 2^k, with `lowest` as its k lowest digits.
-pub fn shifted(state: Register, used: usize, k: usize, lowest: u64) -> Register
-    requires { ⌜ (used ≤ 14) × (0 < k) × (k < 64) × (lowest < 2 ^ k) × (register (state .words) * 2 ^ k + lowest < 2 ^ (64 * used)) ⌝ }
-    ensures { λ r. ⌜ register (r .words) ≡ register (state .words) * 2 ^ k + lowest ⌝ }
+// Internal: the number in the first words of a register times 2^k, with `lowest` as its k lowest digits. What leaves those words is lost.
+pub fn pushed(state: Register, used: usize, k: usize, lowest: u64) -> Register
+    requires { ⌜ (used ≤ 14) × (0 < k) × (k < 64) × (lowest < 2 ^ k) × (register (state .words) < 2 ^ (64 * used)) ⌝ }
+    ensures { λ r. ⌜ register (r .words) ≡ (register (state .words) * 2 ^ k + lowest) % 2 ^ (64 * used) ⌝ }
 {
     let mut words = state.words;
     let mut carry = lowest;
@@ -26,8 +26,58 @@ pub fn shifted(state: Register, used: usize, k: usize, lowest: u64) -> Register
     Register { words: words }
 }
 
-// The sum over GF(2) of a row and of the number in the first words of a register.
-fn added(state: Register, row: [u64; 14], used: usize) -> Register
+// Internal: the same where nothing leaves them.
+pub fn shifted(state: Register, used: usize, k: usize, lowest: u64) -> Register
+    requires { ⌜ (used ≤ 14) × (0 < k) × (k < 64) × (lowest < 2 ^ k) × (register (state .words) * 2 ^ k + lowest < 2 ^ (64 * used)) ⌝ }
+    ensures { λ r. ⌜ register (r .words) ≡ register (state .words) * 2 ^ k + lowest ⌝ }
+{
+    pushed(state, used, k, lowest)
+}
+
+// The number in the words of a register from q on.
+fn without_words(state: Register, q: usize) -> Register
+    requires { ⌜ q ≤ 14 ⌝ }
+    ensures { λ r. ⌜ register (r .words) ≡ register (state .words) / 2 ^ (64 * q) ⌝ }
+{
+    let from = state.words;
+    let mut words = [0u64; 14];
+    let mut i = 0;
+    while i + q < 14 {
+        words[i] = from[i + q];
+        i += 1;
+    }
+    Register { words: words }
+}
+
+// Internal: the number in a register times 2^k.
+pub fn raised(state: Register, k: usize) -> Register
+    requires { ⌜ register (state .words) * 2 ^ k < 2 ^ 896 ⌝ }
+    ensures { λ r. ⌜ register (r .words) ≡ register (state .words) * 2 ^ k ⌝ }
+{
+    let mut r = state;
+    let mut left = k;
+    while 63 < left {
+        r = pushed(r, 14, 63, 0);
+        left -= 63;
+    }
+    if left == 0 {
+        return r;
+    }
+    pushed(r, 14, left, 0)
+}
+
+// Internal: the number in a register divided by 2^k.
+pub fn lowered(state: Register, k: usize) -> Register
+    requires { ⌜ (k ≤ 832) × (register (state .words) < 2 ^ 832) ⌝ }
+    ensures { λ r. ⌜ register (r .words) ≡ register (state .words) / 2 ^ k ⌝ }
+{
+    let q = (k + 63) / 64;
+    let up = raised(state, 64 * q - k);
+    without_words(up, q)
+}
+
+// Internal: the sum over GF(2) of a row and of the number in the first words of a register.
+pub fn added(state: Register, row: [u64; 14], used: usize) -> Register
     requires { ⌜ (used ≤ 14) × (register (state .words) < 2 ^ (64 * used)) × (register row < 2 ^ (64 * used)) ⌝ }
     ensures { λ r. ⌜ register (r .words) ≡ bitXor (register row) (register (state .words)) ⌝ }
 {

@@ -1,33 +1,26 @@
-// Bits of the dividend eight at a time, by the table of the divisor. Odd bits at the end go one by one.
+// Coefficients of a message eight at a time, by the table of a divisor. A register has the parity so far in its first words, which it
+// fills: the divisor has the degree 64 used. Odd bits at the end go one by one.
 ghost use mathlib.Core.Path.{_≡_};
-ghost use Prim.Native.Nat.{_+_, _*_, _/_, _^_, _≤_, _<_};
+ghost use Prim.Native.Nat.{_+_, _-_, _*_, _/_, _^_, _≤_, _<_};
 ghost use lib.ListN.{length, drop};
 ghost use lib.Bits.{bitXor};
 ghost use Rattle.bits.specs.Bits.{bitOf, run, digits};
 ghost use Rattle.code.specs.Register.{low, register};
-ghost use Rattle.remainder.specs.Remainder.{remainderFrom};
-ghost use Rattle.remainder.specs.Table.{divisorOf, Multiples};
+ghost use Rattle.remainder.specs.Remainder.{parityFrom};
+ghost use Rattle.remainder.specs.Table.{divisorOf, Rests};
 use crate::Register;
-use crate::coefficients::zero;
-use crate::divide::shifted;
-use crate::feed::feed;
-use crate::table::row_words;
+use crate::divide::pushed;
+use bit_reader::next_bit;
+use bit_reader::steps::bit_or_zero;
 use bits::read::byte_at;
 
-// The coefficients from x^degree on, of which there are at most eight.
-fn top(state: Register, degree: usize) -> usize
-    requires { ⌜ (degree ≤ 888) × (register (state .words) < 2 ^ (8 + degree)) ⌝ }
-    ensures { λ r. ⌜ r ≡ register (state .words) / 2 ^ degree ⌝ }
+// The k highest digits of the number in the first words of a register.
+fn top(state: Register, used: usize, k: usize) -> u64
+    requires { ⌜ (0 < used) × (used ≤ 14) × (0 < k) × (k ≤ 8) × (register (state .words) < 2 ^ (64 * used)) ⌝ }
+    ensures { λ r. ⌜ r ≡ register (state .words) / 2 ^ (64 * used - k) ⌝ }
 {
     let words = state.words;
-    let k = degree / 64;
-    let s = degree % 64;
-    let lower = words[k] >> s;
-    if s <= 56 {
-        return lower as usize;
-    }
-    let upper = words[k + 1] << (64 - s);
-    (upper + lower) as usize
+    words[used - 1] >> (64 - k)
 }
 
 // The sum over GF(2) of the words of a table from `from` on and of the number in the first words of a register.
@@ -44,71 +37,101 @@ fn row_added(state: Register, table: &[u64], from: usize, used: usize) -> Regist
     Register { words: words }
 }
 
-// Internal: eight more coefficients of the dividend at once, the number b.
-pub fn step_eight(state: Register, table: &[u64], degree: usize, b: u64) -> Register
-    requires { ⌜ (Multiples degree (now table)) × (register (state .words) < 2 ^ degree) × (b < 256) ⌝ }
+// Up to eight more coefficients of the message at once: the k digits of b.
+fn step_table(state: Register, table: &[u64], used: usize, k: usize, b: u64) -> Register
+    requires { ⌜ (Rests used (now table)) × (register (state .words) < 2 ^ (64 * used)) × (0 < k) × (k ≤ 8) × (b < 2 ^ k) ⌝ }
     ensures { λ r. ⌜ register (r .words)
-        ≡ remainderFrom degree (divisorOf degree (now (table .entry))) (register (state .words)) (digits b 8) ⌝ }
+        ≡ parityFrom (64 * used) (divisorOf used (now (table .entry))) (register (state .words)) (digits b k) ⌝ }
 {
-    let used = row_words(degree);
-    let next = shifted(state, used, 8, b);
-    let v = top(next, degree);
+    let highest = top(state, used, k);
+    let v = (highest ^ b) as usize;
+    let next = pushed(state, used, k, 0);
     row_added(next, table, v * used, used)
-}
-
-// The divisor of a table, from its row 1.
-fn divisor(table: &[u64], degree: usize) -> [u64; 14]
-    requires { ⌜ Multiples degree (now table) ⌝ }
-    ensures { λ r. ⌜ register r ≡ divisorOf degree (now (table .entry)) ⌝ }
-{
-    let used = row_words(degree);
-    let start = zero();
-    let row = row_added(start, table, used, used);
-    row.words
 }
 
 // The bytes of a run of bits: `count` of them from position `at` on, wherever that lies in a byte.
 fn feed_bytes(
     state: Register,
     table: &[u64],
-    degree: usize,
+    used: usize,
     bytes: &[u8],
     at: usize,
     count: usize,
 ) -> Register
-    requires { ⌜ (Multiples degree (now table)) × (register (state .words) < 2 ^ degree) × (at + 8 * count < 18446744073709551616) ⌝ }
+    requires { ⌜ (Rests used (now table)) × (register (state .words) < 2 ^ (64 * used)) × (at + 8 * count < 18446744073709551616) ⌝ }
     ensures { λ r. ⌜ register (r .words)
-        ≡ remainderFrom degree (divisorOf degree (now (table .entry))) (register (state .words)) (run (bitOf (now (bytes .entry))) at (8 * count)) ⌝ }
+        ≡ parityFrom (64 * used) (divisorOf used (now (table .entry))) (register (state .words)) (run (bitOf (now (bytes .entry))) at (8 * count)) ⌝ }
 {
     let mut r = state;
     let mut fed = 0;
     while fed < count {
         let b = byte_at(bytes, at + 8 * fed);
-        r = step_eight(r, table, degree, b as u64);
+        r = step_table(r, table, used, 8, b as u64);
         fed += 1;
     }
     r
 }
 
-// Internal: a run of n bits: its bytes, and then its odd bits, for which row 1 of the table is the divisor.
-pub fn feed_rest(
+// The same with the number of words written out: the loops over words are then unrolled.
+fn feed_words(
     state: Register,
     table: &[u64],
-    degree: usize,
+    used: usize,
+    bytes: &[u8],
+    at: usize,
+    count: usize,
+) -> Register
+    requires { ⌜ (Rests used (now table)) × (register (state .words) < 2 ^ (64 * used)) × (at + 8 * count < 18446744073709551616) ⌝ }
+    ensures { λ r. ⌜ register (r .words)
+        ≡ parityFrom (64 * used) (divisorOf used (now (table .entry))) (register (state .words)) (run (bitOf (now (bytes .entry))) at (8 * count)) ⌝ }
+{
+    if used == 4 {
+        return feed_bytes(state, table, 4, bytes, at, count);
+    }
+    if used == 9 {
+        return feed_bytes(state, table, 9, bytes, at, count);
+    }
+    feed_bytes(state, table, used, bytes, at, count)
+}
+
+// Bits of a run one by one.
+fn feed_bits(
+    state: Register,
+    table: &[u64],
+    used: usize,
     bytes: &[u8],
     at: usize,
     n: usize,
 ) -> Register
-    requires { ⌜ (Multiples degree (now table)) × (register (state .words) < 2 ^ degree) × (at + n < 18446744073709551616) ⌝ }
+    requires { ⌜ (Rests used (now table)) × (register (state .words) < 2 ^ (64 * used)) × (at + n < 18446744073709551616) ⌝ }
     ensures { λ r. ⌜ register (r .words)
-        ≡ remainderFrom degree (divisorOf degree (now (table .entry))) (register (state .words)) (run (bitOf (now (bytes .entry))) at n) ⌝ }
+        ≡ parityFrom (64 * used) (divisorOf used (now (table .entry))) (register (state .words)) (run (bitOf (now (bytes .entry))) at n) ⌝ }
+{
+    let mut r = state;
+    let mut fed = 0;
+    while fed < n {
+        let read = next_bit(bytes, at + fed);
+        let b = bit_or_zero(read);
+        r = step_table(r, table, used, 1, b as u64);
+        fed += 1;
+    }
+    r
+}
+
+// Internal: a run of n bits: its bytes, and then its odd bits.
+pub fn feed_run(
+    state: Register,
+    table: &[u64],
+    used: usize,
+    bytes: &[u8],
+    at: usize,
+    n: usize,
+) -> Register
+    requires { ⌜ (Rests used (now table)) × (register (state .words) < 2 ^ (64 * used)) × (at + n < 18446744073709551616) ⌝ }
+    ensures { λ r. ⌜ register (r .words)
+        ≡ parityFrom (64 * used) (divisorOf used (now (table .entry))) (register (state .words)) (run (bitOf (now (bytes .entry))) at n) ⌝ }
 {
     let count = n / 8;
-    let whole = feed_bytes(state, table, degree, bytes, at, count);
-    let odd = n % 8;
-    if odd == 0 {
-        return whole;
-    }
-    let row = divisor(table, degree);
-    feed(whole, &row, degree, bytes, at + 8 * count, odd)
+    let whole = feed_words(state, table, used, bytes, at, count);
+    feed_bits(whole, table, used, bytes, at + 8 * count, n % 8)
 }

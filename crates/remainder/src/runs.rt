@@ -2,20 +2,60 @@
 ghost use mathlib.Core.Path.{_≡_};
 ghost use mathlib.Core.Bool.{false};
 ghost use mathlib.Core.List.{_++_};
-ghost use Prim.Native.Nat.{_+_, _*_, _<_};
+ghost use Prim.Native.Nat.{_+_, _*_, _^_, _<_};
 ghost use lib.ListN.{replicate};
 ghost use Rattle.bits.specs.Bits.{bitOf, run};
 ghost use Rattle.field.specs.Field.{degree};
-ghost use Rattle.code.specs.Generator.{remainder};
+ghost use Rattle.code.specs.Generator.{generator, remainder};
 ghost use Rattle.code.specs.Register.{register};
+ghost use Rattle.remainder.specs.Remainder.{parityFrom};
 ghost use Rattle.remainder.specs.Table.{Table};
 use crate::Register;
 use crate::coefficients::zero;
-use crate::eight::feed_rest;
+use crate::digits::number_at;
+use crate::divide::added;
+use crate::divide::lowered;
+use crate::divide::raised;
+use crate::eight::feed_run;
 use crate::feed::parity_bits;
+use crate::table::row_words;
 use field::Field;
 
-// Internal: the remainder of the n bits of a byte slice from position `at` on.
+// Internal: the parity of n more bits of a message, from the parity of those before on.
+pub fn parity_more(
+    f: Field,
+    t: usize,
+    table: &[u64],
+    state: Register,
+    bytes: &[u8],
+    at: usize,
+    n: usize,
+) -> Register
+    requires { ⌜ (Table f t (now table)) × (0 < t) × (register (state .words) < 2 ^ (degree f * t)) × (at + n < 18446744073709551616) ⌝ }
+    ensures { λ r. ⌜ register (r .words)
+        ≡ parityFrom (degree f * t) (generator f t) (register (state .words)) (run (bitOf (now (bytes .entry))) at n) ⌝ }
+{
+    let d = parity_bits(f, t);
+    let used = row_words(d);
+    let gap = 64 * used - d;
+    let before = raised(state, gap);
+    let after = feed_run(before, table, used, bytes, at, n);
+    lowered(after, gap)
+}
+
+// Internal: the remainder of the n bits of a byte slice from position `at` on times x^(mt), whose digits are the parity of a message.
+pub fn parity_of(f: Field, t: usize, table: &[u64], bytes: &[u8], at: usize, n: usize) -> Register
+    requires { ⌜ (Table f t (now table)) × (at + n < 18446744073709551616) ⌝ }
+    ensures { λ r. ⌜ register (r .words) ≡ remainder f t (run (bitOf (now (bytes .entry))) at n ++ replicate (degree f * t) false) ⌝ }
+{
+    let start = zero();
+    if t == 0 {
+        return start;
+    }
+    parity_more(f, t, table, start, bytes, at, n)
+}
+
+// Internal: the remainder of the same bits. The last mt of them are added to the parity of those before.
 pub fn remainder_of(
     f: Field,
     t: usize,
@@ -27,24 +67,13 @@ pub fn remainder_of(
     requires { ⌜ (Table f t (now table)) × (at + n < 18446744073709551616) ⌝ }
     ensures { λ r. ⌜ register (r .words) ≡ remainder f t (run (bitOf (now (bytes .entry))) at n) ⌝ }
 {
-    let start = zero();
-    if t == 0 {
-        return start;
-    }
     let d = parity_bits(f, t);
-    feed_rest(start, table, d, bytes, at, n)
-}
-
-// Internal: the remainder of the same bits times x^(mt), whose digits are the parity of a message.
-pub fn parity_of(f: Field, t: usize, table: &[u64], bytes: &[u8], at: usize, n: usize) -> Register
-    requires { ⌜ (Table f t (now table)) × (at + n < 18446744073709551616) ⌝ }
-    ensures { λ r. ⌜ register (r .words) ≡ remainder f t (run (bitOf (now (bytes .entry))) at n ++ replicate (degree f * t) false) ⌝ }
-{
-    let message = remainder_of(f, t, table, bytes, at, n);
-    if t == 0 {
-        return message;
+    if n < d {
+        return number_at(bytes, at, n);
     }
-    let d = parity_bits(f, t);
-    let nothing = [0u8; 1];
-    feed_rest(message, table, d, &nothing, 0, d)
+    let message = n - d;
+    let parity = parity_of(f, t, table, bytes, at, message);
+    let words = parity.words;
+    let last = number_at(bytes, at + message, d);
+    added(last, words, 14)
 }

@@ -1,34 +1,48 @@
-use Prim.Native.Nat.{_<_}
+use Prim.Native.Nat.{_≤_, _<_, _-_, _+_, _*_, _^_}
+use mathlib.Core.Path.{_≡_}
 use native.Mathlib.Omega.{arith}
-use lib.Pow.{pow-pos}
 use borrow.Author.Needs.{needs}
-use Rattle.remainder.proofs.Level.{remainder-none, table-multiples, table-remainder}
+use Rattle.remainder.proofs.Fold.{parity-bits-below}
+use Rattle.remainder.proofs.Level.{number-fits, remainder-fits, remainder-number, remainder-parts}
 use Rattle.remainder.proofs.runs.remainder_of.Statement.{statement}
 use Rattle.remainder.proofs.runs.remainder_of.Tie as tie
-
-zero-requires : tie.Need-zero-requires
-zero-requires c κs = search needs
-
-returns : tie.Need-returns
-returns c =
-    let a = c .before .before .before .before .args in
-    remainder-none (a .f) (a .t) _ (omega arith) (c .before .zero .ensures)
 
 parity-bits-requires : tie.Need-parity-bits-requires
 parity-bits-requires c κs = search needs
 
-feed-rest-requires : tie.Need-feed-rest-requires
-feed-rest-requires c κs =
-    let z = c .before .before in
-    let a = z .before .before .before in
-    (table-multiples (a .args .f) (a .args .t) (a .pre .0) (omega arith) (c .parity-bits .ensures), rw (z .zero .ensures) (pow-pos _), a .pre .1)
+number-at-requires : tie.Need-number-at-requires
+number-at-requires c κs = search needs
+
+returns : tie.Need-returns
+returns c =
+    let b = c .before .before in
+    let a = b .before .before .before in
+    let ed = b .parity-bits .ensures in
+    remainder-number (a .args .f) (a .args .t) _ (a .args .at) (a .args .n) (omega arith) (c .number-at .ensures)
+
+parity-of-requires : tie.Need-parity-of-requires
+parity-of-requires c κs = search needs
+
+add-number-at : tie.Need-add-number-at
+add-number-at c = search needs
+
+number-at-requires-2 : tie.Need-number-at-requires-2
+number-at-requires-2 c κs = search needs
+
+added-requires : tie.Need-added-requires
+added-requires c κs =
+    let b = c .before .before .before .before in
+    let a = b .before .before .before in
+    let ed = b .parity-bits .ensures in
+    let l = parity-bits-below (a .args .f) (a .args .t) (a .pre .0 .level) in
+    (search needs, number-fits _ _ _ (omega arith) (c .number-at2 .ensures), remainder-fits (a .args .f) (a .args .t) (a .pre .0 .level) _ (c .before .before .parity-of .ensures))
 
 returns-2 : tie.Need-returns-2
 returns-2 c =
-    let z = c .before .before .before in
-    let a = z .before .before .before in
-    table-remainder (a .args .f) (a .args .t) (a .pre .0) (omega arith) (c .before .parity-bits .ensures) _ (z .zero .ensures) (c .feed-rest .ensures)
+    let b = c .before .before .before .before .before in
+    let a = b .before .before .before in
+    remainder-parts (a .args .f) (a .args .t) _ (a .args .at) (a .args .n) (b .parity-bits .ensures) (omega arith) (c .before .before .before .parity-of .ensures)
+    (c .before .number-at2 .ensures) (c .added .ensures)
 
 pub remainder-of-spec : {M : Type 1} → statement M
-remainder-of-spec =
-    tie.close (tie.spec zero-requires returns parity-bits-requires feed-rest-requires returns-2)
+remainder-of-spec = tie.close (tie.spec parity-bits-requires number-at-requires returns parity-of-requires add-number-at number-at-requires-2 added-requires returns-2)

@@ -6,7 +6,7 @@ use lib.ListN.{length, drop}
 use Rattle.code.specs.Register.{low}
 use Rattle.remainder.specs.Table.{Only, before}
 use Rattle.remainder.proofs.Words.{low-store, shift-fits, carry-below}
-use Rattle.remainder.proofs.Rows.{only-none, only-next, double-next, double-end}
+use Rattle.remainder.proofs.Rows.{only-none, only-next, double-next, double-below, double-end}
 use Rattle.remainder.proofs.table.double_row.Statement.{statement}
 use Rattle.remainder.proofs.table.double_row.Tie as tie
 use Rattle.remainder.proofs.table.double_row.Reads as reads
@@ -14,7 +14,7 @@ use Rattle.remainder.proofs.table.double_row.Lts as lts
 
 abbrev Inv-loop : tie.InvT-loop
 Inv-loop table₀ from to used carry₀ i₀ table carry i = (i ≤ used) × (length table ≡ length table₀) × (carry < 2) × (low (drop to table) i + carry * 2 ^ (64 * i) ≡ low (drop from table₀) i * 2)
-    × Only to i table₀ table
+    × Only to i table₀ table × (low (drop to table) i < 2 ^ (64 * i))
 
 abbrev μ-loop : tie.MeasureT-loop
 μ-loop table₀ from to used carry₀ i₀ table carry i = used - i
@@ -60,6 +60,8 @@ loop-again c =
       carry-below _ 1 (omega arith) f,
       double-next (a .args .from) (a .args .to) (a .args .used) _ (s .table) (s .i) (before (a .pre .0)) (omega arith) (omega arith) (s .inv .4) (s .carry) (s .inv .3),
       only-next (a .args .to) (s .i) _ (s .inv .4),
+      double-below (a .args .from) (a .args .to) (a .args .used) _ (s .table) (s .i) (before (a .pre .0)) (omega arith) (omega arith) (s .inv .4) (s .carry)
+          (shift-fits _ 1 _ (omega arith) (s .inv .2)) (s .inv .5),
     )
 
 same-length : tie.Need-same-length Inv-loop μ-loop
@@ -70,7 +72,7 @@ returns c =
     let s = c .before .loop in
     let a = c .before .before in
     let e : s .i ≡ a .args .used = omega arith in
-    (double-end _ _ (s .carry) (a .args .used) (rw e at (s .inv .3)) (a .pre .2), rw e at (s .inv .4))
+    (double-end _ _ (s .carry) (a .args .used) (rw e at (s .inv .3)) (rw e at (s .inv .5)), rw e at (s .inv .4))
 
 pub double-row-spec : {M : Type 1} → statement M
 double-row-spec =

@@ -1,51 +1,40 @@
-use Prim.Native.Nat.{_≤_, _<_, _-_, _+_, _*_}
+use Prim.Native.Nat.{_≤_, _<_, _-_, _+_, _*_, _^_}
 use mathlib.Core.Path.{_≡_, _∙_}
 use native.Mathlib.Omega.{arith}
 use borrow.Author.Needs.{needs}
 use lib.ListN.{length}
-use Rattle.code.specs.Register.{register}
-use Rattle.remainder.specs.Table.{width, Filled, before}
-use Rattle.remainder.proofs.Multiple.{width-most}
+use Rattle.code.specs.Register.{low}
+use Rattle.remainder.specs.Table.{Filled, before}
 use Rattle.remainder.proofs.Filling.{start-filled}
 use Rattle.remainder.proofs.table.fill.Statement.{statement}
 use Rattle.remainder.proofs.table.fill.Tie as tie
 
 abbrev Inv-loop : tie.InvT-loop
-Inv-loop table₀ divisor degree used v₀ table v = (0 < v) × (v ≤ 128) × (length table ≡ length table₀) × Filled degree (register divisor) (2 * v) table
+Inv-loop table₀ divisor used v₀ table v = (0 < v) × (v ≤ 128) × (length table ≡ length table₀) × Filled used (2 ^ (64 * used) + low divisor used) (2 * v) table
 
 abbrev μ-loop : tie.MeasureT-loop
-μ-loop table₀ divisor degree used v₀ table v = 128 - v
-
-row-words-requires : tie.Need-row-words-requires Inv-loop μ-loop
-row-words-requires c κs = search needs
+μ-loop table₀ divisor used v₀ table v = 128 - v
 
 clear-row-requires : tie.Need-clear-row-requires Inv-loop μ-loop
-clear-row-requires c κs =
-    let p = c .before .before .before .pre in
-    rw (c .before .row-words .ensures) (omega arith)
+clear-row-requires c κs = let p = c .before .before .pre in omega arith
 
 add-row-requires : tie.Need-add-row-requires Inv-loop μ-loop
 add-row-requires c κs =
-    let p = c .before .before .before .before .before .before .before .pre in
-    let e = c .before .before .before .before .before .row-words .ensures in
+    let p = c .before .before .before .before .before .before .pre in
     let k = c .before .before .before .clear-row .kept .0 in
-    let w = width-most _ (p .1) in
-    let i : 2 * c .before .before .before .before .before .row-words .result ≤ length (c .before .before .before .clear-row .last .0) = rw (e, k) (omega arith) in
-    (rw e w, omega arith, omega arith, before (omega arith))
+    (p .1, omega arith, omega arith, before (omega arith))
 
 loop-holds : tie.Need-loop-holds Inv-loop μ-loop
 loop-holds c =
     let q = c .before .before in
     let m = q .before .before .before .before in
-    let a = m .before .before .before .before in
+    let a = m .before .before .before in
     let p = a .pre in
-    let n : length (a .args .divisor) ≡ 14 = search needs in
-    let size : 256 * width (a .args .degree) ≤ length (q .add-row .last .0) = rw (q .add-row .kept .0, m .clear-row .kept .0) (p .3) in (
+    let size : 256 * a .args .used ≤ length (q .add-row .last .0) = rw (q .add-row .kept .0, m .clear-row .kept .0) (p .2) in (
       search needs,
       search needs,
       search needs,
-      start-filled (a .args .degree) _ (a .args .divisor) (p .0) (p .1) size (p .2 .monic) (m .before .before .row-words .ensures) n (m .clear-row .ensures)
-          (q .add-row .ensures .0) (q .add-row .ensures .1),
+      start-filled (a .args .used) (a .args .divisor) (λ k. search needs) (p .0) (p .1) size (m .clear-row .ensures) (q .add-row .ensures .0) (q .add-row .ensures .1),
     )
 
 row-pair-requires : tie.Need-row-pair-requires Inv-loop μ-loop
@@ -79,7 +68,6 @@ fill-spec =
     (tie.spec
     Inv-loop
     μ-loop
-    row-words-requires
     clear-row-requires
     add-row-requires
     loop-holds
