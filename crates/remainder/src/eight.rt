@@ -13,6 +13,7 @@ use crate::divide::pushed;
 use bit_reader::next_bit;
 use bit_reader::steps::bit_or_zero;
 use bits::read::byte_at;
+use bits::read::word_at;
 
 // The k highest digits of the number in the first words of a register.
 fn top(state: Register, used: usize, k: usize) -> u64
@@ -49,7 +50,48 @@ fn step_table(state: Register, table: &[u64], used: usize, k: usize, b: u64) -> 
     row_added(next, table, v * used, used)
 }
 
-// The bytes of a run of bits: `count` of them from position `at` on, wherever that lies in a byte.
+// The 64 coefficients of a word, the highest digit first.
+fn step_word(state: Register, table: &[u64], used: usize, w: u64) -> Register
+    requires { ⌜ (Rests used (now table)) × (register (state .words) < 2 ^ (64 * used)) ⌝ }
+    ensures { λ r. ⌜ register (r .words)
+        ≡ parityFrom (64 * used) (divisorOf used (now (table .entry))) (register (state .words)) (digits w 64) ⌝ }
+{
+    let mut r = state;
+    let mut left = w;
+    let mut i = 0usize;
+    while i < 8 {
+        let b = left >> 56;
+        r = step_table(r, table, used, 8, b);
+        left = left << 8;
+        i += 1;
+    }
+    r
+}
+
+// A run of bits word by word: `count` words from position `at` on, wherever that lies in a byte.
+fn feed_words(
+    state: Register,
+    table: &[u64],
+    used: usize,
+    bytes: &[u8],
+    at: usize,
+    count: usize,
+) -> Register
+    requires { ⌜ (Rests used (now table)) × (register (state .words) < 2 ^ (64 * used)) × (at + 64 * count < 18446744073709551616) ⌝ }
+    ensures { λ r. ⌜ register (r .words)
+        ≡ parityFrom (64 * used) (divisorOf used (now (table .entry))) (register (state .words)) (run (bitOf (now (bytes .entry))) at (64 * count)) ⌝ }
+{
+    let mut r = state;
+    let mut fed = 0;
+    while fed < count {
+        let w = word_at(bytes, at + 64 * fed);
+        r = step_word(r, table, used, w);
+        fed += 1;
+    }
+    r
+}
+
+// The same byte by byte.
 fn feed_bytes(
     state: Register,
     table: &[u64],
@@ -72,8 +114,26 @@ fn feed_bytes(
     r
 }
 
+// The whole bytes of a run of bits.
+fn feed_whole(
+    state: Register,
+    table: &[u64],
+    used: usize,
+    bytes: &[u8],
+    at: usize,
+    count: usize,
+) -> Register
+    requires { ⌜ (Rests used (now table)) × (register (state .words) < 2 ^ (64 * used)) × (at + 8 * count < 18446744073709551616) ⌝ }
+    ensures { λ r. ⌜ register (r .words)
+        ≡ parityFrom (64 * used) (divisorOf used (now (table .entry))) (register (state .words)) (run (bitOf (now (bytes .entry))) at (8 * count)) ⌝ }
+{
+    let long = count / 8;
+    let most = feed_words(state, table, used, bytes, at, long);
+    feed_bytes(most, table, used, bytes, at + 64 * long, count % 8)
+}
+
 // The same with the number of words written out: the loops over words are then unrolled.
-fn feed_words(
+fn feed_fixed(
     state: Register,
     table: &[u64],
     used: usize,
@@ -86,12 +146,12 @@ fn feed_words(
         ≡ parityFrom (64 * used) (divisorOf used (now (table .entry))) (register (state .words)) (run (bitOf (now (bytes .entry))) at (8 * count)) ⌝ }
 {
     if used == 4 {
-        return feed_bytes(state, table, 4, bytes, at, count);
+        return feed_whole(state, table, 4, bytes, at, count);
     }
     if used == 9 {
-        return feed_bytes(state, table, 9, bytes, at, count);
+        return feed_whole(state, table, 9, bytes, at, count);
     }
-    feed_bytes(state, table, used, bytes, at, count)
+    feed_whole(state, table, used, bytes, at, count)
 }
 
 // Bits of a run one by one.
@@ -132,6 +192,6 @@ pub fn feed_run(
         ≡ parityFrom (64 * used) (divisorOf used (now (table .entry))) (register (state .words)) (run (bitOf (now (bytes .entry))) at n) ⌝ }
 {
     let count = n / 8;
-    let whole = feed_words(state, table, used, bytes, at, count);
+    let whole = feed_fixed(state, table, used, bytes, at, count);
     feed_bits(whole, table, used, bytes, at + 8 * count, n % 8)
 }

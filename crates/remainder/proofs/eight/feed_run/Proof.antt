@@ -6,8 +6,8 @@ use Rattle.remainder.proofs.Steps.{rests-below, parity-parts}
 use Rattle.remainder.proofs.eight.feed_run.Statement.{statement}
 use Rattle.remainder.proofs.eight.feed_run.Tie as tie
 
-feed-words-requires : tie.Need-feed-words-requires
-feed-words-requires c κs = search needs
+feed-fixed-requires : tie.Need-feed-fixed-requires
+feed-fixed-requires c κs = search needs
 
 mul-feed-bits : tie.Need-mul-feed-bits
 mul-feed-bits c = search needs
@@ -18,14 +18,14 @@ add-feed-bits c = search needs
 feed-bits-requires : tie.Need-feed-bits-requires
 feed-bits-requires c κs =
     let p = c .before .before .before .pre in
-    (p .0, rw (c .feed-words .ensures) (rests-below _ _ (p .0) _ _ (p .1)), omega arith)
+    (p .0, rw (c .feed-fixed .ensures) (rests-below _ _ (p .0) _ _ (p .1)), omega arith)
 
 returns : tie.Need-returns
 returns c =
     let n = c .before .before .before .before .args .n in
     let e : n ≡ 8 * (n / 8) + n % 8 = omega arith in
-    parity-parts _ _ _ _ _ (8 * (n / 8)) (n % 8) e refl (c .before .feed-words .ensures) (c .feed-bits .ensures)
+    parity-parts _ _ _ _ _ (8 * (n / 8)) (n % 8) e refl (c .before .feed-fixed .ensures) (c .feed-bits .ensures)
 
 pub feed-run-spec : {M : Type 1} → statement M
 feed-run-spec =
-    tie.close (tie.spec feed-words-requires mul-feed-bits add-feed-bits feed-bits-requires returns)
+    tie.close (tie.spec feed-fixed-requires mul-feed-bits add-feed-bits feed-bits-requires returns)
