@@ -12,6 +12,7 @@ use crate::Register;
 use crate::divide::pushed;
 use bit_reader::next_bit;
 use bit_reader::steps::bit_or_zero;
+use bits::read::word_at;
 
 // The k highest digits of the number in the first words of a register.
 fn top(state: Register, used: usize, k: usize) -> u64
@@ -46,6 +47,47 @@ fn step_table(state: Register, table: &[u64], used: usize, k: usize, b: u64) -> 
     let v = (highest ^ b) as usize;
     let next = pushed(state, used, k, 0);
     row_added(next, table, v * used, used)
+}
+
+// The 64 coefficients of a word, the highest digit first.
+fn step_word(state: Register, table: &[u64], used: usize, w: u64) -> Register
+    requires { ⌜ (Rests used (now table)) × (register (state .words) < 2 ^ (64 * used)) ⌝ }
+    ensures { λ r. ⌜ register (r .words)
+        ≡ parityFrom (64 * used) (divisorOf used (now (table .entry))) (register (state .words)) (digits w 64) ⌝ }
+{
+    let mut r = state;
+    let mut left = w;
+    let mut i = 0usize;
+    while i < 8 {
+        let b = left >> 56;
+        r = step_table(r, table, used, 8, b);
+        left = left << 8;
+        i += 1;
+    }
+    r
+}
+
+// A run of bits word by word: `count` words from position `at` on, wherever that lies in a byte.
+fn feed_words(
+    state: Register,
+    table: &[u64],
+    used: usize,
+    bytes: &[u8],
+    at: usize,
+    count: usize,
+) -> Register
+    requires { ⌜ (Rests used (now table)) × (register (state .words) < 2 ^ (64 * used)) × (at + 64 * count < 18446744073709551616) ⌝ }
+    ensures { λ r. ⌜ register (r .words)
+        ≡ parityFrom (64 * used) (divisorOf used (now (table .entry))) (register (state .words)) (run (bitOf (now (bytes .entry))) at (64 * count)) ⌝ }
+{
+    let mut r = state;
+    let mut fed = 0;
+    while fed < count {
+        let w = word_at(bytes, at + 64 * fed);
+        r = step_word(r, table, used, w);
+        fed += 1;
+    }
+    r
 }
 
 // Byte i of a slice.
@@ -92,8 +134,30 @@ fn feed_bytes(
     r
 }
 
-// The same with the number of words written out: the loops over words are then unrolled.
-fn feed_fixed(
+// Both with the numbers of words in use written out: the loops over words are then unrolled.
+
+fn feed_words_fixed(
+    state: Register,
+    table: &[u64],
+    used: usize,
+    bytes: &[u8],
+    at: usize,
+    count: usize,
+) -> Register
+    requires { ⌜ (Rests used (now table)) × (register (state .words) < 2 ^ (64 * used)) × (at + 64 * count < 18446744073709551616) ⌝ }
+    ensures { λ r. ⌜ register (r .words)
+        ≡ parityFrom (64 * used) (divisorOf used (now (table .entry))) (register (state .words)) (run (bitOf (now (bytes .entry))) at (64 * count)) ⌝ }
+{
+    if used == 4 {
+        return feed_words(state, table, 4, bytes, at, count);
+    }
+    if used == 9 {
+        return feed_words(state, table, 9, bytes, at, count);
+    }
+    feed_words(state, table, used, bytes, at, count)
+}
+
+fn feed_bytes_fixed(
     state: Register,
     table: &[u64],
     used: usize,
@@ -138,7 +202,7 @@ fn feed_bits(
     r
 }
 
-// Internal: a run of n bits: its bytes, and then its odd bits.
+// Internal: a run of n bits: its words, then its bytes, then its odd bits.
 pub fn feed_run(
     state: Register,
     table: &[u64],
@@ -151,7 +215,10 @@ pub fn feed_run(
     ensures { λ r. ⌜ register (r .words)
         ≡ parityFrom (64 * used) (divisorOf used (now (table .entry))) (register (state .words)) (run (bitOf (now (bytes .entry))) at n) ⌝ }
 {
-    let count = n / 8;
-    let whole = feed_fixed(state, table, used, bytes, at, count);
-    feed_bits(whole, table, used, bytes, at + 8 * count, n % 8)
+    let long = n / 64;
+    let most = feed_words_fixed(state, table, used, bytes, at, long);
+    let next = at + 64 * long;
+    let short = n % 64 / 8;
+    let whole = feed_bytes_fixed(most, table, used, bytes, next, short);
+    feed_bits(whole, table, used, bytes, next + 8 * short, n % 8)
 }

@@ -2,8 +2,8 @@ use Prim.Native.Nat.{_<_, _*_, _^_}
 use mathlib.Core.Path.{_≡_, _∙_, sym}
 use native.Mathlib.Omega.{arith}
 use borrow.Author.Needs.{needs}
-use Rattle.remainder.proofs.eight.feed_fixed.Statement.{statement}
-use Rattle.remainder.proofs.eight.feed_fixed.Tie as tie
+use Rattle.remainder.proofs.eight.feed_bytes_fixed.Statement.{statement}
+use Rattle.remainder.proofs.eight.feed_bytes_fixed.Tie as tie
 
 feed-bytes-requires : tie.Need-feed-bytes-requires
 feed-bytes-requires c κs =
@@ -29,8 +29,8 @@ feed-bytes-requires-3 c κs = search needs
 returns-3 : tie.Need-returns-3
 returns-3 c = search needs
 
-pub feed-fixed-spec : {M : Type 1} → statement M
-feed-fixed-spec =
+pub feed-bytes-fixed-spec : {M : Type 1} → statement M
+feed-bytes-fixed-spec =
     tie.close
     (tie.spec
     feed-bytes-requires
