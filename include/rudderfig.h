@@ -1,9 +1,10 @@
 /*
  * Rudderfig: NAND pages written and read through binary BCH codes.
  *
- * Link librudderfig.a, which `make lib` leaves beside this file. Eight calls answer the seven questions of the project's document 01, and two
- * more hand a remainder to a hardware locator and take it back; the numbers and names below are the documents'. Each call is total: any layout words, any lengths, any page content get an answer, and a caller
- * has to have tested nothing. Each is proved to return what its definition says, and to leave every lent byte as that definition says.
+ * Link librudderfig.a, which `make lib` leaves beside this file. Eight calls answer the seven questions of the project's document 01, two more
+ * hand a remainder to a hardware locator and take it back, and three take a block's message in pieces; the numbers and names below are the
+ * documents'. Each call is total: any layout words, any lengths, any page content get an answer, and a caller has to have tested nothing. Each is
+ * proved to return what its definition says, and to leave every lent byte as that definition says.
  *
  *
  * The answer word
@@ -74,11 +75,14 @@ enum rudderfig_reply_number {
 #define RUDDERFIG_STACK_BIT_POSITION 256
 #define RUDDERFIG_STACK_WRITE_PAGE 24576
 #define RUDDERFIG_STACK_READ_PAGE 126976
-#define RUDDERFIG_STACK_JUDGE_BLOCK 90112
+#define RUDDERFIG_STACK_JUDGE_BLOCK 94208
 #define RUDDERFIG_STACK_LOCATE_ERRORS 73728
 #define RUDDERFIG_STACK_CHECK_CLAIM 24576
 #define RUDDERFIG_STACK_EXPORT_FRAGMENTS 512
 #define RUDDERFIG_STACK_IMPORT_FRAGMENTS 512
+#define RUDDERFIG_STACK_PARITY_START 256
+#define RUDDERFIG_STACK_PARITY_FEED 24576
+#define RUDDERFIG_STACK_PARITY_FINISH 512
 
 /* The largest of them. */
 #define RUDDERFIG_STACK RUDDERFIG_STACK_READ_PAGE
@@ -172,6 +176,36 @@ uint64_t rudderfig_export_fragments(uint64_t level_field, const uint8_t *remaind
  */
 uint64_t rudderfig_import_fragments(uint64_t level_field, const uint32_t *fragments, size_t fragments_len, uint8_t *remainder,
                                     size_t remainder_len);
+
+/*
+ * The parity of one block whose message arrives in pieces. The caller keeps the state and lends it to each call; what is in it is the calls' own.
+ * Any bytes may be in it before rudderfig_parity_start, and it may be copied and thrown away at any time. No refusal and no finish changes it: a
+ * piece that was refused can be followed by another, and a message can be finished twice. A state that no start has made is refused with 7, or is
+ * taken for what its numbers say; it does no harm.
+ */
+struct rudderfig_parity {
+    uint64_t words[18];
+};
+
+/*
+ * Starts a block with a message of `length` bytes; t is twice level_field, 0 means no ECC, field_choice 0 is m = 13 and 1 is m = 14.
+ * Writes the state, on reply 0 only. Replies 0; 7 first of all for another field choice; 1; 2 where the length is 0; 3 where t > 0 and the
+ * message with its m * t bits of parity is longer than 2^m - 1 bits. No value.
+ */
+uint64_t rudderfig_parity_start(struct rudderfig_parity *state, uint64_t level_field, uint64_t field_choice, uint64_t length);
+
+/*
+ * Feeds one more piece of the message, of any length, 0 too. Reads the piece; writes the state, on reply 0 only. Replies 0; 7 for a state that no
+ * start has made; 6 for a piece that would pass the length stated at the start, of which no part is taken. No value.
+ */
+uint64_t rudderfig_parity_feed(struct rudderfig_parity *state, const uint8_t *piece, size_t piece_len);
+
+/*
+ * Finishes: the parity of the message, wherever it was cut, in exactly (m * t + 7) / 8 bytes, highest coefficient first, right-aligned. It is the
+ * parity that rudderfig_write_page puts after that message. Writes all of `parity`, on reply 0 only; the state stays as it is. Replies 0; 7 for a
+ * state that no start has made; 6 where the message is not whole yet, or the buffer has another length. No value.
+ */
+uint64_t rudderfig_parity_finish(struct rudderfig_parity *state, uint8_t *parity, size_t parity_len);
 
 #ifdef __cplusplus
 }

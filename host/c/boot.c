@@ -1,6 +1,6 @@
 /*
  * The library as a boot loader has it: freestanding, with no C library, on a stack of its own that is as large as the header says. Writes a page of two
- * blocks (case E of document 01), damages it, reads it back, then ruins it. The exit status is 0 where every byte is as it should be, and else
+ * blocks (case E of document 01), damages it, reads it back, then ruins it, and takes a message in pieces. The exit status is 0 where every byte is as it should be, and else
  * the number of the first step that was not.
  */
 #include "rudderfig.h"
@@ -56,6 +56,25 @@ static int zeros_read_back(void)
         && rudderfig_check_claim(record, sizeof record, page, sizeof page, 0, twice, 2) == RUDDERFIG_CLAIM_WRONG;
 }
 
+/* The message of block 0 in two pieces, with a refused piece and an early finish between them: the 26 bits that the page has after it, right-aligned. */
+static int pieces_finish(void)
+{
+    static const uint8_t stored[4] = {0x00, 0xCA, 0x3E, 0xD5};
+    struct rudderfig_parity state;
+    uint8_t parity[4] = {0};
+
+    memset(&state, 0xA5, sizeof state);
+    if (rudderfig_parity_feed(&state, payload, 1) != RUDDERFIG_OUT_OF_RANGE || rudderfig_parity_start(&state, 1, 0, 4) != RUDDERFIG_DONE)
+        return 0;
+    if (rudderfig_parity_feed(&state, payload, 3) != RUDDERFIG_DONE || rudderfig_parity_feed(&state, payload, 2) != RUDDERFIG_BUFFER_LENGTH)
+        return 0;
+    if (rudderfig_parity_finish(&state, parity, sizeof parity) != RUDDERFIG_BUFFER_LENGTH)
+        return 0;
+    if (rudderfig_parity_feed(&state, payload + 3, 1) != RUDDERFIG_DONE)
+        return 0;
+    return rudderfig_parity_finish(&state, parity, sizeof parity) == RUDDERFIG_DONE && same(parity, stored, sizeof stored);
+}
+
 static int boot(void)
 {
     uint8_t page[15], data[8], counts[2];
@@ -95,7 +114,9 @@ static int boot(void)
         if (data[i] != 0x5A || counts[i % 2] != 0x5A)
             return 9;
 
-    return zeros_read_back() ? 0 : 10;
+    if (!zeros_read_back())
+        return 10;
+    return pieces_finish() ? 0 : 12;
 }
 
 /* A stack of the size that the header names and what this program itself uses, between two filled areas that the calls must leave alone. */

@@ -10,6 +10,7 @@
 //! - [`judge_block`]: the flips of one block;
 //! - [`locate_errors`]: the wrong bits, from a remainder alone;
 //! - [`check_claim`]: are these error locations right?
+//! - [`pieces::Pieces`]: the parity of a block whose message arrives in pieces (document 02, E4).
 //!
 //! and those of document 02
 //!
@@ -34,6 +35,7 @@ pub mod layout;
 pub mod library;
 pub mod locate;
 pub mod page;
+pub mod pieces;
 pub mod random;
 pub mod reply;
 pub mod samples;

@@ -3,7 +3,7 @@
 use model::bits::bits_of;
 use model::code::{bch, flip_exponents};
 use model::field::FieldChoice::Thirteen;
-use model::{Reply, locate_errors};
+use model::{Reply, export_fragments, import_fragments, locate_errors};
 
 /// The remainder that a hexadecimal number spells, in as many bytes as its level takes.
 fn remainder(hexadecimal: &str, t: usize) -> Vec<u8> {
@@ -52,6 +52,32 @@ fn page_mode() {
     assert_eq!(located(p1, 16, 4224), Ok(vec![158, 212]));
     assert_eq!(located(p2, 16, 4224), Ok(vec![1208]));
     assert_eq!(located("0", 16, 4224), Ok(vec![]));
+}
+
+/// The document's tables give each remainder as fragments too.
+#[test]
+fn printed_fragments() {
+    let example = [0xFB0D0980, 0xE44F767B, 0x16ABE115, 0x0000000A, 0, 0, 0];
+    let p0 = [
+        0xE0B718EF, 0xA329AA05, 0x8330B5CC, 0xB0693DB2, 0x318E05BE, 0x12ADDB5A, 0xE8B0,
+    ];
+    let printed = [
+        (8, "0A16ABE115E44F767BFB0D0980", example),
+        (
+            16,
+            "E8B012ADDB5A318E05BEB0693DB28330B5CCA329AA05E0B718EF",
+            p0,
+        ),
+    ];
+    for (t, hexadecimal, printed) in printed {
+        let remainder = remainder(hexadecimal, t);
+        let mut fragments = [0xFFFF_FFFF; 7];
+        export_fragments(t as u64 / 2, &remainder, &mut fragments).unwrap();
+        assert_eq!(fragments, printed);
+        let mut back = vec![0xFF; remainder.len()];
+        import_fragments(t as u64 / 2, &fragments, &mut back).unwrap();
+        assert_eq!(back, remainder);
+    }
 }
 
 #[test]

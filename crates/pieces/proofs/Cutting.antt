@@ -17,7 +17,7 @@ use native.Mathlib.Nat.{add-assoc, mod-eq-of-lt, lt-of-lt-of-le}
 use lib.ListN.{length, getD, replicate, length-append, List·getD-append}
 use lib.Seq.{getD-append-add}
 use lib.Dec.{eqb, leb}
-use lib.Pow.{pow-mono}
+use lib.Pow.{pow-pos, pow-mono}
 use borrow.Author.Tests.{le-leb, lt-leb, leb-true, eq-eqb, ne-eqb}
 use Rattle.bits.specs.Bits.{bit, bitAt, bitOf, run, number, digits, bytes}
 use Rattle.bits.proofs.Numbers.{digits-length, digits-at, number-digits}
@@ -92,7 +92,7 @@ module _ (f : Field) (s : State) (going : Going f s) where
   after-append : (p q : List ℕ) → after f (after f s p) q ≡ after f s (p ++ q)
   unfolding after
   after-append p q =
-      rw (after-register p, carried-append f (2 * s .level) (register (s .words)) (bitsOf p) (bitsOf q), ← bitsOf-append p q, length-append p q, add-assoc (s .fed) (length p) (length q))
+      rw (after-register p, carried-append f (2 * s .level) (register (s .words)) (bitsOf p) (bitsOf q) (going .below), ← bitsOf-append p q, length-append p q, add-assoc (s .fed) (length p) (length q))
 
 taken : (f : Field) (s : State) (p : List ℕ) → Going f s → s .fed + length p ≤ s .size → feedIn f s p ≡ answered 0 (after f s p)
 taken f s p g l = sym (feed-taken f s p (going-usable f s g) l refl)
@@ -174,7 +174,7 @@ module _ (f : Field) (level n : ℕ) (right : blockReply f level n ≡ 0) where
       rw (
         state-register l,
         ← carried-start f (2 * level) (bitsOf l),
-        carried-append f (2 * level) 0 (bitsOf l) (bitsOf p),
+        carried-append f (2 * level) 0 (bitsOf l) (bitsOf p) (pow-pos _),
         ← bitsOf-append l p,
         carried-start f (2 * level) (bitsOf (l ++ p)),
         length-append l p,

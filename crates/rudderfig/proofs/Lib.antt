@@ -6,3 +6,4 @@ pub mod Pages
 pub mod Returns
 pub mod Locating
 pub mod Fragments
+pub mod Pieces

@@ -4,3 +4,4 @@ pub mod Bits
 pub mod Pages
 pub mod Locating
 pub mod Fragments
+pub mod Pieces

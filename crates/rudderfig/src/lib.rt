@@ -9,12 +9,14 @@
 //   rudderfig_check_claim      are these error locations, reported by a hardware locator, right?
 //   rudderfig_locate_errors    from a remainder alone, which bits are wrong?
 //   locator.rt has two more, which hand a remainder to a hardware locator and take it back
+//   parity.rt has three more, which take one block's message in pieces
 //
 // Each passes its arguments on to the call of the crate that answers the question, and puts the answer into a word (answer.rt):
 // reply, the reply's block, a kind and a value. None asks anything of its caller but that a slice is one: include/rudderfig.h
 // says what that means in C.
 mod answer;
 mod locator;
+mod parity;
 
 use answer::done;
 use answer::refused;

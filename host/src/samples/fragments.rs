@@ -104,7 +104,7 @@ fn set_bit<T: Copy>(places: &mut [T], p: usize, width: usize, set: impl Fn(T, us
 /// Another length: none, one less, one more, or any small one.
 fn resize<T: Clone + Default>(places: &mut Vec<T>, random: &mut Random) {
     let length = places.len();
-    let any = random.below(40);
+    let any = random.below(17);
     let length = random.pick(&[0, length.saturating_sub(1), length + 1, any]);
     places.resize(length, T::default());
 }

@@ -1,9 +1,10 @@
 //! Writes test vectors and the model's answers to them:
 //!
-//!     vectors layout|locate|pages INPUT OUTPUT
+//!     vectors layout|locate|fragments|pages INPUT OUTPUT
 //!
 //! INPUT is what a program reads on its standard input, OUTPUT what it is to print.
 
+mod fragments;
 mod layout;
 mod locate;
 mod pages;
@@ -36,6 +37,14 @@ impl Answer {
         Answer {
             reply,
             line: format!("{reply} {block}"),
+        }
+    }
+
+    /// An answer without a block.
+    pub fn alone(reply: u8) -> Answer {
+        Answer {
+            reply,
+            line: format!("{reply}"),
         }
     }
 
@@ -88,6 +97,7 @@ fn main() -> ExitCode {
     let vectors = match topic.as_str() {
         "layout" => layout::vectors(),
         "locate" => locate::vectors(),
+        "fragments" => fragments::vectors(),
         "pages" => pages::vectors(),
         _ => return usage(),
     };
@@ -106,6 +116,6 @@ fn main() -> ExitCode {
 }
 
 fn usage() -> ExitCode {
-    eprintln!("usage: vectors layout|locate|pages INPUT OUTPUT");
+    eprintln!("usage: vectors layout|locate|fragments|pages INPUT OUTPUT");
     ExitCode::FAILURE
 }

@@ -1,0 +1,56 @@
+-- `fragment_vectors::put_fragments` meets its contract.
+use mathlib.Core.Path.{_≡_}
+use Prim.Native.Nat.{_-_, _≤_}
+use borrow.Author.Needs.{needs}
+use lib.ListN.{length}
+use Rattle.fragment_vectors.proofs.put_fragments.Statement.{statement}
+use Rattle.fragment_vectors.proofs.put_fragments.Tie as tie
+
+abbrev Inv-loop : tie.InvT-loop
+Inv-loop line₀ at fragments n p₀ i₀ line p i = (i ≤ n) × (length line ≡ length line₀)
+
+abbrev μ-loop : tie.MeasureT-loop
+μ-loop line₀ at fragments n p₀ i₀ line p i = n - i
+
+loop-holds : tie.Need-loop-holds Inv-loop μ-loop
+loop-holds c = search needs
+
+mul-put-fragment : tie.Need-mul-put-fragment Inv-loop μ-loop
+mul-put-fragment c = search needs
+
+shared-slice-read-put-fragment : tie.Need-shared-slice-read-put-fragment Inv-loop μ-loop
+shared-slice-read-put-fragment c = search needs
+
+put-fragment-requires : tie.Need-put-fragment-requires Inv-loop μ-loop
+put-fragment-requires c κs = search needs
+
+add-i : tie.Need-add-i Inv-loop μ-loop
+add-i c = search needs
+
+loop-less : tie.Need-loop-less Inv-loop μ-loop
+loop-less c = search needs
+
+loop-again : tie.Need-loop-again Inv-loop μ-loop
+loop-again c = search needs
+
+same-length : tie.Need-same-length Inv-loop μ-loop
+same-length c = search needs
+
+returns : tie.Need-returns Inv-loop μ-loop
+returns c = search needs
+
+pub put-fragments-spec : {M : Type 1} → statement M
+put-fragments-spec =
+    tie.close
+    (tie.spec
+    Inv-loop
+    μ-loop
+    loop-holds
+    mul-put-fragment
+    shared-slice-read-put-fragment
+    put-fragment-requires
+    add-i
+    loop-less
+    loop-again
+    same-length
+    returns)
