@@ -36,7 +36,7 @@ use Rattle.code.proofs.Remainder.{codeword-remainder, remainder-codeword, remai
 use Rattle.bch.specs.KeyEquation.{series, Recurs, Locates as Roots}
 use Rattle.bch.specs.declared.Found.{Found}
 use Rattle.bch.specs.PowerSums.{Decides, Agrees, Syndromes}
-use Rattle.bch.specs.Locating.{Locatable, answer, Finds}
+use Rattle.bch.specs.Locating.{Locatable, Ascending, answer, Finds}
 use Rattle.bch.proofs.Element.{entry-below}
 
 -- ---- a list that ascends, as a set
@@ -80,6 +80,72 @@ marks-among l (suc w) p room rising =
     go (yes e) = rw (eq-eqb p (getD l w 0) e, eq-eqb (getD l w 0) p (sym e), e, among-fresh (λ i. getD l i 0) w rising _ refl) (unfold differ in refl)
     go (no e) = rw (ne-eqb p (getD l w 0) e, ne-eqb (getD l w 0) p (λ q. e (sym q))) (differ-false _)
 
+-- ---- a list of places
+
+module _ (n : ℕ) {w : ℕ} {l : List ℕ} (room : w ≤ length l) (h : Ascending n w l) where
+  list-size : length (take w l) ≡ w
+  list-size = simp length-take (omega arith)
+
+  at : (i : ℕ) → i < w → getD (take w l) i 0 ≡ getD l i 0
+  at i k = getD-take w l i 0 k
+
+  list-rising : Rising 0 (take w l)
+  list-rising = each-rising 0 (take w l) (λ k. omega arith)
+      (λ i k. rw (at i (omega (arith, list-size)), at (suc i) (omega (arith, list-size))) (h .rising i (suc i) (omega arith) (omega (arith, list-size))))
+
+  list-below : Below n (take w l)
+  list-below = below-each n (take w l) (λ i k. rw (at i (omega (arith, list-size))) (h .below i (omega (arith, list-size))))
+
+-- The search for a place that breaks the order: the k first places are in order, and the next must be at least `least`.
+pub record Ordered (n k least : ℕ) (l : List ℕ) : Type 0 where
+  pub order : Ascending n k l
+  pub under : (i : ℕ) → i < k → getD l i 0 < least
+  pub last : (i : ℕ) → suc i ≡ k → least ≡ suc (getD l i 0)
+  pub first : k ≡ 0 → least ≡ 0
+
+pub ordered-start : (n : ℕ) (l : List ℕ) → Ordered n 0 0 l
+ordered-start n l = record {
+  order = record { rising = λ i j h k. absurd (omega arith); below = λ i k. absurd (omega arith) };
+  under = λ i k. absurd (omega arith);
+  last = λ i e. absurd (omega arith);
+  first = λ e. refl;
+}
+
+module _ (n : ℕ) {k least : ℕ} {l : List ℕ} (h : Ordered n k least l) where
+  pub ordered-next : least ≤ getD l k 0 → getD l k 0 < n → Ordered n (k + 1) (getD l k 0 + 1) l
+  ordered-next low high = record {
+    order = record {
+      rising = λ i j a b. rising i j a b (decLt j k);
+      below = λ i a. below i a (decLt i k);
+    };
+    under = λ i a. under i a (decLt i k);
+    last = λ i e. let d : i ≡ k = omega arith in rw d (omega arith);
+    first = λ e. absurd (omega arith);
+  }
+    where
+      rising : (i j : ℕ) → i < j → j < k + 1 → Dec (j < k) → getD l i 0 < getD l j 0
+      rising i j a b (yes c) = h .order .rising i j a c
+      rising i j a b (no c) = let d : j ≡ k = omega arith in rw d (omega (arith, h .under i (omega arith)))
+
+      below : (i : ℕ) → i < k + 1 → Dec (i < k) → getD l i 0 < n
+      below i a (yes c) = h .order .below i c
+      below i a (no c) = let d : i ≡ k = omega arith in rw d (omega arith)
+
+      under : (i : ℕ) → i < k + 1 → Dec (i < k) → getD l i 0 < getD l k 0 + 1
+      under i a (yes c) = omega (arith, h .under i c)
+      under i a (no c) = let d : i ≡ k = omega arith in rw d (omega arith)
+
+  -- A place that is too low is not above the one before it.
+  pub ordered-low : {w : ℕ} → k < w → getD l k 0 < least → Ascending n w l → ⊥
+  ordered-low {w} inside low g = go k refl
+    where
+      go : (j : ℕ) → k ≡ j → ⊥
+      go zero e = omega (arith, h .first e)
+      go (suc j) e = let d : getD l j 0 < getD l k 0 = g .rising j k (omega arith) inside in omega (arith, h .last j (sym e))
+
+  pub ordered-high : {w : ℕ} → k < w → n ≤ getD l k 0 → Ascending n w l → ⊥
+  ordered-high inside high g = omega (arith, g .below k inside)
+
 -- ---- the decoder
 
 module _ (f : Field) (t n x : ℕ) (h : Locatable f t n x) (short : n ≤ longest f) {s : List ℕ} (syndromes : Syndromes f t x s) where
@@ -92,6 +158,11 @@ module _ (f : Field) (t n x : ℕ) (h : Locatable f t n x) (short : n ≤ longes
 
   set-count : (v : Word) → Locates f t n x v → count (coefficient v) n ≡ ones v
   set-count v y = sym (ones-count v ∙ ap (count (coefficient v)) (y .below))
+
+  -- A list of at most t places that passes the recheck is the answer, whatever proposed it.
+  pub list-located : {l : List ℕ} {w : ℕ} → w ≤ length l → Ascending n w l → Agrees f t s (take w l) → w ≤ t → locate f t n x ≡ exponents (take w l)
+  list-located {l} {w} room a g k = locate-list f t n x (h .fits) (h .low) (h .room) (take w l) (list-rising n room a) (list-below n room a)
+      (omega (arith, list-size n room a)) (λ i m. sym (syndromes .values (i + i) (omega arith)) ∙ g .sums i m)
 
   module _ {len b : ℕ} {c u : List ℕ} {gap : ℕ} (recurs : Recurs f s t len b c u gap) where
     state : State (gf f) (series f s) (2 * t) len (num f .el b) (series f c) (shift (gf f) gap (series f u))
@@ -135,22 +206,12 @@ module _ (f : Field) (t n x : ℕ) (h : Locatable f t n x) (short : n ≤ longes
       pub few-nowhere : ¬ (w ≡ len) → locate f t n x ≡ nowhere
       few-nowhere e = locate-nowhere f t n x (λ v y. e (set-size v y))
 
-      size : length (take w l) ≡ w
-      size = simp length-take (omega arith)
-
-      at : (i : ℕ) → i < w → getD (take w l) i 0 ≡ getD l i 0
-      at i k = getD-take w l i 0 k
-
-      rising : Rising 0 (take w l)
-      rising = each-rising 0 (take w l) (λ k. omega arith)
-          (λ i k. rw (at i (omega (arith, size)), at (suc i) (omega (arith, size))) (roots .lists .rising i (suc i) (omega arith) (omega (arith, size))))
-
-      below : Below n (take w l)
-      below = below-each n (take w l) (λ i k. rw (at i (omega (arith, size))) (roots .lists .below i (omega (arith, size))))
+      listing : Ascending n w l
+      listing = record { rising = roots .lists .rising; below = roots .lists .below }
 
       set-list : (v : Word) → Locates f t n x v → listed v ≡ take w l
       unfolding listed
-      set-list v y = rising-ext 0 (ascending v) (take w l) (ascending-rising v) rising (λ p. each p (decLt p n))
+      set-list v y = rising-ext 0 (ascending v) (take w l) (ascending-rising v) (list-rising n room listing) (λ p. each p (decLt p n))
         where
           past : (p : ℕ) → n ≤ p → (d : Bool) → among place w p ≡ d → d ≡ false
           past p k false i = refl
@@ -167,8 +228,7 @@ module _ (f : Field) (t n x : ℕ) (h : Locatable f t n x) (short : n ≤ longes
       wrong-nowhere e = locate-nowhere f t n x (λ v y. e (set-agrees v y))
 
       pub agreed-located : Agrees f t s (take w l) → w ≤ t → locate f t n x ≡ exponents (take w l)
-      agreed-located g k = locate-list f t n x (h .fits) (h .low) (h .room) (take w l) rising below (omega (arith, size))
-          (λ i m. sym (syndromes .values (i + i) (omega arith)) ∙ g .sums i m)
+      agreed-located = list-located room listing
 
 -- ---- a zero remainder
 
@@ -207,6 +267,11 @@ module _ (f : Field) (t n x : ℕ) where
   pub finds-zero : (r : Found) → locate f t n x ≡ exponents [] → r .located ≡ true → r .count ≡ 0 → length (r .exponents) ≡ 64 → Finds f t n x r
   unfolding answer
   finds-zero r e located count size = record { is = rw (located, count) (sym e); few = omega arith; size = size }
+
+  pub finds-listed : (r : Found) → r .located ≡ true → r .count ≤ t → length (r .exponents) ≡ 64 → locate f t n x ≡ exponents (take (r .count) (r .exponents))
+      → Finds f t n x r
+  unfolding answer
+  finds-listed r located few size e = record { is = rw located (sym e); few = few; size = size }
 
   pub finds-list : (r : Found) → r .count ≤ t → length (r .exponents) ≡ 64 → {P : Type 0} → Decides (r .located) P
       → (P → locate f t n x ≡ exponents (take (r .count) (r .exponents))) → ((P → ⊥) → locate f t n x ≡ nowhere) → Finds f t n x r

@@ -1,12 +1,14 @@
 -- Locating the errors behind a remainder (document 01, "Remainder").
 --
 -- Locatable f t n x    x is a remainder of the level t, and n a length that the level allows
+-- Ascending n w l      the first w entries of l ascend and are below n
 -- answer r             what a finding says: the exponents that it lists, or that there are none
 -- Finds f t n x r      the finding r is right for the remainder x and the length n
 use mathlib.Core.Path.{_≡_}
 use mathlib.Core.Bool.{cond}
+use mathlib.Core.List.{List}
 use Prim.Native.Nat.{ℕ, _*_, _^_, _≤_, _<_}
-use lib.ListN.{length, take}
+use lib.ListN.{length, getD, take}
 use Rattle.field.specs.declared.Field.{Field}
 use Rattle.field.specs.Field.{degree}
 use Rattle.code.specs.Code.{Fits}
@@ -17,6 +19,10 @@ pub record Locatable (f : Field) (t n x : ℕ) : Type 0 where
   pub fits : Fits f t n
   pub room : degree f * t ≤ n
   pub low : x < 2 ^ (degree f * t)
+
+pub record Ascending (n w : ℕ) (l : List ℕ) : Type 0 where
+  pub rising : (i j : ℕ) → i < j → j < w → getD l i 0 < getD l j 0
+  pub below : (i : ℕ) → i < w → getD l i 0 < n
 
 -- The first `count` places are the set; what stands after them says nothing.
 unfoldable pub answer : Found → Locations

@@ -6,9 +6,10 @@
 // 1. request.rt looks at the numbers and lengths, and makes the tables of powers and logarithms where the remainder is not zero.
 // 2. power_sums.rt works out the syndromes: the values of the remainder at a, a^2, .., a^(2t).
 // 3. key_equation.rt finds the shortest recurrence of the syndromes by the algorithm of Berlekamp and Massey, whose coefficients are
-//    those of the error locator, and searches the powers of a below a^n for its roots.
-// 4. locate.rt refuses a locator that is too long or has too few roots, and rechecks the roots over the code: their power sums must
-//    be the syndromes. So no locator is trusted, and no exponent at or above n is reported.
+//    those of the error locator.
+// 4. locate.rt refuses a locator that is too long, and lets crate `root_finder` propose its roots. Where the proposal fails, the powers
+//    of a below a^n are searched for them, and a locator with too few is refused. All roots are rechecked over the code: their power
+//    sums must be the syndromes. So neither locator nor proposal is trusted, and no exponent at or above n is reported.
 // 5. request.rt lists the exponents. A refusal writes nothing.
 // What is right is said by specs/Answers.antt over the code alone; proofs/Locating.antt shows that the decoder finds it, and
 // proofs/Remainder.antt that reply 9 is given exactly if there is no set, and that a refusal changes no place.

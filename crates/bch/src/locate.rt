@@ -1,12 +1,18 @@
 // The errors behind a remainder: syndromes, key equation, roots, and a recheck over the code. The recheck makes every answer right,
-// whatever proposed it; that the decoder proposes the set wherever there is one is shown in proofs/Locating.antt.
+// whatever proposed it. A fast root finder proposes first, of which nothing is known; where its proposal fails, the complete search
+// answers. That this proposes the set wherever there is one is shown in proofs/Locating.antt.
 //
 //   find_errors    the set of at most t exponents below n that leaves a remainder
 ghost use mathlib.Core.Path.{_≡_};
-ghost use lib.ListN.{length};
+ghost use Prim.Native.Nat.{_≤_};
+ghost use lib.ListN.{length, take};
+ghost use Rattle.field.specs.Field.{longest};
 ghost use Rattle.field.specs.Tables.{Tables};
+ghost use Rattle.powers.specs.Powers.{Powers};
 ghost use Rattle.code.specs.Register.{register};
-ghost use Rattle.bch.specs.Locating.{Locatable, Finds};
+ghost use Rattle.bch.specs.KeyEquation.{Elements};
+ghost use Rattle.bch.specs.PowerSums.{Decides, Agrees};
+ghost use Rattle.bch.specs.Locating.{Locatable, Ascending, Finds};
 use crate::Found;
 use crate::key_equation::locate;
 use crate::key_equation::shortest;
@@ -15,6 +21,7 @@ use crate::power_sums::syndromes;
 use field::Field;
 use remainder::Register;
 use remainder::coefficients::is_zero;
+use root_finder::find_roots;
 
 // A finding with no exponents: the empty set, or none at all.
 fn no_exponents(located: bool) -> Found
@@ -25,6 +32,53 @@ fn no_exponents(located: bool) -> Found
         count: 0,
         exponents: [0; 64],
     }
+}
+
+fn place(p: u16) -> usize
+    ensures { λ r. ⌜ r ≡ p ⌝ }
+{
+    p as usize
+}
+
+// Whether the first `count` places of a list ascend and lie below n.
+fn ascend_below(places: &[u16; 64], count: usize, n: usize) -> bool
+    requires { ⌜ count ≤ 64 ⌝ }
+    ensures { λ r. ⌜ Decides r (Ascending n count (now (places .entry))) ⌝ }
+{
+    let mut least: usize = 0;
+    let mut k: usize = 0;
+    while k < count {
+        let p = place(places[k]);
+        if p < least {
+            return false;
+        }
+        if n <= p {
+            return false;
+        }
+        least = p + 1;
+        k += 1;
+    }
+    true
+}
+
+// Whether the first `count` places of a list ascend, lie below n, and have the given power sums with odd j.
+fn passes(
+    f: Field,
+    powers: &[u16; 16384],
+    sums: [u16; 128],
+    t: usize,
+    n: usize,
+    places: [u16; 64],
+    count: usize,
+) -> bool
+    requires { ⌜ Powers f (now powers) ⌝ }
+    requires { ⌜ (t ≤ 62) × (Elements f sums) × (n ≤ longest f) × (count ≤ 64) ⌝ }
+    ensures { λ r. ⌜ Decides r ((Ascending n count places) × (Agrees f t sums (take count places))) ⌝ }
+{
+    if ascend_below(&places, count, n) {
+        return sums_agree(f, powers, sums, t, places, count);
+    }
+    false
 }
 
 // Internal. The set of at most t exponents below n whose sum of powers leaves the remainder, if there is one.
@@ -49,6 +103,14 @@ pub fn find_errors(
     let len = r.len;
     if t < len {
         return no_exponents(false);
+    }
+    let proposed = find_roots(f, powers, logs, &c, len);
+    if passes(f, powers, sums, t, n, proposed, len) {
+        return Found {
+            located: true,
+            count: len,
+            exponents: proposed,
+        };
     }
     let places = locate(f, powers, logs, &c, len, n);
     let exponents = places.exponents;

@@ -1,5 +1,5 @@
 -- `bch::locate::find_errors` meets its contract.
-use mathlib.Core.Path.{_≡_, sym, ap, _∙_}
+use mathlib.Core.Path.{_≡_, refl, sym, ap, _∙_}
 use Prim.Native.Nat.{_≤_}
 use native.Mathlib.Omega.{arith}
 use borrow.Author.Tests.{eqb-true}
@@ -7,7 +7,7 @@ use borrow.Author.Needs.{needs}
 use lib.ListN.{length}
 use Rattle.code.specs.Locations.{locate}
 use Rattle.bch.proofs.PowerSums.{syndromes-power-sums}
-use Rattle.bch.proofs.Locating.{zero-located, nonzero-short, recurs-leading, long-nowhere, few-nowhere, wrong-nowhere, agreed-located, finds-none, finds-zero, finds-list}
+use Rattle.bch.proofs.Locating.{zero-located, nonzero-short, recurs-leading, long-nowhere, few-nowhere, wrong-nowhere, list-located, agreed-located, finds-none, finds-zero, finds-listed, finds-list}
 use Rattle.bch.proofs.locate.find_errors.Statement.{statement}
 use Rattle.bch.proofs.locate.find_errors.Tie as tie
 
@@ -44,48 +44,70 @@ returns-2 c =
     let e = c .no-exponents2 .ensures in
     finds-none _ _ _ _ _ (long-nowhere _ _ _ _ (s .pre .1) short sums recurs (c .before .if2 .taken)) (e .0) (e .1) (e .2)
 
-locate-requires : tie.Need-locate-requires
-locate-requires c κs =
-    let s = c .before .before .before .before .before .before .before .before in
-    let short = nonzero-short (s .pre .1) (c .before .before .before .before .before .before .before .is-zero .ensures) (c .before .before .before .before .before .before .if1 .left) in
-    let sums = c .before .before .before .before .before .syndromes .ensures in
-    let recurs = c .before .before .before .shortest .ensures in
-    (s .pre .0, (omega (arith, s .pre .1 .fits .level, c .before .if2 .left), short, recurs .small-c, recurs-leading _ _ _ _ (s .pre .1) short sums recurs))
+find-roots-requires : tie.Need-find-roots-requires
+find-roots-requires c κs = search needs
 
-no-exponents-requires-3 : tie.Need-no-exponents-requires-3
-no-exponents-requires-3 c κs = search needs
+passes-requires : tie.Need-passes-requires
+passes-requires c κs =
+    let s = c .before .before .before .before .before .before .before .before .before in
+    let short = nonzero-short (s .pre .1) (c .before .before .before .before .before .before .before .before .is-zero .ensures) (c .before .before .before .before .before .before .before .if1 .left) in
+    let sums = c .before .before .before .before .before .before .syndromes .ensures in
+    let recurs = c .before .before .before .before .shortest .ensures in
+    (record { at = s .pre .0 .powers-at }, (s .pre .1 .fits .level, sums .elements, short, omega (arith, s .pre .1 .fits .level, c .before .before .if2 .left)))
 
 returns-3 : tie.Need-returns-3
 returns-3 c =
-    let s = c .before .before .before .before .before .before .before .before .before .before .before .before in
-    let short = nonzero-short (s .pre .1) (c .before .before .before .before .before .before .before .before .before .before .before .is-zero .ensures) (c .before .before .before .before .before .before .before .before .before .before .if1 .left) in
-    let sums = c .before .before .before .before .before .before .before .before .before .syndromes .ensures in
-    let recurs = c .before .before .before .before .before .before .before .shortest .ensures in
-    let places = c .before .before .before .locate in
-    let room : length (places .result .exponents) ≡ 64 = search needs in
-    let e = c .no-exponents3 .ensures in
-    finds-none _ _ _ _ _ (few-nowhere _ _ _ _ (s .pre .1) short sums recurs (omega (arith, s .pre .1 .fits .level, places .ensures .0, c .before .before .before .before .before .if2 .left)) (places .ensures .1) (c .before .if3 .taken)) (e .0) (e .1) (e .2)
-
-sums-agree-requires : tie.Need-sums-agree-requires
-sums-agree-requires c κs =
     let s = c .before .before .before .before .before .before .before .before .before .before .before in
     let short = nonzero-short (s .pre .1) (c .before .before .before .before .before .before .before .before .before .before .is-zero .ensures) (c .before .before .before .before .before .before .before .before .before .if1 .left) in
     let sums = c .before .before .before .before .before .before .before .before .syndromes .ensures in
     let recurs = c .before .before .before .before .before .before .shortest .ensures in
-    let places = c .before .before .locate in (
-      record { at = s .pre .0 .powers-at },
-      (s .pre .1 .fits .level, sums .elements, omega (arith, s .pre .1 .fits .level, places .ensures .0, c .before .before .before .before .if2 .left), λ k l. omega (arith, places .ensures .1 .lists .below k l)),
-    )
+    let few : c .before .before .before .before .before .before .shortest .result .len ≤ s .args .t = c .before .before .before .before .if2 .left in
+    let room : length (c .before .before .find-roots .result) ≡ 64 = search needs in
+    let both = c .before .passes .ensures .holds (c .if3 .taken) in
+    finds-listed _ _ _ _ _ refl few room (list-located _ _ _ _ (s .pre .1) short sums (omega (arith, s .pre .1 .fits .level)) (both .0) (both .1) few)
 
-returns-4 : tie.Need-returns-4
-returns-4 c =
+locate-requires : tie.Need-locate-requires
+locate-requires c κs =
     let s = c .before .before .before .before .before .before .before .before .before .before .before .before in
     let short = nonzero-short (s .pre .1) (c .before .before .before .before .before .before .before .before .before .before .before .is-zero .ensures) (c .before .before .before .before .before .before .before .before .before .before .if1 .left) in
     let sums = c .before .before .before .before .before .before .before .before .before .syndromes .ensures in
     let recurs = c .before .before .before .before .before .before .before .shortest .ensures in
+    (s .pre .0, (omega (arith, s .pre .1 .fits .level, c .before .before .before .before .before .if2 .left), short, recurs .small-c, recurs-leading _ _ _ _ (s .pre .1) short sums recurs))
+
+no-exponents-requires-3 : tie.Need-no-exponents-requires-3
+no-exponents-requires-3 c κs = search needs
+
+returns-4 : tie.Need-returns-4
+returns-4 c =
+    let s = c .before .before .before .before .before .before .before .before .before .before .before .before .before .before .before .before in
+    let short = nonzero-short (s .pre .1) (c .before .before .before .before .before .before .before .before .before .before .before .before .before .before .before .is-zero .ensures) (c .before .before .before .before .before .before .before .before .before .before .before .before .before .before .if1 .left) in
+    let sums = c .before .before .before .before .before .before .before .before .before .before .before .before .before .syndromes .ensures in
+    let recurs = c .before .before .before .before .before .before .before .before .before .before .before .shortest .ensures in
     let places = c .before .before .before .locate in
     let room : length (places .result .exponents) ≡ 64 = search needs in
-    let few : places .result .count ≤ s .args .t = omega (arith, s .pre .1 .fits .level, places .ensures .0, c .before .before .before .before .before .if2 .left) in
+    let e = c .no-exponents3 .ensures in
+    finds-none _ _ _ _ _ (few-nowhere _ _ _ _ (s .pre .1) short sums recurs (omega (arith, s .pre .1 .fits .level, places .ensures .0, c .before .before .before .before .before .before .before .before .before .if2 .left)) (places .ensures .1) (c .before .if4 .taken)) (e .0) (e .1) (e .2)
+
+sums-agree-requires : tie.Need-sums-agree-requires
+sums-agree-requires c κs =
+    let s = c .before .before .before .before .before .before .before .before .before .before .before .before .before .before .before in
+    let short = nonzero-short (s .pre .1) (c .before .before .before .before .before .before .before .before .before .before .before .before .before .before .is-zero .ensures) (c .before .before .before .before .before .before .before .before .before .before .before .before .before .if1 .left) in
+    let sums = c .before .before .before .before .before .before .before .before .before .before .before .before .syndromes .ensures in
+    let recurs = c .before .before .before .before .before .before .before .before .before .before .shortest .ensures in
+    let places = c .before .before .locate in (
+      record { at = s .pre .0 .powers-at },
+      (s .pre .1 .fits .level, sums .elements, omega (arith, s .pre .1 .fits .level, places .ensures .0, c .before .before .before .before .before .before .before .before .if2 .left), λ k l. omega (arith, places .ensures .1 .lists .below k l)),
+    )
+
+returns-5 : tie.Need-returns-5
+returns-5 c =
+    let s = c .before .before .before .before .before .before .before .before .before .before .before .before .before .before .before .before in
+    let short = nonzero-short (s .pre .1) (c .before .before .before .before .before .before .before .before .before .before .before .before .before .before .before .is-zero .ensures) (c .before .before .before .before .before .before .before .before .before .before .before .before .before .before .if1 .left) in
+    let sums = c .before .before .before .before .before .before .before .before .before .before .before .before .before .syndromes .ensures in
+    let recurs = c .before .before .before .before .before .before .before .before .before .before .before .shortest .ensures in
+    let places = c .before .before .before .locate in
+    let room : length (places .result .exponents) ≡ 64 = search needs in
+    let few : places .result .count ≤ s .args .t = omega (arith, s .pre .1 .fits .level, places .ensures .0, c .before .before .before .before .before .before .before .before .before .if2 .left) in
     finds-list _ _ _ _ _ few room (c .sums-agree .ensures)
     (λ agrees. agreed-located _ _ _ _ (s .pre .1) short sums recurs (omega arith) (places .ensures .1) agrees few)
     (λ wrong. wrong-nowhere _ _ _ _ (s .pre .1) short sums recurs (omega arith) (places .ensures .1) wrong)
@@ -101,8 +123,11 @@ find-errors-spec =
     shortest-requires
     no-exponents-requires-2
     returns-2
+    find-roots-requires
+    passes-requires
+    returns-3
     locate-requires
     no-exponents-requires-3
-    returns-3
+    returns-4
     sums-agree-requires
-    returns-4)
+    returns-5)

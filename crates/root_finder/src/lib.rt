@@ -1,0 +1,170 @@
+// The roots of an error locator, fast: Berlekamp's trace algorithm. Nothing is promised but that it is safe and ends: the caller
+// rechecks what is proposed, and has a complete search behind it. So every index into a table is taken modulo the table's length.
+//
+//   find_roots    the exponents p, ascending, for which a^p is a root
+//
+// 1. A factor of degree 1 is read off, one of degree 2 solved by stored solutions of y^2 + y = v (quadratic.rt).
+// 2. A larger polynomial has all its roots in the field, and distinct, only if x^(2^m) modulo f is x; else there is nothing to
+//    propose (trace.rt).
+// 3. The trace of a^i x is 0 at some of the roots and 1 at the others, so it splits factors (split.rt). The traces for i < m together
+//    tell every two elements apart, so m rounds are enough.
+ghost use mathlib.Core.Path.{_≡_};
+ghost use Prim.Native.Nat.{_+_, _≤_, _<_};
+ghost use lib.ListN.{length};
+use field::Field;
+use quadratic::root;
+use rows::log_of;
+use rows::take_logs;
+use split::fitted;
+use split::split_all;
+use trace::conjugates;
+use trace::trace;
+
+mod quadratic;
+mod rows;
+mod split;
+mod trace;
+
+// c_len, .., c_1: the coefficients of c_0 x^len + .. + c_len below the leading one, lowest power first.
+fn reversed(c: &[u16; 128], len: usize) -> [u16; 64]
+    requires { ⌜ len ≤ 62 ⌝ }
+{
+    let mut row = [0u16; 64];
+    let mut j: usize = 0;
+    while j < len {
+        row[j] = c[len - j];
+        j += 1;
+    }
+    row
+}
+
+// m: so many conjugates has an element, and so many traces tell every two elements apart.
+fn degree_of(f: Field) -> usize
+    ensures { λ r. ⌜ r ≤ 16 ⌝ }
+{
+    match f {
+        Field::Thirteen => 13,
+        Field::Fourteen => 14,
+    }
+}
+
+// Splits a polynomial of degree d, in `factors`, until no degree is above 2; whether it came to that.
+fn split_fully(
+    f: Field,
+    powers: &[u16; 16384],
+    logs: &[u16; 16384],
+    d: usize,
+    factors: &mut [u16],
+    degrees: &mut [u16],
+) -> bool
+    requires { ⌜ (0 < d) × (d ≤ 62) × (length (now factors) ≡ 64) × (length (now degrees) ≡ 64) ⌝ }
+    ensures { λ r. ⌜ (length (now (factors .exit)) ≡ length (now (factors .entry))) × (length (now (degrees .exit)) ≡ length (now (degrees .entry))) ⌝ }
+{
+    let n = f.longest() as usize;
+    let m = degree_of(f);
+    let mut divisor = [0u16; 64];
+    let mut rows = [0u16; 1024];
+    take_logs(logs, factors, 0, &mut divisor, 0, d);
+    if !conjugates(powers, logs, n, m, &divisor, d, &mut rows) {
+        return false;
+    }
+    let mut i: usize = 0;
+    while i < m {
+        let mut t = [0u16; 64];
+        trace(powers, n, m, i, &rows, d, &mut t);
+        if split_all(powers, logs, n, &t, d, factors, degrees) < 3 {
+            return true;
+        }
+        i += 1;
+    }
+    false
+}
+
+// Puts p into the ascending list of the first `count` places.
+fn insert(places: &mut [u16], count: usize, p: u16)
+    requires { ⌜ (count < 64) × (length (now places) ≡ 64) ⌝ }
+    ensures { λ r. ⌜ length (now (places .exit)) ≡ length (now (places .entry)) ⌝ }
+{
+    let mut k = count;
+    while 0 < k {
+        let before = places[k - 1];
+        if before < p {
+            places[k] = p;
+            return;
+        }
+        places[k] = before;
+        k -= 1;
+    }
+    places[0] = p;
+}
+
+// Puts the logarithms of the roots of the factor at `at` into the list of places.
+fn put_roots(
+    f: Field,
+    powers: &[u16; 16384],
+    logs: &[u16; 16384],
+    factors: &[u16; 64],
+    at: usize,
+    g: usize,
+    places: &mut [u16],
+)
+    requires { ⌜ (0 < g) × (at + g ≤ 62) × (length (now places) ≡ 64) ⌝ }
+    ensures { λ r. ⌜ length (now (places .exit)) ≡ length (now (places .entry)) ⌝ }
+{
+    let n = f.longest() as usize;
+    let c = factors[at];
+    let b = factors[at + 1];
+    let z = root(f, powers, logs, n, g, b, c);
+    insert(places, at, log_of(logs, z) as u16);
+    if 1 < g {
+        insert(places, at + 1, log_of(logs, z ^ b) as u16);
+    }
+}
+
+// The places of the roots of factors whose degrees are 1 and 2.
+fn read_off(
+    f: Field,
+    powers: &[u16; 16384],
+    logs: &[u16; 16384],
+    factors: &[u16; 64],
+    degrees: &[u16; 64],
+    d: usize,
+) -> [u16; 64]
+    requires { ⌜ d ≤ 62 ⌝ }
+{
+    let mut places = [0u16; 64];
+    let mut at: usize = 0;
+    while at < d {
+        let g = fitted(degrees[at], d - at);
+        put_roots(f, powers, logs, factors, at, g, &mut places);
+        at += g;
+    }
+    places
+}
+
+// Internal. Proposes the places p, ascending, for which a^p is a root of c_0 x^len + .. + c_len, where c_0 is 1. Where it finds no
+// `len` roots the places are of no meaning.
+pub fn find_roots(
+    f: Field,
+    powers: &[u16; 16384],
+    logs: &[u16; 16384],
+    c: &[u16; 128],
+    len: usize,
+) -> [u16; 64] {
+    let nothing = [0u16; 64];
+    if len == 0 {
+        return nothing;
+    }
+    if 62 < len {
+        return nothing;
+    }
+    let mut factors = reversed(c, len);
+    let mut degrees = [0u16; 64];
+    degrees[0] = len as u16;
+    if 2 < len {
+        if !split_fully(f, powers, logs, len, &mut factors, &mut degrees) {
+            return nothing;
+        }
+    }
+    read_off(f, powers, logs, &factors, &degrees, len)
+}

@@ -1,0 +1,104 @@
+// Traces modulo a polynomial. The trace of v is v + v^2 + v^4 + .. + v^(2^(m - 1)); it is 0 or 1 at each element of the field. That of
+// a^i x modulo f is a sum of multiples of x^(2^k) modulo f, which are made once.
+//
+//   conjugates    the logarithms of x^(2^k) modulo f, and whether x^(2^m) modulo f is x
+//   trace         the trace of a^i x modulo f
+ghost use mathlib.Core.Path.{_≡_};
+ghost use Prim.Native.Nat.{_+_, _*_, _≤_, _<_};
+ghost use lib.ListN.{length};
+use super::rows::add_multiple;
+use super::rows::divide;
+use super::rows::scaled_term;
+use super::rows::take_logs;
+use super::rows::wrapped;
+
+// The square of an element by its logarithm.
+fn square_term(powers: &[u16; 16384], n: usize, log: u16) -> u16 {
+    if log == 0 {
+        return 0;
+    }
+    let l = log as usize - 1;
+    let k = wrapped(n, l + l);
+    powers[k]
+}
+
+// The square of a polynomial with `count` logarithms from `at` on.
+fn square(powers: &[u16; 16384], n: usize, row: &[u16], at: usize, out: &mut [u16], count: usize)
+    requires { ⌜ (at + count ≤ length (now row)) × (2 * count ≤ length (now out)) ⌝ }
+    ensures { λ r. ⌜ length (now (out .exit)) ≡ length (now (out .entry)) ⌝ }
+{
+    let mut j: usize = 0;
+    while j < count {
+        let log = row[at + j];
+        let even = j + j;
+        let odd = even + 1;
+        out[even] = square_term(powers, n, log);
+        out[odd] = 0;
+        j += 1;
+    }
+}
+
+// Whether the first `count` terms are those of x.
+fn is_x(row: &[u16], count: usize) -> bool
+    requires { ⌜ count ≤ length (now row) ⌝ }
+{
+    let mut j: usize = 0;
+    while j < count {
+        let wanted: u16 = if j == 1 { 1 } else { 0 };
+        if row[j] != wanted {
+            return false;
+        }
+        j += 1;
+    }
+    true
+}
+
+// Internal. Row k of 64 places becomes the logarithms of x^(2^k) modulo f, for k < m, where f has degree d and the logarithms
+// `divisor` below its leading 1. Whether x^(2^m) modulo f is x: so it is where all roots of f lie in the field and are distinct.
+pub fn conjugates(
+    powers: &[u16; 16384],
+    logs: &[u16; 16384],
+    n: usize,
+    m: usize,
+    divisor: &[u16],
+    d: usize,
+    rows: &mut [u16],
+) -> bool
+    requires { ⌜ (m ≤ 16) × (0 < d) × (d ≤ 62) × (d ≤ length (now divisor)) × (length (now rows) ≡ 1024) ⌝ }
+    ensures { λ r. ⌜ length (now (rows .exit)) ≡ length (now (rows .entry)) ⌝ }
+{
+    let mut power = [0u16; 128];
+    power[1] = 1;
+    let mut k: usize = 0;
+    while k < m {
+        let at = 64 * k;
+        take_logs(logs, &power, 0, rows, at, d);
+        square(powers, n, rows, at, &mut power, d);
+        divide(powers, logs, n, &mut power, 0, d + d, divisor, d, 0);
+        k += 1;
+    }
+    is_x(&power, d)
+}
+
+// Internal. The trace of a^i x modulo f, by the rows of its conjugates; `out` is 0 before.
+pub fn trace(
+    powers: &[u16; 16384],
+    n: usize,
+    m: usize,
+    i: usize,
+    rows: &[u16],
+    d: usize,
+    out: &mut [u16],
+)
+    requires { ⌜ (m ≤ 16) × (i < 16384) × (d ≤ 62) × (length (now rows) ≡ 1024) × (d ≤ length (now out)) ⌝ }
+    ensures { λ r. ⌜ length (now (out .exit)) ≡ length (now (out .entry)) ⌝ }
+{
+    let mut e = i;
+    let mut k: usize = 0;
+    while k < m {
+        let at = 64 * k;
+        add_multiple(powers, n, out, 0, rows, at, e, d);
+        e = wrapped(n, e + e);
+        k += 1;
+    }
+}
