@@ -1,16 +1,34 @@
-// What writing pages and reading them have in common.
+// What the calls that write, read, judge and check pages have in common.
 //
+//   block_reply    the reply to a page's length and a block number
 //   later_table    the table of the later blocks' generator, made where that of block 0 stands
+//
+// specs/Plans.antt says what the plan of an accepted layout has, and proofs/Plans.antt shows it; that is all the code asks of a plan.
 ghost use mathlib.Core.Path.{_≡_};
 ghost use mathlib.Core.Bool.{cond, false};
-ghost use Prim.Native.Nat.{_%_, _≤_};
+ghost use Prim.Native.Nat.{_≤_};
 ghost use lib.ListN.{length};
 ghost use lib.Dec.{eqb};
 ghost use Rattle.field.specs.Field.{degree};
 ghost use Rattle.remainder.specs.Table.{Table};
+ghost use Rattle.page_theory.specs.Calls.{blockReply};
+ghost use Rattle.blocks.specs.Plans.{Planned};
 use layout::Plan;
 use layout::Shape;
 use remainder::table::make_table;
+
+// Internal. The reply to a page's length and a block number (document 01, "Replies"). 0 is given where they are right.
+pub fn block_reply(plan: Plan, page: usize, block: u64) -> u8
+    ensures { λ r. ⌜ r ≡ blockReply plan page block ⌝ }
+{
+    if page != plan.size as usize {
+        return 5;
+    }
+    if plan.blocks as u64 <= block {
+        return 7;
+    }
+    0
+}
 
 // Whether two blocks have the same generator: the same field and the same level.
 fn same_generator(first: Shape, later: Shape) -> bool
@@ -28,8 +46,7 @@ fn same_generator(first: Shape, later: Shape) -> bool
 
 // Internal. The table of block 0's generator becomes that of the later blocks' one. It is not made again where that is the same.
 pub fn later_table(plan: Plan, table: &mut [u64])
-    requires { ⌜ (plan .later .level % 2 ≡ 0) × (plan .later .level ≤ 40) × (2304 ≤ length (now table)) ⌝ }
-    requires { ⌜ Table (plan .first .field) (plan .first .level) (now table) ⌝ }
+    requires { ⌜ (Planned plan) × (2304 ≤ length (now table)) × (Table (plan .first .field) (plan .first .level) (now table)) ⌝ }
     ensures { λ r. ⌜ Table (plan .later .field) (plan .later .level) (now (table .exit)) ⌝ }
 {
     let first = plan.first;

@@ -32,7 +32,7 @@ use Rattle.page_theory.specs.Claim.{Right}
 use Rattle.page_theory.specs.Calls.{blockReply, claimEnded, claimIn}
 use Rattle.page_theory.proofs.Claims.{claim-right, claim-wrong}
 use Rattle.page.specs.Claims.{Decides, Distinct, Within}
-use Rattle.page.proofs.Asking.{Asked}
+use Rattle.blocks.proofs.Asking.{Asked}
 
 abbrev True : Bool → Type 0
 True true = Unit {0}

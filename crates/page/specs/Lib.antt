@@ -1,5 +1,4 @@
--- The answers of the page calls, and what the code asks of a plan.
-pub mod Plans
+-- The answers of the page calls, and what their parts speak of.
 pub mod Answers
 pub mod Writing
 pub mod Claims

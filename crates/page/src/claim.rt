@@ -1,8 +1,8 @@
 // Claimed error locations of one block (document 01, "Claim"): a list of exponents in any order, whoever proposed them.
 use crate::ClaimAnswer;
-use crate::replies::block_reply;
 use bits::copy::copy_bits;
 use bits::write::flip_bit;
+use blocks::block_reply;
 use layout::Acceptance;
 use layout::Plan;
 use layout::Shape;
@@ -24,7 +24,7 @@ ghost use Rattle.code.specs.Word.{flipped};
 ghost use Rattle.code.specs.Code.{Codeword, Fits};
 ghost use Rattle.page_theory.specs.Claim.{Right};
 ghost use Rattle.page_theory.specs.Calls.{claimEnded, claimIn, claimOf};
-ghost use Rattle.page.specs.Plans.{Stored, Ready};
+ghost use Rattle.blocks.specs.Plans.{Stored, Planned};
 ghost use Rattle.page.specs.Answers.{claimNumber};
 ghost use Rattle.page.specs.Claims.{Decides, Distinct, Within};
 
@@ -138,7 +138,7 @@ fn is_right(shape: Shape, page: &[u8], position: usize, claims: &[u16]) -> bool
 
 // Answers to a claim under a plan, where the page's length and the block number are right.
 fn claim_in(plan: Plan, page: &[u8], block: u64, claims: &[u16]) -> ClaimAnswer
-    requires { ⌜ Ready plan ⌝ }
+    requires { ⌜ Planned plan ⌝ }
     ensures { λ r. ⌜ claimEnded (claimNumber r) ≡ claimIn plan (now (page .entry)) block (now (claims .entry)) ⌝ }
 {
     let reply = block_reply(plan, page.len(), block);

@@ -6,7 +6,7 @@
 // Each call takes the layout record and buffers of any length, and asks nothing of its caller. What it answers and leaves is
 // one definition of the crate `page_theory`, specs/Calls.antt. The steps are the same in each:
 // 1. `layout` answers to the record and works out the plan: how many blocks, what each is made of, where each starts.
-// 2. replies.rt looks at the lengths and the block number. A reply other than 0 ends the call before anything is written.
+// 2. replies.rt looks at the lengths, and `blocks` at the block number. A reply other than 0 ends the call before anything is written.
 // 3. The work is done under the plan, with a table of the generator of the blocks at hand.
 //    write.rt puts block after block, message and parity, and then ones into the tail.
 //    claim.rt turns the claimed bits of a copy of the block over, and divides it by the generator; no decoder is asked.

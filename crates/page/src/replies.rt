@@ -1,7 +1,7 @@
-// The replies about lengths and block numbers, under a plan (document 01, "Replies"). 0 is given where they are right.
+// The reply about lengths, under a plan (document 01, "Replies"). 0 is given where they are right.
 use layout::Plan;
 ghost use mathlib.Core.Path.{_≡_};
-ghost use Rattle.page_theory.specs.Calls.{writeReply, blockReply};
+ghost use Rattle.page_theory.specs.Calls.{writeReply};
 
 // The reply to the lengths that a writer is lent.
 pub fn write_reply(plan: Plan, metadata: usize, data: usize, page: usize) -> u8
@@ -15,19 +15,6 @@ pub fn write_reply(plan: Plan, metadata: usize, data: usize, page: usize) -> u8
     }
     if data != plan.data as usize {
         return 6;
-    }
-    0
-}
-
-// The reply to a page's length and a block number.
-pub fn block_reply(plan: Plan, page: usize, block: u64) -> u8
-    ensures { λ r. ⌜ r ≡ blockReply plan page block ⌝ }
-{
-    if page != plan.size as usize {
-        return 5;
-    }
-    if plan.blocks as u64 <= block {
-        return 7;
     }
     0
 }

@@ -25,7 +25,7 @@ ghost use Rattle.code.specs.Generator.{parity};
 ghost use Rattle.remainder.specs.Table.{Table};
 ghost use Rattle.page_theory.specs.Page.{pageOf};
 ghost use Rattle.page_theory.specs.Calls.{writeEnded, writeIn, writeOf};
-ghost use Rattle.page.specs.Plans.{Ready};
+ghost use Rattle.blocks.specs.Plans.{Planned};
 ghost use Rattle.page.specs.Answers.{writeNumber, writeBlock};
 ghost use Rattle.page.specs.Writing.{Lent, encoded};
 
@@ -89,7 +89,7 @@ fn write_block(
 
 // Writes block 0, and leaves the table of the later blocks' generator. One table is made after the other in the same place.
 fn write_first(plan: Plan, table: &mut [u64], metadata: &[u8], data: &[u8], page: &mut [u8])
-    requires { ⌜ Ready plan × Lent plan (now metadata) (now «data») (now page) × (2304 ≤ length (now table)) ⌝ }
+    requires { ⌜ Planned plan × Lent plan (now metadata) (now «data») (now page) × (2304 ≤ length (now table)) ⌝ }
     ensures { λ r. ⌜ (now (page .exit)
         ≡ placed (now (page .entry)) 0 (encoded (plan .first) (run (bitOf (now (metadata .entry) ++ now («data» .entry))) 0 (plan .first .message))))
         × Table (plan .later .field) (plan .later .level) (now (table .exit)) ⌝ }
@@ -104,7 +104,7 @@ fn write_first(plan: Plan, table: &mut [u64], metadata: &[u8], data: &[u8], page
 
 // Writes all blocks and the tail.
 fn write_blocks(plan: Plan, metadata: &[u8], data: &[u8], page: &mut [u8])
-    requires { ⌜ Ready plan × Lent plan (now metadata) (now «data») (now page) ⌝ }
+    requires { ⌜ Planned plan × Lent plan (now metadata) (now «data») (now page) ⌝ }
     ensures { λ r. ⌜ now (page .exit) ≡ pageOf plan (now (metadata .entry) ++ now («data» .entry)) ⌝ }
 {
     let blocks = plan.blocks;
@@ -126,7 +126,7 @@ fn write_blocks(plan: Plan, metadata: &[u8], data: &[u8], page: &mut [u8])
 
 // Writes a page under a plan, where the lengths are right.
 fn write_in(plan: Plan, metadata: &[u8], data: &[u8], page: &mut [u8]) -> WriteAnswer
-    requires { ⌜ Ready plan ⌝ }
+    requires { ⌜ Planned plan ⌝ }
     ensures { λ r. ⌜ writeEnded (writeNumber r) (writeBlock r) (now (page .exit))
         ≡ writeIn plan (now (metadata .entry)) (now («data» .entry)) (now (page .entry)) ⌝ }
 {

@@ -21,7 +21,8 @@ use Rattle.bch.specs.Locating.{answer, Finds}
 use Rattle.page_theory.specs.Reading.{RefusedAt, Lowest}
 use Rattle.page_theory.proofs.Reading.{outcome-gives, outcome-ruined}
 use Rattle.page_read.specs.declared.Scan.{Scan}
-use Rattle.page_read.specs.Looking.{Planned, remainderAt, LocatedAt, Scanned}
+use Rattle.blocks.specs.Plans.{Planned}
+use Rattle.page_read.specs.Looking.{remainderAt, LocatedAt, Scanned}
 use Rattle.page_read.specs.Deciding.{kept, KeptFor, BlockDecided, Decided, Underway, OneField}
 use Rattle.page_read.specs.Taking.{Kept}
 use Rattle.page_read.proofs.Remainders.{remainderAt-below, located-clean, located-gives, located-ruined, located-few, located-below}

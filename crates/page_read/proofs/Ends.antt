@@ -5,9 +5,9 @@ use mathlib.Core.List.{List, [], _++_}
 use Prim.Native.Nat.{ℕ, zero, _<_}
 use native.Mathlib.Omega.{arith}
 use lib.ListN.{length, take, getD, length-append}
-use lib.Dec.{eqb, ltb}
+use lib.Dec.{eqb}
 use lib.Seq.{length-take-le}
-use borrow.Author.Tests.{eqb-true, ne-eqb, ltb-true}
+use borrow.Author.Tests.{eqb-true, ne-eqb}
 use Rattle.bits.specs.Bits.{placed}
 use Rattle.layout.specs.declared.Plan.{Plan}
 use Rattle.layout.specs.Plan.{bits, covered, field, level, payload}
@@ -21,7 +21,9 @@ use Rattle.page_theory.specs.Calls.{readEnded, readReply, readIn, blockReply, j
 use Rattle.page_theory.proofs.Blocks.{blockWord-length}
 use Rattle.page_theory.proofs.Calls.{read-gives, read-refuses}
 use Rattle.page_theory.proofs.OneBlock.{judge-gives, judge-refuses}
-use Rattle.page_read.specs.Looking.{Planned, Ready, remainderAt, LocatedAt}
+use Rattle.blocks.specs.Plans.{Planned}
+use Rattle.blocks.proofs.Asking.{reply-asked}
+use Rattle.page_read.specs.Looking.{Ready, remainderAt, LocatedAt}
 use Rattle.page_read.specs.Deciding.{kept, Decided}
 use Rattle.page_read.specs.Taking.{texts, Joined, TurnedAll, Counted}
 use Rattle.page_read.proofs.Remainders.{located-clean, located-gives, located-ruined}
@@ -104,14 +106,7 @@ unfolding judgeIn
 judge-refused q page b e n = rw (← e, ne-eqb _ 0 n)
 
 pub reply-block : (q : Plan) (page : List ℕ) (b : ℕ) → Planned q → blockReply q (length page) b ≡ 0 → Ready q page × (b < q .blocks)
-unfolding blockReply
-reply-block q page b p e = go (eqb (length page) (q .size)) refl (ltb b (q .blocks)) refl e
-  where
-    go : (x : Bool) → eqb (length page) (q .size) ≡ x → (y : Bool) → ltb b (q .blocks) ≡ y → cond x (cond y zero 7) 5 ≡ zero
-        → Ready q page × (b < q .blocks)
-    go true ex true ey e = (record { plan = p; size = eqb-true _ _ ex }, ltb-true _ _ ey)
-    go true ex false ey e = absurd (omega arith)
-    go false ex y ey e = absurd (omega arith)
+reply-block q page b p e = let a = reply-asked q (length page) b e in (record { plan = p; size = a .size }, a .inside)
 
 module _ (q : Plan) (page : List ℕ) (ready : Ready q page) (b : ℕ) (inside : b < q .blocks) where
   pub judge-clean : remainderAt q page b ≡ 0 → judgeEnded 0 0 0 ≡ judgeIn q page b

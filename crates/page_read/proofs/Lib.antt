@@ -1,5 +1,4 @@
 -- The laws behind the reader and the judge.
-pub mod Plans
 pub mod Remainders
 pub mod Scanning
 pub mod Deciding

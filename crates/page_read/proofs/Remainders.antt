@@ -11,13 +11,13 @@ use Rattle.layout.specs.declared.Plan.{Plan}
 use Rattle.layout.specs.Plan.{coveredOf, bits, field, level, covered, Valid}
 use Rattle.code.specs.Word.{Word, flipped, ones}
 use Rattle.code.specs.Generator.{remainder}
-use Rattle.code.specs.Code.{Fits}
 use Rattle.code.specs.Locations.{nowhere, locate}
 use Rattle.code.proofs.Remainder.{remainder-below}
 use Rattle.code.proofs.Flips.{Below}
 use Rattle.code.proofs.Locations.{exponents-locate, listed-length, listed-below, judge-exponents, judge-nowhere}
 use Rattle.bch.specs.Locating.{Locatable}
 use Rattle.bch.proofs.Locating.{zero-located}
+use Rattle.blocks.proofs.Plans.{block-fits}
 use Rattle.page_theory.specs.Page.{blockWord}
 use Rattle.page_theory.specs.Reading.{GivesAt, RefusedAt, outcome}
 use Rattle.page_theory.proofs.Blocks.{blockWord-length, blockWord-fits}
@@ -30,9 +30,6 @@ remainder-none f t w e =
     let l : remainder f t w < 2 ^ (degree f * t) = remainder-below f t w (omega arith) in
     let k : 2 ^ (degree f * t) ≡ 1 = rw (e, mul-zero (degree f)) in
     omega arith
-
-pub block-fits : (q : Plan) → Valid q → (b : ℕ) → b < q .blocks → Fits (field q b) (level q b) (covered q b)
-block-fits q v b inside = record { short = v .short b inside; level = v .strong b inside }
 
 -- a block has room for its parity
 pub block-locatable : (q : Plan) → Valid q → (b x : ℕ) → b < q .blocks → x < 2 ^ (degree (field q b) * level q b)

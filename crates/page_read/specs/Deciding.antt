@@ -6,6 +6,8 @@
 -- BlockDecided q b x before .. after  block b, with the remainder x, was decided: its exponents are kept, or there are none
 -- Decided q page n places flips       the first n blocks are decided: the exponents that are kept for each repair it
 -- Underway q page s places flips      the blocks before s are decided, nothing is kept for the others, and s has its remainder
+-- Pending q page words s places flips    what deciding from s on counts on: the page has its size, the words are the table of the later blocks' generator,
+--                                     and the blocks before s are decided
 -- OneField q b                        from block b on the blocks have the field of the later ones
 -- Decides q page places flips r       what a decision says of a page: every block is decided, or the lowest ruined one
 use mathlib.Core.Path.{_≡_}
@@ -18,11 +20,12 @@ use Rattle.layout.specs.declared.Plan.{Plan}
 use Rattle.layout.specs.Plan.{field, level, covered}
 use Rattle.code.specs.Locations.{locate, exponents, nowhere}
 use Rattle.code.specs.Register.{register}
+use Rattle.remainder.specs.Table.{Table}
 use Rattle.page_theory.specs.Reading.{Lowest}
 use Rattle.page_read.specs.declared.Scan.{Scan}
 use Rattle.page_read.specs.declared.Decision.{Decision}
 use Rattle.page_read.specs.declared.Decision.the-variants.{Sound, Ruined}
-use Rattle.page_read.specs.Looking.{remainderAt, LocatedAt}
+use Rattle.page_read.specs.Looking.{Ready, remainderAt, LocatedAt}
 
 unfoldable pub kept : List ℕ → ℕ → ℕ → List ℕ
 kept places b n = run (λ i. getD places i 0) (64 * b) n
@@ -50,6 +53,11 @@ pub record Underway (q : Plan) (page : List ℕ) (s : Scan) (places flips : List
   pub left : s .block < q .blocks → register (s .state .words) ≡ remainderAt q page (s .block)
   pub places-length : length places ≡ 16384
   pub flips-length : length flips ≡ 256
+
+pub record Pending (q : Plan) (page words : List ℕ) (s : Scan) (places flips : List ℕ) : Type 0 where
+  pub ready : Ready q page
+  pub table : Table (q .later .field) (q .later .level) words
+  pub underway : Underway q page s places flips
 
 pub record OneField (q : Plan) (b : ℕ) : Type 0 where
   pub each : (c : ℕ) → b ≤ c → field q c ≡ q .later .field

@@ -1,37 +1,21 @@
 -- What looking over the blocks of a page promises.
 --
--- Stored s                   the generator of a block of the shape s is one of the stored ones
--- Planned q                  what the plan of an accepted layout has
--- Ready q page               q is such a plan, and the page has its size
+-- Ready q page               q is the plan of an accepted layout, and the page has its size
 -- remainderAt q page b       the remainder of block b
 -- LocatedAt q page b ps      flipping the exponents ps repairs block b: they are what locating answers for its remainder
 -- Scanned q page from s      s is the first block with a remainder that is not zero, looking from block `from` on
 use mathlib.Core.Path.{_≡_}
 use mathlib.Core.List.{List}
-use Prim.Native.Nat.{ℕ, _%_, _≤_, _<_}
+use Prim.Native.Nat.{ℕ, _≤_, _<_}
 use lib.ListN.{length}
-use Rattle.layout.specs.declared.Shape.{Shape}
 use Rattle.layout.specs.declared.Plan.{Plan}
-use Rattle.layout.specs.Plan.{field, level, covered, Valid}
+use Rattle.layout.specs.Plan.{field, level, covered}
 use Rattle.code.specs.Generator.{remainder}
 use Rattle.code.specs.Locations.{locate, exponents}
 use Rattle.code.specs.Register.{register}
 use Rattle.page_theory.specs.Page.{blockWord}
+use Rattle.blocks.specs.Plans.{Planned}
 use Rattle.page_read.specs.declared.Scan.{Scan}
-
--- The stored generators are those of t = 0, 2, 4, .., 40 (document 01, "Layout words": t is twice the level field).
-pub record Stored (s : Shape) : Type 0 where
-  pub even : s .level % 2 ≡ 0
-  pub small : s .level ≤ 40
-
-pub record Planned (q : Plan) : Type 0 where
-  pub valid : Valid q
-  pub first : Stored (q .first)
-  pub later : Stored (q .later)
-  pub some : 0 < q .blocks
-  pub few : q .blocks ≤ 256
-  pub metadata : q .metadata < 256
-  pub «data» : q .«data» < 4294967296
 
 pub record Ready (q : Plan) (page : List ℕ) : Type 0 where
   pub plan : Planned q

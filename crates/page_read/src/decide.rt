@@ -8,10 +8,9 @@ ghost use Rattle.field.specs.Field.{degree};
 ghost use Rattle.field.specs.Tables.{Tables};
 ghost use Rattle.layout.specs.Plan.{field, level, covered};
 ghost use Rattle.code.specs.Register.{register};
-ghost use Rattle.remainder.specs.Table.{Table};
 ghost use Rattle.bch.specs.Locating.{Finds};
-ghost use Rattle.page_read.specs.Looking.{Planned, Ready};
-ghost use Rattle.page_read.specs.Deciding.{KeptFor, BlockDecided, Underway, OneField, Decides};
+ghost use Rattle.blocks.specs.Plans.{Planned};
+ghost use Rattle.page_read.specs.Deciding.{KeptFor, BlockDecided, Pending, OneField, Decides};
 use crate::Decision;
 use crate::Scan;
 use crate::look::next_damaged;
@@ -106,7 +105,7 @@ fn decide_from(
     places: &mut [u16; 16384],
     flips: &mut [u8; 256],
 ) -> Decision
-    requires { ⌜ (Ready plan (now page)) × (Table (plan .later .field) (plan .later .level) (now table)) × (Underway plan (now page) scan (now places) (now flips)) ⌝ }
+    requires { ⌜ Pending plan (now page) (now table) scan (now places) (now flips) ⌝ }
     requires { ⌜ (OneField plan (scan .block)) × (Tables (plan .later .field) (now powers) (now logs)) ⌝ }
     ensures { λ r. ⌜ Decides plan (now (page .entry)) (now (places .exit)) (now (flips .exit)) r ⌝ }
 {
@@ -133,7 +132,7 @@ fn decide_alike(
     places: &mut [u16; 16384],
     flips: &mut [u8; 256],
 ) -> Decision
-    requires { ⌜ (Ready plan (now page)) × (Table (plan .later .field) (plan .later .level) (now table)) × (Underway plan (now page) scan (now places) (now flips)) ⌝ }
+    requires { ⌜ Pending plan (now page) (now table) scan (now places) (now flips) ⌝ }
     requires { ⌜ OneField plan (scan .block) ⌝ }
     ensures { λ r. ⌜ Decides plan (now (page .entry)) (now (places .exit)) (now (flips .exit)) r ⌝ }
 {
@@ -173,7 +172,7 @@ fn decide_mixed(
     places: &mut [u16; 16384],
     flips: &mut [u8; 256],
 ) -> Decision
-    requires { ⌜ (Ready plan (now page)) × (Table (plan .later .field) (plan .later .level) (now table)) × (Underway plan (now page) scan (now places) (now flips)) ⌝ }
+    requires { ⌜ Pending plan (now page) (now table) scan (now places) (now flips) ⌝ }
     requires { ⌜ scan .block ≡ 0 ⌝ }
     ensures { λ r. ⌜ Decides plan (now (page .entry)) (now (places .exit)) (now (flips .exit)) r ⌝ }
 {
@@ -199,7 +198,7 @@ pub fn decide(
     places: &mut [u16; 16384],
     flips: &mut [u8; 256],
 ) -> Decision
-    requires { ⌜ (Ready plan (now page)) × (Table (plan .later .field) (plan .later .level) (now table)) × (Underway plan (now page) scan (now places) (now flips)) ⌝ }
+    requires { ⌜ Pending plan (now page) (now table) scan (now places) (now flips) ⌝ }
     ensures { λ r. ⌜ Decides plan (now (page .entry)) (now (places .exit)) (now (flips .exit)) r ⌝ }
 {
     let block = scan.block;

@@ -5,14 +5,16 @@ ghost use Rattle.field.specs.Field.{degree};
 ghost use Rattle.layout.specs.Plan.{field, level, covered};
 ghost use Rattle.code.specs.Register.{register};
 ghost use Rattle.bch.specs.Locating.{Finds};
-ghost use Rattle.page_theory.specs.Calls.{blockReply, judgeEnded, judgeIn, judgeOf};
+ghost use Rattle.page_theory.specs.Calls.{judgeEnded, judgeIn, judgeOf};
 ghost use Rattle.page_read.specs.Answers.{judgeNumber, judgeBlock, judgeFlips};
-ghost use Rattle.page_read.specs.Looking.{Planned, Ready, remainderAt};
+ghost use Rattle.blocks.specs.Plans.{Planned};
+ghost use Rattle.page_read.specs.Looking.{Ready, remainderAt};
 use crate::JudgeAnswer;
 use crate::decide::block_outcome;
 use crate::decide::flip_count;
 use crate::look::block_remainder;
 use bch::Found;
+use blocks::block_reply;
 use layout::Acceptance;
 use layout::Plan;
 use layout::block_shape;
@@ -23,19 +25,6 @@ use powers::fill_tables;
 use remainder::Register;
 use remainder::coefficients::is_zero;
 use remainder::table::make_table;
-
-// The reply to a page's length and a block number.
-fn block_reply(plan: Plan, page: usize, block: u64) -> u8
-    ensures { λ r. ⌜ r ≡ blockReply plan page block ⌝ }
-{
-    if page != plan.size as usize {
-        return 5;
-    }
-    if plan.blocks as u64 <= block {
-        return 7;
-    }
-    0
-}
 
 // The remainder of one block, by a table that is made for it alone.
 fn own_remainder(plan: Plan, page: &[u8], block: u16) -> Register

@@ -13,8 +13,7 @@
 // read.rt puts the steps together; judge.rt takes the first two for a single block.
 //
 // specs/ has the answers as document 01's numbers (Answers) and what the steps promise each other (Looking, Deciding, Taking).
-// proofs/ has the laws: Plans (what an accepted layout's plan has), Remainders (what the remainder of a block says of it),
-// Scanning, Deciding, Payload (metadata and data as one payload), Messages, Turning (bits turned over), Ends (how a call ends).
+// proofs/ has the laws: Remainders (what the remainder of a block says of it), Scanning, Deciding, Payload (metadata and data as one payload), Messages, Turning (bits turned over), Ends (how a call ends).
 mod decide;
 mod judge;
 mod look;

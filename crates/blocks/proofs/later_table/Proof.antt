@@ -11,7 +11,7 @@ returns : tie.Need-returns
 returns c =
     let s = c .before .before .before .before .before in
     let q = s .args .plan in
-    table-same (q .first) (q .later) (c .before .same-generator .ensures) (c .if1 .taken) (s .pre .1)
+    table-same (q .first) (q .later) (c .before .same-generator .ensures) (c .if1 .taken) (s .pre .2)
 
 cast-t : tie.Need-cast-t
 cast-t c = search needs

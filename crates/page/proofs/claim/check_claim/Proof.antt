@@ -2,7 +2,7 @@
 use mathlib.Core.Path.{sym, _∙_}
 use Rattle.page_theory.specs.Calls.{claimFor, claimOf}
 use Rattle.page.specs.Answers.{claimNumber}
-use Rattle.page.proofs.Plans.{accepted-ready}
+use Rattle.blocks.proofs.Plans.{accepted-planned}
 use borrow.Author.Needs.{needs}
 use Rattle.page.proofs.claim.check_claim.Statement.{statement}
 use Rattle.page.proofs.claim.check_claim.Tie as tie
@@ -19,7 +19,10 @@ plan-of-requires c κs = search needs
 claim-in-requires : tie.Need-claim-in-requires
 claim-in-requires c κs =
     let known = c .before .before in
-    rw (c .plan-of .ensures) (accepted-ready _ _ (sym (known .before .before .check-layout .ensures) ∙ known .layout .given .1))
+    let checked = known .before .before in
+    let words = checked .before .before .before in
+    rw (c .plan-of .ensures)
+    (accepted-planned _ _ (λ i. words .shared-slice-known .given i .fits) (sym (checked .check-layout .ensures) ∙ known .layout .given .1))
 
 enum-known-refusal : tie.Need-enum-known-refusal
 enum-known-refusal c = search needs

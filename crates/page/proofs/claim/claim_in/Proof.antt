@@ -4,8 +4,9 @@ use mathlib.Core.Path.{_≡_, _∙_, sym}
 use native.Mathlib.Omega.{arith}
 use lib.ListN.{length}
 use Rattle.page.specs.Answers.{claimNumber}
-use Rattle.page.proofs.Plans.{block-stored, block-fits, block-inside}
-use Rattle.page.proofs.Asking.{reply-asked}
+use Rattle.blocks.proofs.Plans.{shape-stored}
+use Rattle.page.proofs.Plans.{block-fits, block-inside}
+use Rattle.blocks.proofs.Asking.{reply-asked}
 use Rattle.page.proofs.Claims.{claim-refused, claim-accepted, claim-rejected}
 use borrow.Author.Needs.{needs}
 use Rattle.page.proofs.claim.claim_in.Statement.{statement}
@@ -40,7 +41,7 @@ is-right-requires c κs =
     let q = a .args .plan in
     let k = reply-asked q (length (a .args .page .now)) (a .args .block) (sym (first .before .block-reply .ensures) ∙ first .if1 .left) in
     let e = c .before .block-shape .ensures in (
-      rw e (block-stored q (a .pre) (a .args .block)),
+      rw e (shape-stored q (a .args .block) (a .pre)),
       block-fits q (a .pre) (a .args .block) (k .inside) e,
       block-inside q (a .pre) (a .args .block) (k .inside) e (k .size) (search needs) (c .block-start .ensures .0),
     )

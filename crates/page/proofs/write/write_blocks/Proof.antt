@@ -55,13 +55,12 @@ write-block-requires c κs =
     let q = a .args .plan in
     let s = turn .loop in
     let h = a .pre .1 in
-    let known = a .good .0 in
-    let x : q .metadata < 256 = search needs in
+    let x = a .pre .0 .metadata in
     let e = shape-later q (s .block) (s .inv .0) in
     let l = c .before .before .before .loop-test .taken in (
       first .write-first .ensures .1,
       omega arith,
-      message-inside q (a .pre .0 .valid) (s .block) l e h x (search needs) (s .inv .2),
+      message-inside q (a .pre .0 .valid) (s .block) l e h x (a .pre .0 .«data») (s .inv .2),
       block-inside q (a .pre .0) (s .block) l e (streamed-size q _ _ (s .inv .3)) (search needs) (c .before .before .block-start .ensures .0),
     )
 
@@ -77,7 +76,7 @@ add-at c =
     let h = a .pre .1 in
     let e = shape-later q (s .block) (s .inv .0) in
     let l = c .before .before .before .before .before .before .before .loop-test .taken in
-    record { fits = message-inside q (a .pre .0 .valid) (s .block) l e h (search needs) (search needs) (s .inv .2) .fits }
+    record { fits = message-inside q (a .pre .0 .valid) (s .block) l e h (a .pre .0 .metadata) (a .pre .0 .«data») (s .inv .2) .fits }
 
 add-block : tie.Need-add-block Inv-loop μ-loop
 add-block c =

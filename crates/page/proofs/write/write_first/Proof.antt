@@ -1,5 +1,4 @@
 -- `page::write::write_first` meets its contract.
-use Prim.Native.Nat.{_<_}
 use mathlib.Core.Path.{refl}
 use native.Mathlib.Omega.{arith}
 use borrow.Author.Needs.{needs}
@@ -23,11 +22,11 @@ write-block-requires c κs =
     let a = m .before .before .before .before .before .before .before .before in
     let q = a .args .plan in
     let h = a .pre .1 in
-    let x : q .metadata < 256 = search needs in
+    let x = a .pre .0 .metadata in
     let e = shape-zero q 0 refl in (
       m .make-table .ensures,
       omega arith,
-      message-inside q (a .pre .0 .valid) 0 (a .pre .0 .some) e h x (search needs) refl,
+      message-inside q (a .pre .0 .valid) 0 (a .pre .0 .some) e h x (a .pre .0 .«data») refl,
       block-inside q (a .pre .0) 0 (a .pre .0 .some) e (h .size) (search needs) refl,
     )
 
@@ -35,7 +34,7 @@ later-table-requires : tie.Need-later-table-requires
 later-table-requires c κs =
     let m = c .before .before .before .before .before .before .before .before in
     let p = m .before .before .before .before .before .before .before .before .pre in
-    ((p .0 .later .even, p .0 .later .small, search needs), m .make-table .ensures)
+    (p .0, search needs, m .make-table .ensures)
 
 same-length : tie.Need-same-length
 same-length c = search needs

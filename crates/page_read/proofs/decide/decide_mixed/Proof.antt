@@ -10,16 +10,16 @@ use Rattle.page_read.proofs.decide.decide_mixed.Tie as tie
 decide-first-requires : tie.Need-decide-first-requires
 decide-first-requires c κs =
     let p = c .before .before .before .before .before .pre in
-    let u = p .0 .2 in
-    let plan = p .0 .0 .plan in
+    let u = p .0 .underway in
+    let plan = p .0 .ready .plan in
     ((plan, underway-low _ _ plan u (p .1) (plan .some)), (u .places-length, u .flips-length))
 
 returns : tie.Need-returns
 unfolding Decides
 returns c =
     let p = c .before .before .before .before .before .before .before .pre in
-    let plan = p .0 .0 .plan in
-    underway-ruined _ _ plan (p .0 .2) (p .1) (plan .some) (c .before .decide-first .ensures) (not-true _ (c .if1 .taken))
+    let plan = p .0 .ready .plan in
+    underway-ruined _ _ plan (p .0 .underway) (p .1) (plan .some) (c .before .decide-first .ensures) (not-true _ (c .if1 .taken))
 
 next-damaged-requires : tie.Need-next-damaged-requires
 next-damaged-requires c κs = search needs
@@ -29,8 +29,8 @@ unfolding Decides
 returns-2 c =
     let s = c .before .before .before in
     let p = s .before .before .before .before .before .before .before .pre in
-    let plan = p .0 .0 .plan in
-    underway-sound _ _ plan (underway-next _ _ plan (p .0 .2) (p .1) (plan .some) (s .before .decide-first .ensures) (not-false _ (s .if1 .left))
+    let plan = p .0 .ready .plan in
+    underway-sound _ _ plan (underway-next _ _ plan (p .0 .underway) (p .1) (plan .some) (s .before .decide-first .ensures) (not-false _ (s .if1 .left))
     (c .before .before .next-damaged .ensures)) (omega arith)
 
 decide-alike-requires : tie.Need-decide-alike-requires
@@ -38,12 +38,12 @@ decide-alike-requires c κs =
     let n = c .before .before .before .before in
     let s = n .before in
     let p = s .before .before .before .before .before .before .before .pre in
-    let plan = p .0 .0 .plan in (
-      (
-        p .0 .0,
-        p .0 .1,
-        underway-next _ _ plan (p .0 .2) (p .1) (plan .some) (s .before .decide-first .ensures) (not-false _ (s .if1 .left)) (n .next-damaged .ensures),
-      ),
+    let plan = p .0 .ready .plan in (
+      record {
+        ready = p .0 .ready;
+        table = p .0 .table;
+        underway = underway-next _ _ plan (p .0 .underway) (p .1) (plan .some) (s .before .decide-first .ensures) (not-false _ (s .if1 .left)) (n .next-damaged .ensures);
+      },
       later-field _ _ (omega (arith, n .next-damaged .ensures .low)),
     )
 

@@ -3,7 +3,7 @@ use mathlib.Core.Path.{sym, _∙_}
 use borrow.Author.Needs.{needs}
 use Rattle.page_theory.specs.Calls.{judgeFor, judgeOf}
 use Rattle.page_read.specs.Answers.{judgeNumber, judgeBlock, judgeFlips}
-use Rattle.page_read.proofs.Plans.{accepted-planned}
+use Rattle.blocks.proofs.Plans.{accepted-planned}
 use Rattle.page_read.proofs.judge.judge_block.Statement.{statement}
 use Rattle.page_read.proofs.judge.judge_block.Tie as tie
 

@@ -1,7 +1,7 @@
 -- `page_read::judge::own_remainder` meets its contract.
 use borrow.Author.Needs.{needs}
-use Rattle.page_read.specs.Looking.{Stored}
-use Rattle.page_read.proofs.Plans.{shape-stored}
+use Rattle.blocks.specs.Plans.{Stored}
+use Rattle.blocks.proofs.Plans.{shape-stored}
 use Rattle.page_read.proofs.judge.own_remainder.Statement.{statement}
 use Rattle.page_read.proofs.judge.own_remainder.Tie as tie
 

@@ -12,7 +12,11 @@ use Rattle.page_read.proofs.read.read_damaged.Tie as tie
 decide-requires : tie.Need-decide-requires
 decide-requires c κs =
     let p = c .before .before .before .before .before .before .before .pre in
-    (p .0 .0, p .1 .1, underway-start _ _ (p .0 .0 .plan) _ _ _ (p .1 .0) (length-replicate {A = ℕ} 16384 0) (length-replicate {A = ℕ} 256 0) (zeros-at 256))
+    record {
+      ready = p .0 .0;
+      table = p .1 .1;
+      underway = underway-start _ _ (p .0 .0 .plan) _ _ _ (p .1 .0) (length-replicate {A = ℕ} 16384 0) (length-replicate {A = ℕ} 256 0) (zeros-at 256);
+    }
 
 enum-known-block : tie.Need-enum-known-block
 enum-known-block c = search needs

@@ -32,7 +32,7 @@ later-table-requires : tie.Need-later-table-requires
 later-table-requires c κs =
     let m = c .before .before .before .before in
     let p = m .before .before .before .before .before .before .before .before .pre in
-    ((p .0 .plan .later .even, p .0 .plan .later .small, search needs), m .make-table .ensures)
+    (p .0 .plan, search needs, m .make-table .ensures)
 
 slice-aggregate-first-damaged : tie.Need-slice-aggregate-first-damaged
 slice-aggregate-first-damaged c = search needs

@@ -1,9 +1,9 @@
--- `page_read::judge::block_reply` meets its contract.
+-- `blocks::block_reply` meets its contract.
 use borrow.Author.Tests.{eq-eqb, ne-eqb, lt-ltb, le-ltb}
 use borrow.Author.Needs.{needs}
 use Rattle.page_theory.specs.Calls.{blockReply}
-use Rattle.page_read.proofs.judge.block_reply.Statement.{statement}
-use Rattle.page_read.proofs.judge.block_reply.Tie as tie
+use Rattle.blocks.proofs.block_reply.Statement.{statement}
+use Rattle.blocks.proofs.block_reply.Tie as tie
 
 cast-if1 : tie.Need-cast-if1
 cast-if1 c = search needs

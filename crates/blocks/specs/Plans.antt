@@ -1,7 +1,7 @@
 -- What the code that writes, reads and checks pages asks of a plan. Every accepted layout has such a plan (proofs/Plans.antt).
 --
--- Stored s     the generator of a block of the shape s is one of the stored ones
--- Ready q      a valid plan of at least one block, whose blocks have stored generators
+-- Stored s      the generator of a block of the shape s is one of the stored ones
+-- Planned q     what the plan of an accepted layout has
 use mathlib.Core.Path.{_≡_}
 use Prim.Native.Nat.{_%_, _≤_, _<_}
 use Rattle.layout.specs.declared.Shape.{Shape}
@@ -13,8 +13,12 @@ pub record Stored (s : Shape) : Type 0 where
   pub even : s .level % 2 ≡ 0
   pub small : s .level ≤ 40
 
-pub record Ready (q : Plan) : Type 0 where
+-- A valid plan of at least one block, whose blocks have stored generators, and whose numbers are as small as those of a layout record.
+pub record Planned (q : Plan) : Type 0 where
   pub valid : Valid q
-  pub some : 0 < q .blocks
   pub first : Stored (q .first)
   pub later : Stored (q .later)
+  pub some : 0 < q .blocks
+  pub few : q .blocks ≤ 256
+  pub metadata : q .metadata < 256
+  pub «data» : q .«data» < 4294967296

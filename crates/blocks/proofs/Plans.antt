@@ -1,4 +1,8 @@
 -- The plan of an accepted layout has what the code counts on.
+--
+-- accepted-planned    the plan of an accepted layout is such a plan
+-- shape-stored        each of its blocks has a stored generator
+-- block-fits          each of its blocks is as long as its code allows
 use mathlib.Core.Path.{_≡_}
 use mathlib.Core.Logic.{⊎-elim}
 use mathlib.Core.List.{List}
@@ -11,12 +15,13 @@ use Rattle.layout.specs.declared.Layout.{Layout}
 use Rattle.layout.specs.declared.Plan.{Plan}
 use Rattle.layout.specs.declared.Acceptance.the-variants.{Accepted}
 use Rattle.layout.specs.Record.{blockFields, layoutAt, layoutOf}
-use Rattle.layout.specs.Plan.{shapeOf, laterShape, dataBytes, planOf, shape}
+use Rattle.layout.specs.Plan.{shapeOf, laterShape, dataBytes, planOf, shape, field, level, covered, Valid}
 use Rattle.layout.specs.Acceptance.{acceptance}
 use Rattle.layout.proofs.Plans.{product-le}
 use Rattle.layout.proofs.Accepting.{Keeps, keeps, plan-valid}
 use Rattle.layout.proofs.Inverse.{accepted-taken}
-use Rattle.page_read.specs.Looking.{Stored, Planned}
+use Rattle.code.specs.Code.{Fits}
+use Rattle.blocks.specs.Plans.{Stored, Planned}
 
 module _ (l : Layout) (k : Keeps l) where
   first-stored : Stored (planOf l .first)
@@ -70,3 +75,6 @@ pub shape-stored : (q : Plan) (b : ℕ) → Planned q → Stored (shape q b)
 unfolding shape
 shape-stored q zero p = p .first
 shape-stored q (suc b) p = p .later
+
+pub block-fits : (q : Plan) → Valid q → (b : ℕ) → b < q .blocks → Fits (field q b) (level q b) (covered q b)
+block-fits q v b inside = record { short = v .short b inside; level = v .strong b inside }

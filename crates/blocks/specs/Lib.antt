@@ -1,0 +1,2 @@
+-- What the code that writes, reads and checks pages asks of a plan.
+pub mod Plans
