@@ -179,6 +179,10 @@ register-mod ws h n l =
     let e : length ws ≡ n + (length ws - n) = omega arith in
     ap (λ k. low ws k % 2 ^ (64 * n)) e ∙ ap (λ x. x % 2 ^ (64 * n)) (low-drop ws n (length ws - n)) ∙ Pow.low (low (drop n ws) (length ws - n)) (64 * n) (low-lt ws h n)
 
+pub low-first : (ws : List ℕ) → low ws 1 ≡ getD ws 0 0
+unfolding low
+low-first ws = add-zero (getD ws 0 0 * 1) ∙ mul-one (getD ws 0 0)
+
 -- words of zero above change nothing
 pub low-zeros : (ws : List ℕ) (n : ℕ) → ((k : ℕ) → n ≤ k → getD ws k 0 ≡ 0) → (j : ℕ) → low ws (n + j) ≡ low ws n
 low-zeros ws n z zero = rw (add-zero n)

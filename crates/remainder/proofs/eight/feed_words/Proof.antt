@@ -1,41 +1,68 @@
-use Prim.Native.Nat.{_<_, _*_, _^_}
-use mathlib.Core.Path.{_≡_, _∙_, sym}
+use Prim.Native.Nat.{ℕ, _≤_, _<_, _-_, _*_, _^_}
+use mathlib.Core.Path.{_≡_, _∙_, refl}
 use native.Mathlib.Omega.{arith}
 use borrow.Author.Needs.{needs}
+use Rattle.bits.specs.Bits.{bitOf, run}
+use Rattle.code.specs.Register.{register}
+use Rattle.remainder.specs.Remainder.{parityFrom}
+use Rattle.remainder.specs.Table.{divisorOf}
+use Rattle.remainder.proofs.Steps.{rests-below, parity-word}
 use Rattle.remainder.proofs.eight.feed_words.Statement.{statement}
 use Rattle.remainder.proofs.eight.feed_words.Tie as tie
 
-feed-bytes-requires : tie.Need-feed-bytes-requires
-feed-bytes-requires c κs =
-    let a = c .before .before .before in
-    let e = c .if1 .taken in
-    (rw e at (a .pre .0), rw e at (a .pre .1), a .pre .2)
+abbrev Inv-loop : tie.InvT-loop
+Inv-loop table used bytes at count r₀ fed₀ r fed = (fed ≤ count) × (register (r .words) ≡ parityFrom (64 * used) (divisorOf used table) (register (r₀ .words)) (run (bitOf bytes) at (64 * fed)))
 
-returns : tie.Need-returns
-returns c = c .feed-bytes .ensures ∙ rw (c .before .if1 .taken)
+abbrev μ-loop : tie.MeasureT-loop
+μ-loop table used bytes at count r₀ fed₀ r fed = count - fed
 
-feed-bytes-requires-2 : tie.Need-feed-bytes-requires-2
-feed-bytes-requires-2 c κs =
-    let a = c .before .before .before .before in
-    let e = c .if2 .taken in
-    (rw e at (a .pre .0), rw e at (a .pre .1), a .pre .2)
+loop-holds : tie.Need-loop-holds Inv-loop μ-loop
+unfolding run parityFrom
+loop-holds c = (search needs, refl)
 
-returns-2 : tie.Need-returns-2
-returns-2 c = c .feed-bytes2 .ensures ∙ rw (c .before .if2 .taken)
+mul-word-at : tie.Need-mul-word-at Inv-loop μ-loop
+mul-word-at c = search needs
 
-feed-bytes-requires-3 : tie.Need-feed-bytes-requires-3
-feed-bytes-requires-3 c κs = search needs
+add-word-at : tie.Need-add-word-at Inv-loop μ-loop
+add-word-at c = search needs
 
-returns-3 : tie.Need-returns-3
-returns-3 c = search needs
+word-at-requires : tie.Need-word-at-requires Inv-loop μ-loop
+word-at-requires c κs = search needs
+
+step-word-requires : tie.Need-step-word-requires Inv-loop μ-loop
+step-word-requires c κs =
+    let s = c .before .before .loop in
+    let p = c .before .before .before .before .before .pre in
+    (p .0, rw (s .inv .1) (rests-below _ _ (p .0) _ _ (p .1)))
+
+add-fed : tie.Need-add-fed Inv-loop μ-loop
+add-fed c = search needs
+
+loop-less : tie.Need-loop-less Inv-loop μ-loop
+loop-less c = search needs
+
+loop-again : tie.Need-loop-again Inv-loop μ-loop
+loop-again c =
+    let s = c .before .before .before .loop in
+    (omega arith, parity-word _ _ _ _ _ (s .fed) (s .inv .1) (c .before .word-at .ensures) (c .step-word .ensures))
+
+returns : tie.Need-returns Inv-loop μ-loop
+returns c =
+    let e : c .before .loop .fed ≡ c .before .before .before .before .args .count = omega arith in
+    c .before .loop .inv .1 ∙ rw e
 
 pub feed-words-spec : {M : Type 1} → statement M
 feed-words-spec =
     tie.close
     (tie.spec
-    feed-bytes-requires
-    returns
-    feed-bytes-requires-2
-    returns-2
-    feed-bytes-requires-3
-    returns-3)
+    Inv-loop
+    μ-loop
+    loop-holds
+    mul-word-at
+    add-word-at
+    word-at-requires
+    step-word-requires
+    add-fed
+    loop-less
+    loop-again
+    returns)
