@@ -17,7 +17,7 @@ use Rattle.bits.proofs.Runs.{run-length, run-append}
 use Rattle.code.specs.Word.{Word}
 use Rattle.code.specs.Register.{low}
 use Rattle.remainder.specs.Remainder.{parityFrom}
-use Rattle.remainder.specs.Table.{rest, rowOf, divisorOf, Rests}
+use Rattle.remainder.specs.Table.{rowOf, divisorOf, Rests}
 use Rattle.remainder.proofs.Filling.{row-inside, row-product}
 use Rattle.remainder.proofs.Parity.{mod-up, parity-append, parity-digits, parity-below}
 

@@ -5,7 +5,7 @@ use Prim.Native.Nat.{ℕ, zero, suc, _+_, _-_, _*_, _/_, _%_, _^_, _<_, _≤_}
 use native.Mathlib.Omega.{arith}
 use native.Mathlib.Numerals.{add-one}
 use native.Mathlib.Decide.{decLt}
-use native.Mathlib.Nat.{add-zero, add-comm, le-refl, le-trans, mul-le-mul-right, div-eq-of-lt, div-lt-iff-lt-mul, pow-suc, mod-lt, mul-le-mul-left, mul-mod-left, mod-eq-of-lt, zero-mul, zero-add, mul-one}
+use native.Mathlib.Nat.{add-zero, add-comm, le-refl, le-trans, mul-le-mul-right, div-eq-of-lt, div-lt-iff-lt-mul, mod-lt, mul-le-mul-left, mul-mod-left, mod-eq-of-lt, zero-mul, zero-add, mul-one}
 use mir.Syntax.{w64}
 use mir.Val.{Fits}
 use lib.ListN.{length, getD, set, drop, replicate, length-set}
@@ -343,18 +343,3 @@ xor-low-end ws vs g n l es inv above hv =
 pub xor-end : (ws vs g : List ℕ) (n : ℕ) → n ≤ length vs → length ws ≡ length vs → length g ≡ length vs → low ws n ≡ bitXor (low g n) (low vs n)
     → ((k : ℕ) → n ≤ k → getD ws k 0 ≡ getD vs k 0) → register vs < 2 ^ (64 * n) → register g < 2 ^ (64 * n) → register ws ≡ bitXor (register g) (register vs)
 xor-end ws vs g n l es eg inv above hv hg = xor-low-end ws vs g n l es inv above hv ∙ rw (register-short g n (omega arith) hg)
-
--- the words up to the one that holds the digit d have room for what a step makes
-
-pub room : (d r b : ℕ) → r < 2 ^ d → b < 2 → r * 2 + b < 2 ^ (64 * (d / 64 + 1))
-room d r b hr hb =
-    let m : 2 ^ suc d ≤ 2 ^ (64 * (d / 64 + 1)) = pow-mono (omega arith) in
-    let p : 2 ^ suc d ≡ 2 ^ d * 2 = pow-suc 2 d in
-    omega arith
-
-pub divisor-room : (d g : ℕ) → g / 2 ^ d ≡ 1 → g < 2 ^ (64 * (d / 64 + 1))
-divisor-room d g e =
-    let m : 2 ^ suc d ≤ 2 ^ (64 * (d / 64 + 1)) = pow-mono (omega arith) in
-    let p : 2 ^ suc d ≡ 2 ^ d * 2 = pow-suc 2 d in
-    let l : g < 2 * 2 ^ d = div-lt-iff-lt-mul (pow-pos d) .0 (omega arith) in
-    omega arith
