@@ -32,7 +32,7 @@ pub fn carried(f: Field, level: usize, state: Register, piece: &[u8]) -> Registe
     if level == 0 {
         return state;
     }
-    if piece.len() < 48 {
+    if piece.len() < 36 {
         return carried_by_bits(f, level, state, piece);
     }
     carried_by_table(f, level, state, piece)
