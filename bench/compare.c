@@ -3,10 +3,10 @@
  *
  *   compare [SEED [PAGES]]    PAGES pages and as many remainders for each of the forty codes (m = 13, 14; t = 2, 4, .., 40)
  *
- * For each page: every block's parity beside bch_encode's; then every block is damaged by 0 to t + 2 flips, and what rudderfig_judge_block,
- * rudderfig_locate_errors and rudderfig_read_page answer stands beside bch_decode's. Then remainders alone: random ones, and ones whose error
- * places lie past the end of the word. lib/bch.c is linked twice: as the kernel builds it (bch_..), and with the exhaustive root search that its
- * authors keep for comparison (search_.., -DUSE_CHIEN_SEARCH).
+ * For each page: every block's parity, in the page and from its message in pieces, beside bch_encode's; then every block is damaged by 0 to t + 2
+ * flips, and what rudderfig_judge_block, rudderfig_locate_errors and rudderfig_read_page answer stands beside bch_decode's. Then remainders alone:
+ * random ones, and ones whose error places lie past the end of the word. lib/bch.c is linked twice: as the kernel builds it (bch_..), and with the
+ * exhaustive root search that its authors keep for comparison (search_.., -DUSE_CHIEN_SEARCH).
  *
  * Every answer has to be that of the exhaustive search. Where the kernel's own root finder differs from both, its list is tried with bch_encode:
  * a list that gives no codeword is counted, anything else is a difference. The exit status is 0 only where there is none.
@@ -275,6 +275,26 @@ static unsigned data_length(const struct page *p)
 	return p->data_bytes[0] + (p->blocks > 1 ? (p->blocks - 1) * p->data_bytes[1] : 0);
 }
 
+/* The parity of a message that is handed over in pieces of random lengths. */
+static void compare_pieces(struct code *c, const struct word *w, const uint8_t *message, const uint8_t *parity)
+{
+	struct rudderfig_parity pieces;
+	uint8_t found[MAX_PARITY], wanted[MAX_PARITY];
+	uint64_t answer = rudderfig_parity_start(&pieces, c->t / 2, c->m - 13, w->bytes);
+
+	for (unsigned fed = 0; fed < w->bytes && rudderfig_reply(answer) == RUDDERFIG_DONE;) {
+		unsigned piece = below(w->bytes - fed + 1);
+
+		answer = rudderfig_parity_feed(&pieces, message + fed, piece);
+		fed += piece;
+	}
+	if (rudderfig_reply(answer) == RUDDERFIG_DONE)
+		answer = rudderfig_parity_finish(&pieces, found, c->parity_bytes);
+	to_the_right(c, parity, wanted);
+	if (rudderfig_reply(answer) != RUDDERFIG_DONE || memcmp(found, wanted, c->parity_bytes) != 0)
+		differ(c, w, "the parity of the message in pieces is not that of bch_encode");
+}
+
 /* Writes the page and compares each block: the message is the payload's, the parity bch_encode's. */
 static void compare_written(struct code *c, struct page *p)
 {
@@ -297,6 +317,7 @@ static void compare_written(struct code *c, struct page *p)
 			differ(c, w, "the message in the page is not the payload");
 		if (memcmp(w->parity, parity, c->parity_bytes) != 0)
 			differ(c, w, "the parity is not that of bch_encode");
+		compare_pieces(c, w, wanted, parity);
 		c->parities++;
 	}
 }

@@ -1,6 +1,6 @@
 -- What the decoder finds is the answer of the definition. Soundness: a list of few places that passes the recheck is the answer,
 -- whatever proposed it. Completeness: a set that leaves the remainder has as many exponents as the recurrence is long, they are the
--- roots, and it passes the recheck; so where one of these fails there is no set.
+-- roots, and it passes the recheck; so where one of these fails there is no set, and where x^(2^m) shows that the roots are too few.
 use mathlib.Core.Path.{_≡_, refl, sym, ap, _∙_}
 use mathlib.Core.Bool.{Bool, true, false, cond}
 use mathlib.Core.List.{List, [], _∷_, _++_}
@@ -14,10 +14,11 @@ use lib.ListN.{length, getD, take, replicate, length-replicate, length-take}
 use lib.Seq.{take-suc, getD-take}
 use Rattle.algebra.specs.Series.{shift}
 use Rattle.algebra.specs.Recurrence.{State}
-use Rattle.algebra.specs.Word.{flip, differ, count, among, power-sum}
+use Rattle.algebra.specs.Word.{Listing, flip, differ, count, among, power-sum}
 use Rattle.algebra.specs.Array.{coef}
 use Rattle.algebra.specs.Search.{Root}
-use Rattle.algebra.proofs.Word.{among-true, lists-count, lists-among, lists-not-among, count-cong, errors-length, errors-root, errors-no-root}
+use Rattle.algebra.proofs.Number.{el-zero}
+use Rattle.algebra.proofs.Word.{listing, among-true, lists-count, lists-among, lists-not-among, count-cong, errors-length, errors-root, errors-no-root}
 use Rattle.field.specs.declared.Field.{Field}
 use Rattle.field.specs.Field.{degree, longest}
 use Rattle.field.proofs.Instance.{gf, num, a, el, el-same, el-num, unit, order}
@@ -34,6 +35,7 @@ use Rattle.code.proofs.Locations.{ones-count, listed-length, listed-flips, list
 use Rattle.code.proofs.Outcome.{judge-codeword}
 use Rattle.code.proofs.Remainder.{codeword-remainder, remainder-codeword, remainder-below}
 use Rattle.bch.specs.KeyEquation.{series, Recurs, Locates as Roots}
+use Rattle.bch.specs.Splitting.{Divisor, Splits}
 use Rattle.bch.specs.declared.Found.{Found}
 use Rattle.bch.specs.PowerSums.{Decides, Agrees, Syndromes}
 use Rattle.bch.specs.Locating.{Locatable, Ascending, answer, Finds}
@@ -176,6 +178,32 @@ module _ (f : Field) (t n x : ℕ) (h : Locatable f t n x) (short : n ≤ longes
     unfolding coef
     recurs-leading = pos-of-ne-zero (λ z. recurs .state .state .generates .start (ap (num f .el) z ∙ num f .el-nil))
 
+    pub recurs-divisor : Divisor f c len
+    unfolding coef
+    recurs-divisor = record {
+      elements = recurs .small-c;
+      start = recurs-leading;
+      ends = λ i l. el-zero (gf f) (num f) (getD c i 0) (recurs .small-c .small i) (recurs .state .state .generates .short i l);
+    }
+
+    -- The exponents of a set that leaves the remainder are as many roots as the degree.
+    set-splits : (v : Word) → Locates f t n x v → Splits f c len
+    set-splits v y = record {
+      place = places .place;
+      apart = λ i j k m. order f (places .place i) (places .place j) (places .lists .rising i j k (omega (arith, same))) (omega (arith, places .lists .below j (omega (arith, same))));
+      zeros = λ i k. errors-root (gf f) (a f) (longest f) (unit f) (order f) n short (2 * t) (coefficient v) (series f s) (set-sums v y)
+          (omega (arith, y .few, set-count v y)) len _ _ _ state (places .place i) (places .lists .below i (omega (arith, same))) (places .lists .set i (omega (arith, same)));
+    }
+      where
+        places : Listing (gf f) (coefficient v) n (count (coefficient v) n)
+        places = listing (gf f) (coefficient v) n
+
+        same : count (coefficient v) n ≡ len
+        same = set-count v y ∙ sym (set-length v y)
+
+    pub unsplit-nowhere : (Splits f c len → ⊥) → locate f t n x ≡ nowhere
+    unsplit-nowhere e = locate-nowhere f t n x (λ v y. e (set-splits v y))
+
     pub long-nowhere : t < len → locate f t n x ≡ nowhere
     long-nowhere l = locate-nowhere f t n x (λ v y. omega (arith, y .few, set-length v y))
 
@@ -206,12 +234,12 @@ module _ (f : Field) (t n x : ℕ) (h : Locatable f t n x) (short : n ≤ longes
       pub few-nowhere : ¬ (w ≡ len) → locate f t n x ≡ nowhere
       few-nowhere e = locate-nowhere f t n x (λ v y. e (set-size v y))
 
-      listing : Ascending n w l
-      listing = record { rising = roots .lists .rising; below = roots .lists .below }
+      in-order : Ascending n w l
+      in-order = record { rising = roots .lists .rising; below = roots .lists .below }
 
       set-list : (v : Word) → Locates f t n x v → listed v ≡ take w l
       unfolding listed
-      set-list v y = rising-ext 0 (ascending v) (take w l) (ascending-rising v) (list-rising n room listing) (λ p. each p (decLt p n))
+      set-list v y = rising-ext 0 (ascending v) (take w l) (ascending-rising v) (list-rising n room in-order) (λ p. each p (decLt p n))
         where
           past : (p : ℕ) → n ≤ p → (d : Bool) → among place w p ≡ d → d ≡ false
           past p k false i = refl
@@ -228,7 +256,7 @@ module _ (f : Field) (t n x : ℕ) (h : Locatable f t n x) (short : n ≤ longes
       wrong-nowhere e = locate-nowhere f t n x (λ v y. e (set-agrees v y))
 
       pub agreed-located : Agrees f t s (take w l) → w ≤ t → locate f t n x ≡ exponents (take w l)
-      agreed-located = list-located room listing
+      agreed-located = list-located room in-order
 
 -- ---- a zero remainder
 

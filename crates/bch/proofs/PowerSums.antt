@@ -55,7 +55,7 @@ decides-as to from d = record { holds = λ e. to (d .holds e); fails = λ e q. d
 
 -- ---- arrays
 
-zeros-at : (n j : ℕ) → getD {A = ℕ} (replicate {A = ℕ} n 0) j 0 ≡ 0
+pub zeros-at : (n j : ℕ) → getD {A = ℕ} (replicate {A = ℕ} n 0) j 0 ≡ 0
 zeros-at n j = elim (decLt j n) [
   | yes h ↦ getD-replicate {A = ℕ} n j 0 0 h
   | no h ↦ List·getD-eq-default {A = ℕ} (replicate {A = ℕ} n 0) 0 (rw (length-replicate {A = ℕ} n 0) (omega arith))

@@ -1,4 +1,5 @@
 pub mod KeyEquation
+pub mod Splitting
 pub mod PowerSums
 pub mod Locating
 pub mod Answers

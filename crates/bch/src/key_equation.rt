@@ -44,8 +44,8 @@ fn scaled(f: Field, powers: &[u16; 16384], logs: &[u16; 16384], x: u16, e: usize
     powers[k]
 }
 
-// The exponent e of the quotient a^e = d / b.
-fn quotient(f: Field, powers: &[u16; 16384], logs: &[u16; 16384], d: u16, b: u16) -> usize
+// Internal. The exponent e of the quotient a^e = d / b.
+pub fn quotient(f: Field, powers: &[u16; 16384], logs: &[u16; 16384], d: u16, b: u16) -> usize
     requires { ⌜ Tables f (now powers) (now logs) ⌝ }
     requires { ⌜ (0 < d) × (d < 2 ^ degree f) × (0 < b) × (b < 2 ^ degree f) ⌝ }
     ensures { λ r. ⌜ (r < longest f) × (mul (degree f) (modulus f) b (a^ f r) ≡ d) ⌝ }
@@ -84,8 +84,8 @@ fn discrepancy(
     sum
 }
 
-// c + a^e x^gap u, where u has the given number of terms.
-fn mix(
+// Internal. c + a^e x^gap u, where u has the given number of terms.
+pub fn mix(
     f: Field,
     powers: &[u16; 16384],
     logs: &[u16; 16384],

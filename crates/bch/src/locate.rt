@@ -1,6 +1,6 @@
 // The errors behind a remainder: syndromes, key equation, roots, and a recheck over the code. The recheck makes every answer right,
-// whatever proposed it. A fast root finder proposes first, of which nothing is known; where its proposal fails, the complete search
-// answers. That this proposes the set wherever there is one is shown in proofs/Locating.antt.
+// whatever proposed it. A fast root finder proposes first, of which nothing is known; where its proposal fails, a test tells locators
+// with too few roots apart, and the complete search answers for the others. That nothing is missed is shown in proofs/Locating.antt.
 //
 //   find_errors    the set of at most t exponents below n that leaves a remainder
 ghost use mathlib.Core.Path.{_≡_};
@@ -18,6 +18,7 @@ use crate::key_equation::locate;
 use crate::key_equation::shortest;
 use crate::power_sums::sums_agree;
 use crate::power_sums::syndromes;
+use crate::split_test::cannot_split;
 use field::Field;
 use remainder::Register;
 use remainder::coefficients::is_zero;
@@ -111,6 +112,9 @@ pub fn find_errors(
             count: len,
             exponents: proposed,
         };
+    }
+    if cannot_split(f, powers, logs, &c, len) {
+        return no_exponents(false);
     }
     let places = locate(f, powers, logs, &c, len, n);
     let exponents = places.exponents;

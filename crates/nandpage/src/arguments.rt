@@ -33,15 +33,22 @@ pub fn number(i: usize, name: &[u8]) -> Number {
 }
 
 // A word of 32 bits; an error is printed where the argument is none.
-fn word(i: usize, name: &[u8]) -> Number {
+pub fn word(i: usize, name: &[u8]) -> Number {
     let Number::Is(v) = number(i, name) else {
         return Number::Bad;
     };
     if 4294967295 < v {
-        say::error(b"a layout word has 32 bits, at most 0xFFFFFFFF");
+        say::error(b"a word has 32 bits, at most 0xFFFFFFFF");
         return Number::Bad;
     }
     Number::Is(v)
+}
+
+// An error about a remainder that cannot be read.
+pub fn bad_remainder() {
+    say::error(
+        b"REMAINDER is an even number of hexadecimal digits, at most 256, highest coefficient first",
+    );
 }
 
 // The two words of a layout, arguments 2 and 3.

@@ -3,7 +3,7 @@ use crate::say;
 
 pub fn unknown() {
     say::error(
-        b"the commands are layout, bits, write, read, judge, locate and claim; nandpage --help says more",
+        b"the commands are layout, bits, write, read, judge, locate, fragments and claim; nandpage --help says more",
     );
 }
 
@@ -28,6 +28,12 @@ fn commands() {
     );
     say::text(
         b"  nandpage locate LEVEL FIELD N REMAINDER         the wrong bits of a word of N bits, from its remainder alone\n",
+    );
+    say::text(
+        b"  nandpage fragments export LEVEL REMAINDER       a remainder for a hardware locator, as seven words of 32 bits\n",
+    );
+    say::text(
+        b"  nandpage fragments import LEVEL FRAGMENT..      the remainder that such words hold\n",
     );
     say::text(
         b"  nandpage claim WORD0 WORD1 PAGE BLOCK EXPONENT..   are these the wrong bits of the block?\n",

@@ -53,9 +53,7 @@ fn locate_in(level: u64, field: u64, n: u64) {
     let mut remainder = [0u8; 128];
     match text::parse_bytes(text::without_prefix(&given[..length]), &mut remainder) {
         Number::Is(count) => locate_from(level, field, n, text::front(&remainder, count as usize)),
-        Number::Bad => say::error(
-            b"REMAINDER is an even number of hexadecimal digits, at most 256, highest coefficient first",
-        ),
+        Number::Bad => arguments::bad_remainder(),
     }
 }
 

@@ -10,6 +10,7 @@
 //   dumping.rt     a dump of many pages, read page by page
 //   judging.rt     the command judge
 //   locating.rt    the command locate
+//   fragmenting.rt   the command fragments
 //   claiming.rt    the command claim
 //
 // Each command prints one answer that starts with `reply` and document 01's number, or one error line and no reply. What is
@@ -18,6 +19,7 @@ mod arguments;
 mod claiming;
 mod dumping;
 mod files;
+mod fragmenting;
 mod help;
 mod judging;
 mod layouts;
@@ -34,6 +36,7 @@ enum Command {
     Read,
     Judge,
     Locate,
+    Fragments,
     Claim,
     Help,
     Unknown,
@@ -58,6 +61,9 @@ fn command_of(name: &[u8]) -> Command {
     if check::same(name, b"locate") {
         return Command::Locate;
     }
+    if check::same(name, b"fragments") {
+        return Command::Fragments;
+    }
     if check::same(name, b"claim") {
         return Command::Claim;
     }
@@ -81,6 +87,7 @@ fn run(command: Command) {
         Command::Read => reading::read(),
         Command::Judge => judging::judge(),
         Command::Locate => locating::locate(),
+        Command::Fragments => fragmenting::fragments(),
         Command::Claim => claiming::claim(),
         Command::Help => help::all(),
         Command::Unknown => help::unknown(),

@@ -1,40 +1,61 @@
 -- Laws of the digits of a register in a page, and of remainders as bytes.
 use mathlib.Core.Path.{_≡_, refl, sym, ap, ap₂, _∙_}
 use mathlib.Core.Bool.{Bool, false}
-use mathlib.Core.List.{List, [], _∷_, _++_}
-use Prim.Native.Nat.{ℕ, zero, suc, _+_, _-_, _*_, _/_, _%_, _^_, _<_, _≤_}
+use mathlib.Core.List.{List, _++_}
+use Prim.Native.Nat.{ℕ, suc, _+_, _-_, _*_, _/_, _%_, _^_, _<_, _≤_}
 use native.Mathlib.Omega.{arith}
-use native.Mathlib.Numerals.{add-one}
-use lib.ListN.{length, getD, set, take, length-take}
-use lib.Seq.{take-suc, take-length}
+use native.Mathlib.Decide.{ℕ-discrete}
+use native.Mathlib.Nat.{add-zero}
+use lib.ListN.{length, getD, set, drop}
+use lib.Seq.{getD-set-same, getD-set-other, getD-drop}
+use lib.Pow as Pow
+use lib.Pow.{field, mod-mod-pow, shr-shr}
 use lib.Dec.{eqb}
-use Rattle.bits.specs.Bits.{bit, bitOf, run, number, digits, bytes, Bytes, placed}
-use Rattle.bits.proofs.Numbers.{digits-length, digits-at, digits-number, number-append, number-high, number-digits}
+use Rattle.bits.specs.Bits.{bit, bitAt, bitOf, run, number, digits, bytes, Bytes, placed}
+use Rattle.bits.proofs.Numbers.{bit-mod, bit-shift, digits-length, digits-at, digits-number, number-append, number-high, number-digits}
 use Rattle.bits.proofs.Runs.{run-length, run-at, run-append, run-ext}
 use Rattle.bits.proofs.Pages.{bytes-length, bytes-bit, bytes-ext}
-use Rattle.bits.proofs.Placed.{placed-append, placed-whole}
-use Rattle.code.specs.Register.{low}
+use Rattle.bits.proofs.Placed.{placed-whole}
+use Rattle.code.specs.Register.{low, register}
 use Rattle.remainder.specs.Remainder.{numberOf, bytesOf}
-use Rattle.remainder.proofs.Words.{low-store}
+use Rattle.remainder.proofs.Words.{Words, low-store, low-first, low-drop, register-drop}
 
--- the digits of x put into a page one by one, the highest first
+-- the digits of a number as the last bits of 112 bytes
 
-module _ (page : List ℕ) (s d x : ℕ) where
-  pub place-next : (i : ℕ) {p q : List ℕ} {b : ℕ} → i < d → p ≡ placed page s (take i (digits x d)) → b ≡ bit x (d - 1 - i) → q ≡ placed p (s + i) (eqb b 1 ∷ [])
-      → q ≡ placed page s (take (i + 1) (digits x d))
-  place-next i h ep eb eq =
-      let n = digits-length x d in
-      let l : length (take i (digits x d)) ≡ i = simp length-take (omega arith) in
-      let k : d - suc i ≡ d - 1 - i = omega arith in
-      let v : getD (digits x d) i false ≡ eqb (bit x (d - 1 - i)) 1 = digits-at x d i false h ∙ rw k in
-      let w : take (i + 1) (digits x d) ≡ take i (digits x d) ++ (eqb (bit x (d - 1 - i)) 1 ∷ []) = rw (add-one i) (take-suc (digits x d) i false (omega arith) ∙ rw v) in
-      let a : s + i ≡ s + length (take i (digits x d)) = ap (λ j. s + j) (sym l) in
-      eq ∙ rw (ep, eb, w) (placed-append page s (s + i) (take i (digits x d)) (eqb (bit x (d - 1 - i)) 1 ∷ []) a)
+-- byte i holds digits of one word
+pub word-byte : (ws : List ℕ) → Words ws → length ws ≡ 14 → (i : ℕ) → i < 112 → getD ws (13 - i / 8) 0 / 2 ^ (56 - 8 * (i % 8)) % 256 ≡ register ws / 2 ^ (8 * (111 - i)) % 256
+word-byte ws h l i k =
+    let q : ℕ = 13 - i / 8 in
+    let s : ℕ = 56 - 8 * (i % 8) in
+    let e : 8 * (111 - i) ≡ 64 * q + s = omega arith in
+    let j : length ws - q ≡ 1 + i / 8 = omega arith in
+    let w : ℕ = getD ws q 0 in
+    let n : ℕ = register ws / 2 ^ (64 * q) in
+    let en : n ≡ low (drop 1 (drop q ws)) (i / 8) * 18446744073709551616 + w =
+    register-drop ws h q (omega arith) ∙ ap (low (drop q ws)) j ∙ low-drop (drop q ws) 1 (i / 8)
+    ∙ ap (λ x. low (drop 1 (drop q ws)) (i / 8) * 18446744073709551616 + x) (low-first (drop q ws) ∙ getD-drop q ws 0 0 ∙ ap (λ m. getD ws m 0) (add-zero q)) in
+    let m : n % 18446744073709551616 ≡ w = ap (λ x. x % 18446744073709551616) en ∙ Pow.low (low (drop 1 (drop q ws)) (i / 8)) 64 (h q .fits) in
+    let c : 64 ≡ 56 - s + (8 + s) = omega arith in
+    let r : w % 2 ^ (8 + s) ≡ n % 2 ^ (8 + s) = ap (λ x. x % 2 ^ (8 + s)) (sym m) ∙ ap (λ x. n % 2 ^ x % 2 ^ (8 + s)) c ∙ mod-mod-pow n (56 - s) (8 + s) in
+    sym (field w 8 s) ∙ ap (λ x. x / 2 ^ s) r ∙ field n 8 s ∙ ap (λ x. x % 256) (shr-shr (register ws) (64 * q) s ∙ ap (λ x. register ws / 2 ^ x) (sym e))
 
-  pub place-end : (i : ℕ) {q : List ℕ} → i ≡ d → q ≡ placed page s (take i (digits x d)) → q ≡ placed page s (digits x d)
-  place-end i e eq =
-      let n : i ≡ length (digits x d) = e ∙ sym (digits-length x d) in
-      eq ∙ rw (n, take-length (digits x d))
+-- the bytes made so far, from the first that is needed on
+pub bytes-next : (l : List ℕ) (x from i b : ℕ) → i < length l → ((k : ℕ) → from ≤ k → k < i → getD l k 0 ≡ x / 2 ^ (8 * (111 - k)) % 256) → b ≡ x / 2 ^ (8 * (111 - i)) % 256
+    → (k : ℕ) → from ≤ k → k < i + 1 → getD (set l i b) k 0 ≡ x / 2 ^ (8 * (111 - k)) % 256
+bytes-next l x from i b h inv eb k lo hi = elim (ℕ-discrete k i) [
+  | yes e ↦ rw e (getD-set-same l i b 0 h ∙ eb)
+  | no ne ↦ getD-set-other l i k b 0 ne ∙ inv k lo (omega arith)
+]
+
+pub bytes-digits : (l : List ℕ) (x n : ℕ) → n ≤ 896 → ((k : ℕ) → (896 - n) / 8 ≤ k → k < 112 → getD l k 0 ≡ x / 2 ^ (8 * (111 - k)) % 256) → run (bitOf l) (896 - n) n ≡ digits x n
+unfolding bitOf bitAt
+bytes-digits l x n h each = run-ext (bitOf l) (896 - n) (digits x n) n false (digits-length x n) (λ j k.
+    let p : ℕ = 896 - n + j in
+    let e : 8 * (111 - p / 8) + (7 - p % 8) ≡ n - suc j = omega arith in
+    let b : bit (getD l (p / 8) 0) (7 - p % 8) ≡ bit x (n - suc j) =
+    ap (λ y. bit y (7 - p % 8)) (each (p / 8) (omega arith) (omega arith)) ∙ bit-mod (x / 2 ^ (8 * (111 - p / 8))) 8 (7 - p % 8) (omega arith)
+    ∙ sym (bit-shift x (8 * (111 - p / 8)) (7 - p % 8)) ∙ ap (bit x) e in
+    ap (λ y. eqb y 1) b ∙ sym (digits-at x n j false k))
 
 -- bits read as a number, a word at a time from the last on
 

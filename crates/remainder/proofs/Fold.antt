@@ -1,49 +1,30 @@
 -- Laws of the remainder as a fold over the bits of a word.
 use mathlib.Core.Path.{_≡_, refl, sym, ap, ap₂, _∙_, subst}
 use mathlib.Core.Bool.{Bool, false}
-use mathlib.Core.List.{List, [], _∷_, _++_}
+use mathlib.Core.List.{[], _∷_, _++_}
 use Prim.Native.Nat.{ℕ, zero, suc, _+_, _*_, _/_, _%_, _^_, _<_, _≤_}
 use native.Mathlib.Omega.{arith}
 use native.Mathlib.Decide.{ℕ-discrete}
 use native.Mathlib.Nat.{pow-suc, mod-lt, mod-eq-of-lt, div-eq-of-lt, div-lt-iff-lt-mul, zero-mul, zero-add, mul-le-mul}
 use borrow.Author.Tests.{eq-eqb, ne-eqb}
-use lib.ListN.{length, getD, take, replicate, replicate-append-replicate}
+use lib.ListN.{length, getD, take, replicate}
 use lib.Seq.{take-suc, take-length}
-use lib.Dec.{eqb}
 use lib.Bits.{bitXor, xor-block, xor-lt}
 use lib.Pow.{pow-pos, pow-mono, split}
-use Rattle.bits.specs.Bits.{bit, bitAt, bitOf, run, digit, number, digits}
-use Rattle.bits.proofs.Numbers.{digit-lt, bit-digit, digits-length, number-digits}
-use Rattle.bits.proofs.Runs.{run-append}
+use Rattle.bits.specs.Bits.{bit, digit, number, digits}
+use Rattle.bits.proofs.Numbers.{digit-lt, digits-length, number-digits}
 use Rattle.field.specs.declared.Field.{Field}
 use Rattle.field.specs.declared.Field.the-variants.{Thirteen, Fourteen}
 use Rattle.field.specs.Field.{degree}
 use Rattle.code.specs.Word.{Word}
 use Rattle.code.specs.Generator.{generator, remainderStep, remainderOf, remainder, parity}
-use Rattle.code.specs.Register.{register}
-use Rattle.code.proofs.Generator.{generator-monic}
-use Rattle.remainder.specs.Remainder.{remainderFrom, Divisor, Row}
+use Rattle.remainder.specs.Remainder.{remainderFrom}
 
--- a step, by the digit at the degree
-
-step-taken : (d g r : ℕ) (b : Bool) → bit (r * 2 + digit b) d ≡ 1 → remainderStep d g r b ≡ bitXor g (r * 2 + digit b)
-unfolding remainderStep
-step-taken d g r b one = simp (eq-eqb (bit (r * 2 + digit b) d) 1 one)
+-- a step where the digit at the degree is not 1
 
 step-left : (d g r : ℕ) (b : Bool) → (bit (r * 2 + digit b) d ≡ 1 → ⊥) → remainderStep d g r b ≡ r * 2 + digit b
 unfolding remainderStep
 step-left d g r b ne = simp (ne-eqb (bit (r * 2 + digit b) d) 1 ne)
-
--- the same of what the code works out: v is the doubled number, w its digit at the degree
-module _ (d g r b : ℕ) (hb : b < 2) {v w : ℕ} (ev : v ≡ r * 2 + b) (ew : w ≡ bit v d) where
-  doubled : v ≡ r * 2 + digit (eqb b 1)
-  doubled = ev ∙ rw (bit-digit b hb)
-
-  pub step-reduced : {x : ℕ} → w ≡ 1 → x ≡ bitXor g v → x ≡ remainderStep d g r (eqb b 1)
-  step-reduced one ex = ex ∙ ap (bitXor g) doubled ∙ sym (step-taken d g r (eqb b 1) (ap (λ n. bit n d) (sym doubled) ∙ sym ew ∙ one))
-
-  pub step-kept : (w ≡ 1 → ⊥) → v ≡ remainderStep d g r (eqb b 1)
-  step-kept ne = doubled ∙ sym (step-left d g r (eqb b 1) (λ z. ne (ew ∙ ap (λ n. bit n d) doubled ∙ z)))
 
 top : (s d : ℕ) → s / 2 ^ d < 2 → bit s d ≡ 1 → s / 2 ^ d ≡ 1
 unfolding bit
@@ -109,17 +90,6 @@ module _ (d g : ℕ) where
   remainderFrom-below hg r [] hr = hr
   remainderFrom-below hg r (b ∷ w) hr = remainderFrom-below hg (remainderStep d g r b) w (remainderStep-below d g r b hg hr)
 
-  -- one more bit of a run, or one more zero, as the loops feed them
-  pub remainderFrom-next : (r : ℕ) (page : List ℕ) (s i : ℕ) {v b : ℕ} → v ≡ remainderFrom d g r (run (bitOf page) s i) → b ≡ bitAt page (s + i)
-      → remainderStep d g v (eqb b 1) ≡ remainderFrom d g r (run (bitOf page) s (i + 1))
-  unfolding run bitOf
-  remainderFrom-next r page s i ev eb =
-      rw (ev, eb) (sym (rw run-append (remainderFrom-append r (run (bitOf page) s i) (bitOf page (s + i) ∷ []) ∙ remainderFrom-one _ (bitOf page (s + i)))))
-
-  pub remainderFrom-next-zero : (r i : ℕ) {v : ℕ} → v ≡ remainderFrom d g r (replicate i false) → remainderStep d g v false ≡ remainderFrom d g r (replicate (i + 1) false)
-  remainderFrom-next-zero r i ev =
-      rw ev (sym (rw (← replicate-append-replicate i 1 false) (remainderFrom-append r (replicate i false) (false ∷ []) ∙ remainderFrom-one _ false)))
-
   remainderOf-take : (w : Word) (n : ℕ) → n ≤ length w → remainderOf d g w n ≡ remainderFrom d g 0 (take n w)
   unfolding remainderOf
   remainderOf-take w zero l = sym (remainderFrom-empty 0)
@@ -170,30 +140,6 @@ module _ (f : Field) (t : ℕ) where
   pub parity-bits-below : t ≤ 62 → degree f * t ≤ 868
   parity-bits-below h =
       mul-le-mul (degree-most f) h
-
-  -- The words of a row divide.
-  pub row-divisor : {words : List ℕ} → Row f t words → Divisor (degree f * t) (register words)
-  row-divisor row = record {
-    room = let l = parity-bits-below (row .level) in omega arith;
-    monic = rw (row .generates) (generator-monic f t (row .level));
-  }
-
-  pub row-remainder : {words : List ℕ} → Row f t words → {d r x : ℕ} (w : Word) → d ≡ degree f * t → r ≡ 0 → x ≡ remainderFrom d (register words) r w → x ≡ remainder f t w
-  row-remainder row w ed er ex = ex ∙ rw (ed, er, row .generates) (sym (remainder-from w))
-
-  pub row-remainder-append : {words : List ℕ} → Row f t words → {d r x : ℕ} (v w : Word) → d ≡ degree f * t → r ≡ remainder f t v → x ≡ remainderFrom d (register words) r w
-      → x ≡ remainder f t (v ++ w)
-  row-remainder-append row v w ed er ex = ex ∙ rw (ed, er, row .generates) (sym (remainder-append v w))
-
-  -- The parity is what mt zeros after the message leave.
-  pub parity-from : (message : Word)
-      → parity f t message ≡ digits (remainderFrom (degree f * t) (generator f t) (remainder f t message) (replicate (degree f * t) false)) (degree f * t)
-  unfolding parity
-  parity-from message = ap (λ r. digits r (degree f * t)) (remainder-append message (replicate (degree f * t) false))
-
-  pub row-zeros : {words : List ℕ} → Row f t words → {d r x : ℕ} (message : Word) → d ≡ degree f * t → r ≡ remainder f t message
-      → x ≡ remainderFrom d (register words) r (replicate d false) → x ≡ remainder f t (message ++ replicate (degree f * t) false)
-  row-zeros row message ed er ex = row-remainder-append row message (replicate (degree f * t) false) ed er (ex ∙ rw ed)
 
   pub parity-digits : {d x : ℕ} (message : Word) → d ≡ degree f * t → x ≡ remainder f t (message ++ replicate (degree f * t) false) → digits x d ≡ parity f t message
   unfolding parity

@@ -3,13 +3,13 @@
 -- division with all numbers moved up.
 use mathlib.Core.Path.{_≡_, refl, sym, ap, ap₂, _∙_}
 use mathlib.Core.Bool.{Bool, true, false, cond}
-use mathlib.Core.List.{List, [], _∷_, _++_}
+use mathlib.Core.List.{[], _∷_, _++_}
 use Prim.Native.Nat.{ℕ, zero, suc, _+_, _-_, _*_, _/_, _%_, _^_, _<_, _≤_}
 use native.Mathlib.Omega.{arith}
-use native.Mathlib.Nat.{pow-suc, mod-lt, mod-eq-of-lt, div-lt-iff-lt-mul, zero-mul, one-mul, zero-add, add-zero, mul-mod-left, le-refl, mul-le-mul-right}
+use native.Mathlib.Nat.{pow-suc, mod-lt, mod-eq-of-lt, div-lt-iff-lt-mul, zero-mul, one-mul, zero-add, add-zero, mul-mod-left, mul-le-mul-right}
 use lib.ListN.{length, replicate, length-replicate, replicate-append-replicate}
 use lib.Dec.{eqb}
-use lib.Pow.{pow-pos, pow-add, pow-mono, split, shl-shr, shl-lt, shr-lt, mod-pow-add}
+use lib.Pow.{pow-pos, pow-add, split, shl-shr, shr-lt, mod-pow-add}
 use lib.Bits.{bitXor, xor-block, xor-shr, xor-zero-l, xor-zero-r, xor-shifted, xor-self, xor-comm, xor-lt}
 use Rattle.bits.specs.Bits.{bit, digit, number, digits}
 use Rattle.bits.proofs.Numbers.{digit-lt, bit-lt, bit-shift, number-lt, number-digits, digits-length}

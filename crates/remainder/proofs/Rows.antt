@@ -1,9 +1,9 @@
 -- Laws of rows of words that stand in a longer list of words, and of what the loops that make them do.
-use mathlib.Core.Path.{_≡_, refl, sym, ap, ap₂, _∙_}
+use mathlib.Core.Path.{_≡_, refl, sym, ap, _∙_}
 use mathlib.Core.List.{List}
-use Prim.Native.Nat.{ℕ, zero, suc, _+_, _-_, _*_, _/_, _%_, _^_, _<_, _≤_}
+use Prim.Native.Nat.{ℕ, _+_, _*_, _/_, _%_, _^_, _<_, _≤_}
 use native.Mathlib.Omega.{arith}
-use native.Mathlib.Nat.{mul-le-mul-right, add-zero}
+use native.Mathlib.Nat.{add-zero}
 use lib.ListN.{length, getD, set, drop, length-drop}
 use lib.Seq.{getD-set-other, getD-drop, drop-set-add}
 use lib.Bits.{bitXor}

@@ -5,7 +5,7 @@ use Prim.Native.Nat.{ℕ, zero, suc, _+_, _-_, _*_, _/_, _%_, _^_, _<_, _≤_}
 use native.Mathlib.Omega.{arith}
 use native.Mathlib.Numerals.{add-one}
 use native.Mathlib.Decide.{decLt}
-use native.Mathlib.Nat.{add-zero, add-comm, le-refl, le-trans, mul-le-mul-right, div-eq-of-lt, div-lt-iff-lt-mul, pow-suc, mod-lt, mul-le-mul-left, mul-mod-left, mod-eq-of-lt, zero-mul, zero-add, mul-one}
+use native.Mathlib.Nat.{add-zero, add-comm, le-refl, le-trans, mul-le-mul-right, div-eq-of-lt, div-lt-iff-lt-mul, mod-lt, mul-le-mul-left, mul-mod-left, mod-eq-of-lt, zero-mul, zero-add, mul-one}
 use mir.Syntax.{w64}
 use mir.Val.{Fits}
 use lib.ListN.{length, getD, set, drop, replicate, length-set}
@@ -179,6 +179,10 @@ register-mod ws h n l =
     let e : length ws ≡ n + (length ws - n) = omega arith in
     ap (λ k. low ws k % 2 ^ (64 * n)) e ∙ ap (λ x. x % 2 ^ (64 * n)) (low-drop ws n (length ws - n)) ∙ Pow.low (low (drop n ws) (length ws - n)) (64 * n) (low-lt ws h n)
 
+pub low-first : (ws : List ℕ) → low ws 1 ≡ getD ws 0 0
+unfolding low
+low-first ws = add-zero (getD ws 0 0 * 1) ∙ mul-one (getD ws 0 0)
+
 -- words of zero above change nothing
 pub low-zeros : (ws : List ℕ) (n : ℕ) → ((k : ℕ) → n ≤ k → getD ws k 0 ≡ 0) → (j : ℕ) → low ws (n + j) ≡ low ws n
 low-zeros ws n z zero = rw (add-zero n)
@@ -339,18 +343,3 @@ xor-low-end ws vs g n l es inv above hv =
 pub xor-end : (ws vs g : List ℕ) (n : ℕ) → n ≤ length vs → length ws ≡ length vs → length g ≡ length vs → low ws n ≡ bitXor (low g n) (low vs n)
     → ((k : ℕ) → n ≤ k → getD ws k 0 ≡ getD vs k 0) → register vs < 2 ^ (64 * n) → register g < 2 ^ (64 * n) → register ws ≡ bitXor (register g) (register vs)
 xor-end ws vs g n l es eg inv above hv hg = xor-low-end ws vs g n l es inv above hv ∙ rw (register-short g n (omega arith) hg)
-
--- the words up to the one that holds the digit d have room for what a step makes
-
-pub room : (d r b : ℕ) → r < 2 ^ d → b < 2 → r * 2 + b < 2 ^ (64 * (d / 64 + 1))
-room d r b hr hb =
-    let m : 2 ^ suc d ≤ 2 ^ (64 * (d / 64 + 1)) = pow-mono (omega arith) in
-    let p : 2 ^ suc d ≡ 2 ^ d * 2 = pow-suc 2 d in
-    omega arith
-
-pub divisor-room : (d g : ℕ) → g / 2 ^ d ≡ 1 → g < 2 ^ (64 * (d / 64 + 1))
-divisor-room d g e =
-    let m : 2 ^ suc d ≤ 2 ^ (64 * (d / 64 + 1)) = pow-mono (omega arith) in
-    let p : 2 ^ suc d ≡ 2 ^ d * 2 = pow-suc 2 d in
-    let l : g < 2 * 2 ^ d = div-lt-iff-lt-mul (pow-pos d) .0 (omega arith) in
-    omega arith

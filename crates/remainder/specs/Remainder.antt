@@ -4,21 +4,16 @@
 -- remainderFrom d g r w    the remainder by g of degree d, from the remainder r on, after the coefficients w
 -- parityStep d g r b       the parity of one more coefficient b of a message, from the parity r of those before
 -- parityFrom d g r w       the same for the coefficients w
--- Divisor d g              g is monic of degree d, and d is within the room of a register
--- Row f t words            the words hold the generator of the level t
 -- numberOf l               the number whose binary digits are the bits of the bytes l
 -- bytesOf n x              the n bytes whose bits are the lowest 8n binary digits of x
-use mathlib.Core.Path.{_≡_}
 use mathlib.Core.Bool.{Bool, false}
 use mathlib.Core.List.{List, [], _∷_}
-use Prim.Native.Nat.{ℕ, _-_, _*_, _/_, _^_, _<_, _≤_}
+use Prim.Native.Nat.{ℕ, _-_, _*_, _^_}
 use lib.ListN.{length, getD}
 use lib.Bits.{bitXor}
 use Rattle.bits.specs.Bits.{bitOf, run, digit, number, digits, bytes}
-use Rattle.field.specs.declared.Field.{Field}
 use Rattle.code.specs.Word.{Word}
-use Rattle.code.specs.Generator.{generator, remainderStep}
-use Rattle.code.specs.Register.{register}
+use Rattle.code.specs.Generator.{remainderStep}
 
 -- One step of the division for each bit of the word, the first bit first.
 unfoldable pub remainderFrom : ℕ → ℕ → ℕ → Word → ℕ
@@ -32,16 +27,6 @@ parityStep d g r b = remainderStep d g (bitXor r (digit b * 2 ^ (d - 1))) false
 unfoldable pub parityFrom : ℕ → ℕ → ℕ → Word → ℕ
 parityFrom d g r [] = r
 parityFrom d g r (b ∷ w) = parityFrom d g (parityStep d g r b) w
-
--- A register has 14 words of 64 bits, so room for 896 digits.
-pub record Divisor (d g : ℕ) : Type 0 where
-  pub room : d < 896
-  pub monic : g / 2 ^ d ≡ 1
-
--- The rows of generators are stated for t up to 62.
-pub record Row (f : Field) (t : ℕ) (words : List ℕ) : Type 0 where
-  pub level : t ≤ 62
-  pub generates : register words ≡ generator f t
 
 -- A remainder handed in as bytes: the highest coefficient first, and the lowest one in the last bit of the last byte.
 unfoldable pub numberOf : List ℕ → ℕ

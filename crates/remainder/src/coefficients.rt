@@ -1,6 +1,6 @@
 // A register, and what can be asked of it.
 ghost use mathlib.Core.Path.{_≡_};
-ghost use Prim.Native.Nat.{_*_, _^_, _<_};
+ghost use Prim.Native.Nat.{_^_, _<_};
 ghost use lib.Dec.{eqb, ltb};
 ghost use Rattle.bits.specs.Bits.{bit};
 ghost use Rattle.code.specs.Register.{register};

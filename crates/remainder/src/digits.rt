@@ -1,27 +1,36 @@
 // The digits of a register, highest first: put into a page, and as bytes of their own.
 ghost use mathlib.Core.Path.{_≡_};
-ghost use Prim.Native.Nat.{_+_, _*_, _≤_, _<_};
+ghost use Prim.Native.Nat.{_+_, _-_, _*_, _≤_, _<_};
 ghost use lib.ListN.{length};
-ghost use Rattle.bits.specs.Bits.{bitOf, run, number, digits, placed};
+ghost use Rattle.bits.specs.Bits.{bitOf, run, number, digits, placed, Inside};
 ghost use Rattle.code.specs.Register.{register};
 ghost use Rattle.remainder.specs.Remainder.{numberOf, bytesOf};
 use crate::Register;
-use crate::coefficients::coefficient;
+use bits::copy::copy_bits;
 use bits::read::word_at;
-use bits::write::set_bit;
 
-// Internal: puts the coefficients below x^degree at a position of a page, the highest first. What would lie past the end is lost.
-pub fn place_parity(state: Register, degree: usize, page: &mut [u8], position: usize)
-    requires { ⌜ (degree ≤ 896) × (position + degree < 18446744073709551616) ⌝ }
-    ensures { λ r. ⌜ now (page .exit) ≡ placed (now (page .entry)) position (digits (register (state .words)) degree) ⌝ }
+// The lowest n digits of the number in a register, as the last bits of 112 bytes.
+fn last_bits(state: Register, n: usize) -> [u8; 112]
+    requires { ⌜ n ≤ 896 ⌝ }
+    ensures { λ r. ⌜ run (bitOf r) (896 - n) n ≡ digits (register (state .words)) n ⌝ }
 {
-    let mut i = 0;
-    while i < degree {
-        let p = degree - 1 - i;
-        let one = coefficient(state, p) == 1;
-        set_bit(page, position + i, one);
+    let words = state.words;
+    let mut bytes = [0u8; 112];
+    let mut i = (896 - n) / 8;
+    while i < 112 {
+        bytes[i] = ((words[13 - i / 8] >> (56 - 8 * (i % 8))) % 256) as u8;
         i += 1;
     }
+    bytes
+}
+
+// Internal: puts the coefficients below x^degree at a position of a page, the highest first.
+pub fn place_parity(state: Register, degree: usize, page: &mut [u8], position: usize)
+    requires { ⌜ (degree ≤ 896) × Inside (now page) position degree ⌝ }
+    ensures { λ r. ⌜ now (page .exit) ≡ placed (now (page .entry)) position (digits (register (state .words)) degree) ⌝ }
+{
+    let bytes = last_bits(state, degree);
+    copy_bits(&bytes, 896 - degree, page, position, degree);
 }
 
 // The number in 64 count bits of a byte slice from position `at` on, the highest digit first.

@@ -1,13 +1,9 @@
-// Registers moved up and down by digits, and added; one step of the division by a generator.
+// Registers moved up and down by digits, and added.
 ghost use mathlib.Core.Path.{_≡_};
 ghost use Prim.Native.Nat.{_+_, _*_, _/_, _%_, _^_, _≤_, _<_};
 ghost use lib.Bits.{bitXor};
-ghost use lib.Dec.{eqb};
 ghost use Rattle.code.specs.Register.{register};
-ghost use Rattle.code.specs.Generator.{remainderStep};
-ghost use Rattle.remainder.specs.Remainder.{Divisor};
 use crate::Register;
-use crate::coefficients::coefficient;
 
 // Internal: the number in the first words of a register times 2^k, with `lowest` as its k lowest digits. What leaves those words is lost.
 pub fn pushed(state: Register, used: usize, k: usize, lowest: u64) -> Register
@@ -88,17 +84,4 @@ pub fn added(state: Register, row: [u64; 14], used: usize) -> Register
         i += 1;
     }
     Register { words: words }
-}
-
-// Internal: one more coefficient b of the dividend, for the generator in `row`.
-pub fn step(state: Register, row: [u64; 14], degree: usize, b: u64) -> Register
-    requires { ⌜ (Divisor degree (register row)) × (register (state .words) < 2 ^ degree) × (b < 2) ⌝ }
-    ensures { λ r. ⌜ register (r .words) ≡ remainderStep degree (register row) (register (state .words)) (eqb b 1) ⌝ }
-{
-    let used = degree / 64 + 1;
-    let next = shifted(state, used, 1, b);
-    if coefficient(next, degree) == 1 {
-        return added(next, row, used);
-    }
-    next
 }

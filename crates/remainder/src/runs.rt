@@ -16,7 +16,7 @@ use crate::digits::number_at;
 use crate::divide::added;
 use crate::divide::lowered;
 use crate::divide::raised;
-use crate::eight::feed_run;
+use crate::feed::feed_run;
 use crate::feed::parity_bits;
 use crate::table::row_words;
 use field::Field;

@@ -5,7 +5,7 @@ ghost use lib.ListN.{length, getD, drop};
 ghost use lib.Bits.{bitXor};
 ghost use Rattle.bits.specs.Bits.{bit};
 ghost use Rattle.code.specs.Register.{low, register};
-ghost use Rattle.remainder.specs.Table.{width, gap, Filled, Only, Apart, Table};
+ghost use Rattle.remainder.specs.Table.{width, Filled, Only, Apart, Table};
 use crate::Register;
 use crate::divide::raised;
 use crate::feed::parity_bits;

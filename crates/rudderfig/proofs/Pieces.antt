@@ -1,11 +1,15 @@
--- What the calls return that take one block's message in pieces.
-use mathlib.Core.Path.{_≡_, sym, ap, _∙_}
+-- What the calls return that take one block's message in pieces: the reply comes back out of the word, and there is nothing else in it.
+use mathlib.Core.Path.{_≡_, refl, ap, _∙_}
 use mathlib.Core.List.{List}
 use Prim.Native.Nat.{ℕ}
+use native.Mathlib.Omega.{arith}
+use Rattle.pieces.specs.declared.State.{State}
 use Rattle.pieces.specs.declared.Answered.{Answered}
-use Rattle.pieces.specs.Calls.{Finished, finished}
+use Rattle.pieces.specs.Calls.{Finished, finished, startOf, feedOf, finishOf}
+use Rattle.pieces.proofs.Ends.{start-small, piece-small, start-ends, feed-ends, finish-ends}
 use Rattle.rudderfig.specs.Answer.{answerWord}
 use Rattle.rudderfig.specs.Pieces.{StateReturns, ParityReturns}
+use Rattle.rudderfig.proofs.Words.{Holds, word-holds}
 
 pub state-returns : (a : Answered) {b : Answered} {w : ℕ} → a ≡ b → w ≡ answerWord (a .reply) 0 0 0 → StateReturns b w (a .state)
 state-returns a e h = record { word = h ∙ ap (λ (x : Answered). answerWord (x .reply) 0 0 0) e; state = ap (λ (x : Answered). x .state) e }
@@ -17,3 +21,12 @@ parity-returns a e h = record {
   state = ap (λ (x : Finished). x .state) e;
   parity = ap (λ (x : Finished). x .parity) e;
 }
+
+pub start-holds : (s : State) (level choice n : ℕ) → let a = startOf s level choice n in Holds (a .reply) 0 0 (answerWord (a .reply) 0 0 0)
+start-holds s level choice n = word-holds 0 (omega (arith, start-small (start-ends s level choice n .table))) (omega arith) (λ h. refl)
+
+pub feed-holds : (s : State) (piece : List ℕ) → let a = feedOf s piece in Holds (a .reply) 0 0 (answerWord (a .reply) 0 0 0)
+feed-holds s piece = word-holds 0 (omega (arith, piece-small (feed-ends s piece .table))) (omega arith) (λ h. refl)
+
+pub finish-holds : (s : State) (parity : List ℕ) → let w = finishOf s parity in Holds (w .reply) 0 0 (answerWord (w .reply) 0 0 0)
+finish-holds s parity = word-holds 0 (omega (arith, piece-small (finish-ends s parity .table))) (omega arith) (λ h. refl)

@@ -1,4 +1,5 @@
 -- What texts say.
 pub mod Bytes
+pub mod Hex
 pub mod Numbers
 pub mod Parts

@@ -2,23 +2,27 @@
 //
 //   parse_number      a number in decimal, or in hexadecimal after 0x
 //   parse_bytes       bytes in hexadecimal, two digits each
+//   hex_byte          a byte in hexadecimal
 //   layout_record     the layout record of two words
 //   total, largest    of the flip counts of a page
 //   plus, larger      of two numbers
 //   without_prefix    the digits after 0x
-//   front, front_mut, front_exponents   the first places of a buffer
+//   front, front_mut, front_words, front_exponents   the first places of a buffer
 //
 // No public function asks anything of its caller.
 mod digits;
+mod hex;
 mod pairs;
 mod parts;
 
 pub use digits::parse_number;
 pub use digits::without_prefix;
+pub use hex::hex_byte;
 pub use pairs::parse_bytes;
 pub use parts::front;
 pub use parts::front_exponents;
 pub use parts::front_mut;
+pub use parts::front_words;
 pub use parts::larger;
 pub use parts::largest;
 pub use parts::layout_record;

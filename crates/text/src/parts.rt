@@ -91,6 +91,16 @@ pub fn front_mut(bytes: &mut [u8], n: usize) -> &mut [u8] {
     &mut bytes[..n]
 }
 
+// The first n words of 32 bits; all where there are no more.
+pub fn front_words(words: &[u32], n: usize) -> &[u32]
+    ensures { λ r. ⌜ now r ≡ take n (now (words .entry)) ⌝ }
+{
+    if words.len() <= n {
+        return words;
+    }
+    &words[..n]
+}
+
 // The first n exponents; all where there are no more.
 pub fn front_exponents(exponents: &[u16], n: usize) -> &[u16]
     ensures { λ r. ⌜ now r ≡ take n (now (exponents .entry)) ⌝ }

@@ -7,7 +7,7 @@ use borrow.Author.Needs.{needs}
 use lib.ListN.{length}
 use Rattle.code.specs.Locations.{locate}
 use Rattle.bch.proofs.PowerSums.{syndromes-power-sums}
-use Rattle.bch.proofs.Locating.{zero-located, nonzero-short, recurs-leading, long-nowhere, few-nowhere, wrong-nowhere, list-located, agreed-located, finds-none, finds-zero, finds-listed, finds-list}
+use Rattle.bch.proofs.Locating.{zero-located, nonzero-short, recurs-leading, recurs-divisor, unsplit-nowhere, long-nowhere, few-nowhere, wrong-nowhere, list-located, agreed-located, finds-none, finds-zero, finds-listed, finds-list}
 use Rattle.bch.proofs.locate.find_errors.Statement.{statement}
 use Rattle.bch.proofs.locate.find_errors.Tie as tie
 
@@ -66,48 +66,68 @@ returns-3 c =
     let both = c .before .passes .ensures .holds (c .if3 .taken) in
     finds-listed _ _ _ _ _ refl few room (list-located _ _ _ _ (s .pre .1) short sums (omega (arith, s .pre .1 .fits .level)) (both .0) (both .1) few)
 
-locate-requires : tie.Need-locate-requires
-locate-requires c κs =
+cannot-split-requires : tie.Need-cannot-split-requires
+cannot-split-requires c κs =
     let s = c .before .before .before .before .before .before .before .before .before .before .before .before in
     let short = nonzero-short (s .pre .1) (c .before .before .before .before .before .before .before .before .before .before .before .is-zero .ensures) (c .before .before .before .before .before .before .before .before .before .before .if1 .left) in
     let sums = c .before .before .before .before .before .before .before .before .before .syndromes .ensures in
     let recurs = c .before .before .before .before .before .before .before .shortest .ensures in
-    (s .pre .0, (omega (arith, s .pre .1 .fits .level, c .before .before .before .before .before .if2 .left), short, recurs .small-c, recurs-leading _ _ _ _ (s .pre .1) short sums recurs))
+    (s .pre .0, (omega (arith, s .pre .1 .fits .level, c .before .before .before .before .before .if2 .left), recurs-divisor _ _ _ _ (s .pre .1) short sums recurs))
 
 no-exponents-requires-3 : tie.Need-no-exponents-requires-3
 no-exponents-requires-3 c κs = search needs
 
 returns-4 : tie.Need-returns-4
 returns-4 c =
-    let s = c .before .before .before .before .before .before .before .before .before .before .before .before .before .before .before .before in
-    let short = nonzero-short (s .pre .1) (c .before .before .before .before .before .before .before .before .before .before .before .before .before .before .before .is-zero .ensures) (c .before .before .before .before .before .before .before .before .before .before .before .before .before .before .if1 .left) in
-    let sums = c .before .before .before .before .before .before .before .before .before .before .before .before .before .syndromes .ensures in
-    let recurs = c .before .before .before .before .before .before .before .before .before .before .before .shortest .ensures in
-    let places = c .before .before .before .locate in
-    let room : length (places .result .exponents) ≡ 64 = search needs in
-    let e = c .no-exponents3 .ensures in
-    finds-none _ _ _ _ _ (few-nowhere _ _ _ _ (s .pre .1) short sums recurs (omega (arith, s .pre .1 .fits .level, places .ensures .0, c .before .before .before .before .before .before .before .before .before .if2 .left)) (places .ensures .1) (c .before .if4 .taken)) (e .0) (e .1) (e .2)
-
-sums-agree-requires : tie.Need-sums-agree-requires
-sums-agree-requires c κs =
     let s = c .before .before .before .before .before .before .before .before .before .before .before .before .before .before .before in
     let short = nonzero-short (s .pre .1) (c .before .before .before .before .before .before .before .before .before .before .before .before .before .before .is-zero .ensures) (c .before .before .before .before .before .before .before .before .before .before .before .before .before .if1 .left) in
     let sums = c .before .before .before .before .before .before .before .before .before .before .before .before .syndromes .ensures in
     let recurs = c .before .before .before .before .before .before .before .before .before .before .shortest .ensures in
-    let places = c .before .before .locate in (
-      record { at = s .pre .0 .powers-at },
-      (s .pre .1 .fits .level, sums .elements, omega (arith, s .pre .1 .fits .level, places .ensures .0, c .before .before .before .before .before .before .before .before .if2 .left), λ k l. omega (arith, places .ensures .1 .lists .below k l)),
-    )
+    let e = c .no-exponents3 .ensures in
+    finds-none _ _ _ _ _ (unsplit-nowhere _ _ _ _ (s .pre .1) short sums recurs (c .before .before .cannot-split .ensures (c .before .if4 .taken))) (e .0) (e .1) (e .2)
+
+locate-requires : tie.Need-locate-requires
+locate-requires c κs =
+    let s = c .before .before .before .before .before .before .before .before .before .before .before .before .before .before .before in
+    let short = nonzero-short (s .pre .1) (c .before .before .before .before .before .before .before .before .before .before .before .before .before .before .is-zero .ensures) (c .before .before .before .before .before .before .before .before .before .before .before .before .before .if1 .left) in
+    let sums = c .before .before .before .before .before .before .before .before .before .before .before .before .syndromes .ensures in
+    let recurs = c .before .before .before .before .before .before .before .before .before .before .shortest .ensures in
+    (s .pre .0, (omega (arith, s .pre .1 .fits .level, c .before .before .before .before .before .before .before .before .if2 .left), short, recurs .small-c, recurs-leading _ _ _ _ (s .pre .1) short sums recurs))
+
+no-exponents-requires-4 : tie.Need-no-exponents-requires-4
+no-exponents-requires-4 c κs = search needs
 
 returns-5 : tie.Need-returns-5
 returns-5 c =
-    let s = c .before .before .before .before .before .before .before .before .before .before .before .before .before .before .before .before in
-    let short = nonzero-short (s .pre .1) (c .before .before .before .before .before .before .before .before .before .before .before .before .before .before .before .is-zero .ensures) (c .before .before .before .before .before .before .before .before .before .before .before .before .before .before .if1 .left) in
-    let sums = c .before .before .before .before .before .before .before .before .before .before .before .before .before .syndromes .ensures in
-    let recurs = c .before .before .before .before .before .before .before .before .before .before .before .shortest .ensures in
+    let s = c .before .before .before .before .before .before .before .before .before .before .before .before .before .before .before .before .before .before .before in
+    let short = nonzero-short (s .pre .1) (c .before .before .before .before .before .before .before .before .before .before .before .before .before .before .before .before .before .before .is-zero .ensures) (c .before .before .before .before .before .before .before .before .before .before .before .before .before .before .before .before .before .if1 .left) in
+    let sums = c .before .before .before .before .before .before .before .before .before .before .before .before .before .before .before .before .syndromes .ensures in
+    let recurs = c .before .before .before .before .before .before .before .before .before .before .before .before .before .before .shortest .ensures in
     let places = c .before .before .before .locate in
     let room : length (places .result .exponents) ≡ 64 = search needs in
-    let few : places .result .count ≤ s .args .t = omega (arith, s .pre .1 .fits .level, places .ensures .0, c .before .before .before .before .before .before .before .before .before .if2 .left) in
+    let e = c .no-exponents4 .ensures in
+    finds-none _ _ _ _ _ (few-nowhere _ _ _ _ (s .pre .1) short sums recurs (omega (arith, s .pre .1 .fits .level, places .ensures .0, c .before .before .before .before .before .before .before .before .before .before .before .before .if2 .left)) (places .ensures .1) (c .before .if5 .taken)) (e .0) (e .1) (e .2)
+
+sums-agree-requires : tie.Need-sums-agree-requires
+sums-agree-requires c κs =
+    let s = c .before .before .before .before .before .before .before .before .before .before .before .before .before .before .before .before .before .before in
+    let short = nonzero-short (s .pre .1) (c .before .before .before .before .before .before .before .before .before .before .before .before .before .before .before .before .before .is-zero .ensures) (c .before .before .before .before .before .before .before .before .before .before .before .before .before .before .before .before .if1 .left) in
+    let sums = c .before .before .before .before .before .before .before .before .before .before .before .before .before .before .before .syndromes .ensures in
+    let recurs = c .before .before .before .before .before .before .before .before .before .before .before .before .before .shortest .ensures in
+    let places = c .before .before .locate in (
+      record { at = s .pre .0 .powers-at },
+      (s .pre .1 .fits .level, sums .elements, omega (arith, s .pre .1 .fits .level, places .ensures .0, c .before .before .before .before .before .before .before .before .before .before .before .if2 .left), λ k l. omega (arith, places .ensures .1 .lists .below k l)),
+    )
+
+returns-6 : tie.Need-returns-6
+returns-6 c =
+    let s = c .before .before .before .before .before .before .before .before .before .before .before .before .before .before .before .before .before .before .before in
+    let short = nonzero-short (s .pre .1) (c .before .before .before .before .before .before .before .before .before .before .before .before .before .before .before .before .before .before .is-zero .ensures) (c .before .before .before .before .before .before .before .before .before .before .before .before .before .before .before .before .before .if1 .left) in
+    let sums = c .before .before .before .before .before .before .before .before .before .before .before .before .before .before .before .before .syndromes .ensures in
+    let recurs = c .before .before .before .before .before .before .before .before .before .before .before .before .before .before .shortest .ensures in
+    let places = c .before .before .before .locate in
+    let room : length (places .result .exponents) ≡ 64 = search needs in
+    let few : places .result .count ≤ s .args .t = omega (arith, s .pre .1 .fits .level, places .ensures .0, c .before .before .before .before .before .before .before .before .before .before .before .before .if2 .left) in
     finds-list _ _ _ _ _ few room (c .sums-agree .ensures)
     (λ agrees. agreed-located _ _ _ _ (s .pre .1) short sums recurs (omega arith) (places .ensures .1) agrees few)
     (λ wrong. wrong-nowhere _ _ _ _ (s .pre .1) short sums recurs (omega arith) (places .ensures .1) wrong)
@@ -126,8 +146,11 @@ find-errors-spec =
     find-roots-requires
     passes-requires
     returns-3
-    locate-requires
+    cannot-split-requires
     no-exponents-requires-3
     returns-4
+    locate-requires
+    no-exponents-requires-4
+    returns-5
     sums-agree-requires
-    returns-5)
+    returns-6)

@@ -41,7 +41,7 @@ place-parity-requires c κs =
     let a = c .before .before .before .before .before .before .before .before .before in
     let s = a .args .shape in
     let l = parity-bits-below (s .field) (s .level) (a .pre .0 .level) in
-    (omega arith, omega arith)
+    (omega arith, record { ends = omega arith; fits = omega arith })
 
 same-length : tie.Need-same-length
 same-length c = search needs

@@ -1,5 +1,5 @@
 use Prim.Native.Nat.{ℕ, _≤_, _-_, _+_, _*_}
-use mathlib.Core.Path.{_≡_, _∙_, sym, ap, ap₂}
+use mathlib.Core.Path.{_≡_, _∙_, ap₂}
 use native.Mathlib.Omega.{arith}
 use borrow.Author.Needs.{needs}
 use lib.ListN.{length, getD}

@@ -1,8 +1,6 @@
-use Prim.Native.Nat.{_≤_, _<_, _+_, _*_, _^_}
 use mathlib.Core.Path.{_∙_}
 use native.Mathlib.Omega.{arith}
 use native.Mathlib.Nat.{mod-eq-of-lt}
-use borrow.Author.Needs.{needs}
 use Rattle.remainder.proofs.Words.{raise-fits}
 use Rattle.remainder.proofs.divide.shifted.Statement.{statement}
 use Rattle.remainder.proofs.divide.shifted.Tie as tie

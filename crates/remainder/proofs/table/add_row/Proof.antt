@@ -1,5 +1,5 @@
-use Prim.Native.Nat.{ℕ, _≤_, _<_, _-_, _+_, _*_, _^_}
-use mathlib.Core.Path.{_≡_, _∙_, refl, sym}
+use Prim.Native.Nat.{_≤_, _<_, _-_, _+_, _*_, _^_}
+use mathlib.Core.Path.{_≡_}
 use native.Mathlib.Omega.{arith}
 use borrow.Author.Needs.{needs}
 use lib.ListN.{length, drop}
@@ -7,11 +7,9 @@ use lib.Bits.{bitXor}
 use Rattle.code.specs.Register.{low}
 use Rattle.remainder.specs.Table.{Only}
 use Rattle.remainder.proofs.Words.{low-lt}
-use Rattle.remainder.proofs.Rows.{only-none, only-next, sum-next, read-next}
+use Rattle.remainder.proofs.Rows.{only-next, sum-next, read-next}
 use Rattle.remainder.proofs.table.add_row.Statement.{statement}
 use Rattle.remainder.proofs.table.add_row.Tie as tie
-use Rattle.remainder.proofs.table.add_row.Reads as reads
-use Rattle.remainder.proofs.table.add_row.Lts as lts
 
 abbrev Inv-loop : tie.InvT-loop
 Inv-loop table₀ from to used divisor i₀ table i = (i ≤ used) × (length table ≡ length table₀) × (low (drop from table₀) i < 2 ^ (64 * i)) × (low (drop to table) i ≡ bitXor (low divisor i) (low (drop from table₀) i))

@@ -1,16 +1,13 @@
-use Prim.Native.Nat.{ℕ, _≤_, _<_, _-_, _+_, _*_, _^_}
-use mathlib.Core.Path.{_≡_, _∙_, refl, sym}
+use Prim.Native.Nat.{_≤_, _<_, _-_}
+use mathlib.Core.Path.{_≡_, _∙_}
 use native.Mathlib.Omega.{arith}
 use borrow.Author.Needs.{needs}
-use lib.ListN.{length, drop}
+use lib.ListN.{length}
 use Rattle.code.specs.Register.{low}
-use Rattle.remainder.specs.Table.{Only, before}
-use Rattle.remainder.proofs.Words.{low-store, shift-fits, carry-below}
-use Rattle.remainder.proofs.Rows.{only-none, only-next, double-next, double-end}
+use Rattle.remainder.specs.Table.{before}
+use Rattle.remainder.proofs.Words.{low-store}
 use Rattle.remainder.proofs.table.clear_row.Statement.{statement}
 use Rattle.remainder.proofs.table.clear_row.Tie as tie
-use Rattle.remainder.proofs.table.clear_row.Reads as reads
-use Rattle.remainder.proofs.table.clear_row.Lts as lts
 
 abbrev Inv-loop : tie.InvT-loop
 Inv-loop table₀ used i₀ table i = (i ≤ used) × (length table ≡ length table₀) × (low table i ≡ 0)

@@ -1,16 +1,14 @@
-use Prim.Native.Nat.{ℕ, _≤_, _<_, _-_, _+_, _*_, _^_}
-use mathlib.Core.Path.{_≡_, _∙_, refl, sym}
+use Prim.Native.Nat.{_≤_, _<_, _-_, _+_, _*_, _^_}
+use mathlib.Core.Path.{_≡_}
 use native.Mathlib.Omega.{arith}
 use borrow.Author.Needs.{needs}
 use lib.ListN.{length, drop}
 use Rattle.code.specs.Register.{low}
 use Rattle.remainder.specs.Table.{Only, before}
-use Rattle.remainder.proofs.Words.{low-store, shift-fits, carry-below}
-use Rattle.remainder.proofs.Rows.{only-none, only-next, double-next, double-below, double-end}
+use Rattle.remainder.proofs.Words.{shift-fits, carry-below}
+use Rattle.remainder.proofs.Rows.{only-next, double-next, double-below, double-end}
 use Rattle.remainder.proofs.table.double_row.Statement.{statement}
 use Rattle.remainder.proofs.table.double_row.Tie as tie
-use Rattle.remainder.proofs.table.double_row.Reads as reads
-use Rattle.remainder.proofs.table.double_row.Lts as lts
 
 abbrev Inv-loop : tie.InvT-loop
 Inv-loop table₀ from to used carry₀ i₀ table carry i = (i ≤ used) × (length table ≡ length table₀) × (carry < 2) × (low (drop to table) i + carry * 2 ^ (64 * i) ≡ low (drop from table₀) i * 2)

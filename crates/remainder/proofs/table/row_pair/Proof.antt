@@ -1,5 +1,4 @@
-use mathlib.Core.Path.{_≡_, _∙_, sym}
-use lib.ListN.{length}
+use mathlib.Core.Path.{_∙_, sym}
 use native.Mathlib.Omega.{arith}
 use Rattle.remainder.proofs.Words.{low-lt}
 use Rattle.remainder.proofs.Filling.{row-product, divisor-rest, pair-inside, pair-word, pair-digit, pair-after, pair-apart, pair-filled}

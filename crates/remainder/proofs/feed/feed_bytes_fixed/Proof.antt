@@ -1,0 +1,39 @@
+use mathlib.Core.Path.{_∙_}
+use borrow.Author.Needs.{needs}
+use Rattle.remainder.proofs.feed.feed_bytes_fixed.Statement.{statement}
+use Rattle.remainder.proofs.feed.feed_bytes_fixed.Tie as tie
+
+feed-bytes-requires : tie.Need-feed-bytes-requires
+feed-bytes-requires c κs =
+    let a = c .before .before .before in
+    let e = c .if1 .taken in
+    (rw e at (a .pre .0), rw e at (a .pre .1), a .pre .2)
+
+returns : tie.Need-returns
+returns c = c .feed-bytes .ensures ∙ rw (c .before .if1 .taken)
+
+feed-bytes-requires-2 : tie.Need-feed-bytes-requires-2
+feed-bytes-requires-2 c κs =
+    let a = c .before .before .before .before in
+    let e = c .if2 .taken in
+    (rw e at (a .pre .0), rw e at (a .pre .1), a .pre .2)
+
+returns-2 : tie.Need-returns-2
+returns-2 c = c .feed-bytes2 .ensures ∙ rw (c .before .if2 .taken)
+
+feed-bytes-requires-3 : tie.Need-feed-bytes-requires-3
+feed-bytes-requires-3 c κs = search needs
+
+returns-3 : tie.Need-returns-3
+returns-3 c = search needs
+
+pub feed-bytes-fixed-spec : {M : Type 1} → statement M
+feed-bytes-fixed-spec =
+    tie.close
+    (tie.spec
+    feed-bytes-requires
+    returns
+    feed-bytes-requires-2
+    returns-2
+    feed-bytes-requires-3
+    returns-3)
