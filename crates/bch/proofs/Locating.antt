@@ -1,6 +1,6 @@
 -- What the decoder finds is the answer of the definition. Soundness: a list of few places that passes the recheck is the answer,
 -- whatever proposed it. Completeness: a set that leaves the remainder has as many exponents as the recurrence is long, they are the
--- roots, and it passes the recheck; so where one of these fails there is no set.
+-- roots, and it passes the recheck; so where one of these fails there is no set, and where x^(2^m) shows that the roots are too few.
 use mathlib.Core.Path.{_≡_, refl, sym, ap, _∙_}
 use mathlib.Core.Bool.{Bool, true, false, cond}
 use mathlib.Core.List.{List, [], _∷_, _++_}

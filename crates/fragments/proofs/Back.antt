@@ -1,7 +1,7 @@
 -- Each call undoes the other, once over the level: a remainder that is exported comes back by import, and fragments that are imported by export.
-use mathlib.Core.Path.{_≡_, refl, sym, ap, _∙_}
+use mathlib.Core.Path.{_≡_, sym, _∙_}
 use mathlib.Core.List.{List}
-use Prim.Native.Nat.{ℕ, _+_, _*_, _%_, _^_, _≤_, _<_}
+use Prim.Native.Nat.{ℕ, _*_, _^_, _≤_, _<_}
 use native.Mathlib.Omega.{arith}
 use native.Mathlib.Nat.{mod-eq-of-lt}
 use lib.ListN.{length}
@@ -11,9 +11,9 @@ use Rattle.remainder.specs.Remainder.{numberOf, bytesOf}
 use Rattle.remainder.proofs.Bytes.{bytesOf-length, numberOf-bytesOf, bytesOf-numberOf}
 use Rattle.fragments.specs.declared.FragmentsAnswer.the-variants.{Done}
 use Rattle.fragments.specs.Fragments.{fragmentsOf, joined, Fragments}
-use Rattle.fragments.specs.Calls.{coefficients, bytesFor, fitting, ended, ending, reply, exportOf, importOf}
+use Rattle.fragments.specs.Calls.{coefficients, bytesFor, ended, ending, reply, exportOf, importOf}
 use Rattle.fragments.proofs.Numbers.{joined-fragments, fragments-joined, fragments-length}
-use Rattle.fragments.proofs.Replies.{Right, offered-bits, fitting-lengths, reply-right, right-reply}
+use Rattle.fragments.proofs.Replies.{Right, offered-bits, fitting-lengths, right-reply}
 use Rattle.fragments.proofs.Meaning.{export-right, export-lent, import-right, import-lent}
 
 -- two requests with the same lengths and the same number

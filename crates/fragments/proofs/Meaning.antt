@@ -1,16 +1,15 @@
 -- What the calls promise, in the words of document 02, E9: which bit holds which coefficient, which bits are zero, which are refused.
-use mathlib.Core.Path.{_≡_, refl, sym, ap, _∙_}
-use mathlib.Core.Bool.{Bool, true, false, cond}
+use mathlib.Core.Path.{_≡_}
+use mathlib.Core.Bool.{true, false}
 use mathlib.Core.List.{List}
 use Prim.Native.Nat.{ℕ, _+_, _*_, _^_, _≤_, _<_}
 use native.Mathlib.Omega.{arith}
 use borrow.Author.Tests.{ne-eqb, le-ltb}
 use lib.ListN.{length, getD}
-use lib.Dec.{eqb}
 use Rattle.bits.specs.Bits.{bit}
 use Rattle.remainder.specs.Remainder.{numberOf, bytesOf}
 use Rattle.fragments.specs.Fragments.{fragmentsOf, joined, Fragments}
-use Rattle.fragments.specs.Calls.{offered, coefficients, fitting, Ended, ending, unless, reply, exportOf, importOf}
+use Rattle.fragments.specs.Calls.{offered, coefficients, fitting, ending, reply, exportOf, importOf}
 use Rattle.fragments.proofs.Numbers.{fragments-bit, fragments-unused, one-beyond, zeros-below}
 use Rattle.fragments.proofs.Replies.{Right, offered-bits, right-reply, reply-right}
 

@@ -1,10 +1,10 @@
 -- Laws of fragments: where the digits of a number stand in them, and that each of `fragmentsOf` and `joined` undoes the other.
 use mathlib.Core.Path.{_≡_, refl, sym, ap, _∙_}
 use mathlib.Core.List.{List, [], _∷_}
-use Prim.Native.Nat.{ℕ, zero, suc, _+_, _-_, _*_, _/_, _%_, _^_, _<_, _≤_}
+use Prim.Native.Nat.{ℕ, zero, suc, _+_, _*_, _/_, _%_, _^_, _<_, _≤_}
 use native.Mathlib.Omega.{arith}
 use native.Mathlib.Decide.{decLt, ℕ-discrete}
-use native.Mathlib.Nat.{zero-add, zero-div, div-eq-of-lt, div-lt-iff-lt-mul, mod-eq-of-lt, mod-lt}
+use native.Mathlib.Nat.{zero-add, div-eq-of-lt, div-lt-iff-lt-mul, mod-eq-of-lt, mod-lt}
 use lib.ListN.{length, getD, set, drop, length-drop, drop-of-length-le}
 use lib.Seq.{drop-cons, getD-drop, getD-set-same, getD-set-other}
 use lib.Pow.{high, low, shr-shr, shr-le, pow-pos, pow-add, pow-mono, mod-pow-add}

@@ -1,26 +1,24 @@
 -- The running calls, one after the other: from what each ensures to what must come of both.
-use mathlib.Core.Path.{_≡_, refl, sym, ap, _∙_}
-use mathlib.Core.Bool.{Bool, true, false, cond}
+use mathlib.Core.Path.{_≡_, sym, ap, _∙_}
 use mathlib.Core.List.{List}
 use Prim.Native.Nat.{ℕ}
 use native.Mathlib.Omega.{arith}
 use native.Mathlib.Decide.{ℕ-discrete}
 use borrow.Author.Tests.{eq-eqb, ne-eqb}
 use lib.ListN.{length}
-use lib.Dec.{eqb}
 use Rattle.bits.specs.Bits.{Bytes}
-use Rattle.remainder.specs.Remainder.{numberOf, bytesOf}
+use Rattle.remainder.specs.Remainder.{numberOf}
 use Rattle.remainder.proofs.Bytes.{bytesOf-length}
 use Rattle.fragments.specs.declared.Refusal.{Refusal}
 use Rattle.fragments.specs.declared.Refusal.the-variants.{Level, Buffer, Coefficient}
 use Rattle.fragments.specs.declared.FragmentsAnswer.{FragmentsAnswer}
 use Rattle.fragments.specs.declared.FragmentsAnswer.the-variants.{Done, Refused}
-use Rattle.fragments.specs.Fragments.{fragmentsOf, joined, Fragments}
-use Rattle.fragments.specs.Calls.{offered, coefficients, fitting, refusalReply, Ended, ended, ending, reply, exportOf, importOf}
+use Rattle.fragments.specs.Fragments.{joined, Fragments}
+use Rattle.fragments.specs.Calls.{refusalReply, Ended, ended, ending, reply, exportOf, importOf}
 use Rattle.fragments.specs.Circuit.{backReply, remainderBack, fragmentsBack}
 use Rattle.fragments.proofs.Numbers.{Small}
-use Rattle.fragments.proofs.Replies.{Right, lengths-bytes, lengths-count, fitting-lengths, right-reply}
-use Rattle.fragments.proofs.Meaning.{export-right, export-lent, import-right, import-lent, export-lengths, import-lengths}
+use Rattle.fragments.proofs.Replies.{lengths-bytes, lengths-count, fitting-lengths, right-reply}
+use Rattle.fragments.proofs.Meaning.{export-right, import-right, import-lent, export-lengths, import-lengths}
 use Rattle.fragments.proofs.Back.{export-import, import-export}
 
 -- an answer that is done, and one that refuses

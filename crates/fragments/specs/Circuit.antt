@@ -3,7 +3,6 @@
 -- backReply reply found wanted                 the reply of the first call, and then 6 where the list to read back into has a wrong length
 -- remainderBack field remainder count back     export to a list of `count` fragments, then import into the list `back`
 -- fragmentsBack field fragments bytes back     import into a list of so many bytes, then export into the list `back`
-use mathlib.Core.Bool.{cond}
 use mathlib.Core.List.{List}
 use Prim.Native.Nat.{ℕ}
 use lib.ListN.{length}

@@ -1,13 +1,13 @@
 -- Laws of what is carried: taken over any cut of a word, it is the same, and it is what the kernel works out.
 use mathlib.Core.Path.{_≡_, refl, sym, ap, _∙_}
 use mathlib.Core.Bool.{false}
-use mathlib.Core.List.{[], _++_}
+use mathlib.Core.List.{_++_}
 use Prim.Native.Nat.{ℕ, zero, suc, _*_, _^_, _≤_, _<_}
 use native.Mathlib.Omega.{arith}
 use native.Mathlib.Decide.{decLt}
 use native.Mathlib.Nat.{mul-zero}
 use lib.ListN.{length, replicate}
-use lib.Bits.{bitXor, xor-zero-l, xor-zero-r, xor-lt}
+use lib.Bits.{bitXor, xor-zero-l, xor-lt}
 use lib.Pow.{pow-pos}
 use Rattle.bits.specs.Bits.{digit}
 use Rattle.field.specs.declared.Field.{Field}
@@ -36,7 +36,7 @@ module _ (d g : ℕ) where
   zeros-zero zero = refl
   zeros-zero (suc k) = ap (λ r. remainderFrom d g r (replicate k false)) step-zero ∙ zeros-zero k
 
-degree-some : (f : Field) (t : ℕ) → 0 < t → 0 < degree f * t
+pub degree-some : (f : Field) (t : ℕ) → 0 < t → 0 < degree f * t
 unfolding degree
 degree-some Thirteen t h = omega arith
 degree-some Fourteen t h = omega arith
@@ -69,11 +69,6 @@ module _ (f : Field) (t : ℕ) where
 
   pub carried-more : 0 < t → (r : ℕ) (w : Word) {x : ℕ} → x ≡ parityFrom (degree f * t) (generator f t) r w → x ≡ carried f t r w
   carried-more h r w e = e ∙ carried-fold h r w
-
-  -- No bits leave it as it is.
-  pub carried-empty : (r : ℕ) → r ≡ carried f t r []
-  unfolding carried remainderFrom
-  carried-empty r = rw parity-none (sym (xor-zero-r r))
 
   -- Where t = 0 there is nothing to carry.
   pub carried-none : (r : ℕ) (w : Word) → t ≡ 0 → r < 2 ^ (degree f * t) → r ≡ carried f t r w

@@ -1,4 +1,5 @@
 -- The parity of a block whose message arrives in pieces: what a reader must believe.
 pub mod State
 pub mod Calls
+pub mod Steps
 pub mod Cutting

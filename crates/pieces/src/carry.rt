@@ -1,4 +1,6 @@
-// The bits of a piece taken into the parity of the bits before them, through the kernel that pages are written by.
+// The bits of a piece taken into the parity of the bits before them: a long piece through the kernel that pages are written by, a
+// short one bit by bit, since making the table takes longer.
+use crate::bitwise::carried_by_bits;
 use field::Field;
 use remainder::Register;
 use remainder::runs::parity_more;
@@ -30,8 +32,8 @@ pub fn carried(f: Field, level: usize, state: Register, piece: &[u8]) -> Registe
     if level == 0 {
         return state;
     }
-    if piece.len() == 0 {
-        return state;
+    if piece.len() < 36 {
+        return carried_by_bits(f, level, state, piece);
     }
     carried_by_table(f, level, state, piece)
 }

@@ -5,7 +5,7 @@
 //
 // 1. A factor of degree 1 is read off, one of degree 2 solved by stored solutions of y^2 + y = v (quadratic.rt).
 // 2. A larger polynomial has all its roots in the field, and distinct, only if x^(2^m) modulo f is x; else there is nothing to
-//    propose (trace.rt).
+//    propose (trace.rt, by the remainders of register.rt).
 // 3. The trace of a^i x is 0 at some of the roots and 1 at the others, so it splits factors (split.rt). The traces for i < m together
 //    tell every two elements apart, so m rounds are enough.
 ghost use mathlib.Core.Path.{_≡_};
@@ -14,13 +14,13 @@ ghost use lib.ListN.{length};
 use field::Field;
 use quadratic::root;
 use rows::log_of;
-use rows::take_logs;
 use split::fitted;
 use split::split_all;
 use trace::conjugates;
 use trace::trace;
 
 mod quadratic;
+mod register;
 mod rows;
 mod split;
 mod trace;
@@ -40,7 +40,7 @@ fn reversed(c: &[u16; 128], len: usize) -> [u16; 64]
 
 // m: so many conjugates has an element, and so many traces tell every two elements apart.
 fn degree_of(f: Field) -> usize
-    ensures { λ r. ⌜ r ≤ 16 ⌝ }
+    ensures { λ r. ⌜ (9 ≤ r) × (r ≤ 16) ⌝ }
 {
     match f {
         Field::Thirteen => 13,
@@ -62,10 +62,8 @@ fn split_fully(
 {
     let n = f.longest() as usize;
     let m = degree_of(f);
-    let mut divisor = [0u16; 64];
     let mut rows = [0u16; 1024];
-    take_logs(logs, factors, 0, &mut divisor, 0, d);
-    if !conjugates(powers, logs, n, m, &divisor, d, &mut rows) {
+    if !conjugates(powers, logs, n, m, factors, d, &mut rows) {
         return false;
     }
     let mut i: usize = 0;

@@ -6,10 +6,12 @@
 ghost use mathlib.Core.Path.{_≡_};
 ghost use Prim.Native.Nat.{_+_, _*_, _≤_, _<_};
 ghost use lib.ListN.{length};
+use super::register::first_digit;
+use super::register::next_digit;
+use super::register::reduce;
 use super::rows::add_multiple;
-use super::rows::divide;
-use super::rows::scaled_term;
 use super::rows::take_logs;
+use super::rows::terms;
 use super::rows::wrapped;
 
 // The square of an element by its logarithm.
@@ -53,18 +55,21 @@ fn is_x(row: &[u16], count: usize) -> bool
     true
 }
 
-// Internal. Row k of 64 places becomes the logarithms of x^(2^k) modulo f, for k < m, where f has degree d and the logarithms
-// `divisor` below its leading 1. Whether x^(2^m) modulo f is x: so it is where all roots of f lie in the field and are distinct.
-pub fn conjugates(
+// Squares x m times modulo a polynomial of degree d with the given digits, and leaves the logarithms of x^(2^k) in row k. Whether the
+// last square is x.
+fn raise(
     powers: &[u16; 16384],
     logs: &[u16; 16384],
     n: usize,
     m: usize,
-    divisor: &[u16],
+    rows0: &[u64; 256],
+    rows1: &[u64; 256],
+    rows2: &[u64; 256],
+    rows3: &[u64; 256],
     d: usize,
     rows: &mut [u16],
 ) -> bool
-    requires { ⌜ (m ≤ 16) × (0 < d) × (d ≤ 62) × (d ≤ length (now divisor)) × (length (now rows) ≡ 1024) ⌝ }
+    requires { ⌜ (m ≤ 16) × (0 < d) × (d ≤ 62) × (length (now rows) ≡ 1024) ⌝ }
     ensures { λ r. ⌜ length (now (rows .exit)) ≡ length (now (rows .entry)) ⌝ }
 {
     let mut power = [0u16; 128];
@@ -74,10 +79,32 @@ pub fn conjugates(
         let at = 64 * k;
         take_logs(logs, &power, 0, rows, at, d);
         square(powers, n, rows, at, &mut power, d);
-        divide(powers, logs, n, &mut power, 0, d + d, divisor, d, 0);
+        let count = terms(&power, 0, d + d);
+        reduce(rows0, rows1, rows2, rows3, &mut power, count, d);
         k += 1;
     }
     is_x(&power, d)
+}
+
+// Internal. Row k of 64 places becomes the logarithms of x^(2^k) modulo f, for k < m, where f has the d coefficients `factor` below
+// its leading 1. Whether x^(2^m) modulo f is x: so it is where all roots of f lie in the field and are distinct.
+pub fn conjugates(
+    powers: &[u16; 16384],
+    logs: &[u16; 16384],
+    n: usize,
+    m: usize,
+    factor: &[u16],
+    d: usize,
+    rows: &mut [u16],
+) -> bool
+    requires { ⌜ (9 ≤ m) × (m ≤ 16) × (0 < d) × (d ≤ 62) × (d ≤ length (now factor)) × (length (now rows) ≡ 1024) ⌝ }
+    ensures { λ r. ⌜ length (now (rows .exit)) ≡ length (now (rows .entry)) ⌝ }
+{
+    let rows0 = first_digit(factor, d, m);
+    let rows1 = next_digit(&rows0, d, m);
+    let rows2 = next_digit(&rows1, d, m);
+    let rows3 = next_digit(&rows2, d, m);
+    raise(powers, logs, n, m, &rows0, &rows1, &rows2, &rows3, d, rows)
 }
 
 // Internal. The trace of a^i x modulo f, by the rows of its conjugates; `out` is 0 before.

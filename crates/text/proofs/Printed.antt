@@ -1,11 +1,10 @@
 -- A byte that is printed reads back.
-use mathlib.Core.Path.{_≡_, refl, _∙_}
-use Prim.Native.Nat.{ℕ, _+_, _-_, _*_, _/_, _%_, _<_, _≤_}
+use mathlib.Core.Path.{_≡_}
+use Prim.Native.Nat.{ℕ, _+_, _-_, _/_, _%_, _<_, _≤_}
 use native.Mathlib.Omega.{arith}
 use native.Mathlib.Decide.{decLt}
 use borrow.Author.Tests.{lt-ltb, le-ltb}
 use lib.ListN.{getD}
-use lib.Dec.{ltb}
 use Rattle.text.specs.Numbers.{digitOf}
 use Rattle.text.specs.Bytes.{pairOf}
 use Rattle.text.specs.Hex.{charOf, hexOf}

@@ -21,17 +21,8 @@ cast-n c = search needs
 degree-of-requires : tie.Need-degree-of-requires Inv-loop μ-loop
 degree-of-requires c κs = search needs
 
-slice-aggregate-take-logs : tie.Need-slice-aggregate-take-logs Inv-loop μ-loop
-slice-aggregate-take-logs c = search needs
-
-take-logs-requires : tie.Need-take-logs-requires Inv-loop μ-loop
-take-logs-requires c κs = search needs
-
 slice-aggregate-conjugates : tie.Need-slice-aggregate-conjugates Inv-loop μ-loop
 slice-aggregate-conjugates c = search needs
-
-slice-aggregate-conjugates-2 : tie.Need-slice-aggregate-conjugates-2 Inv-loop μ-loop
-slice-aggregate-conjugates-2 c = search needs
 
 conjugates-requires : tie.Need-conjugates-requires Inv-loop μ-loop
 conjugates-requires c κs = search needs
@@ -96,10 +87,7 @@ split-fully-spec =
     longest-requires
     cast-n
     degree-of-requires
-    slice-aggregate-take-logs
-    take-logs-requires
     slice-aggregate-conjugates
-    slice-aggregate-conjugates-2
     conjugates-requires
     same-length
     returns

@@ -1,5 +1,4 @@
 -- `fragments::request::has_lengths` meets its contract.
-use native.Mathlib.Omega.{arith}
 use borrow.Author.Needs.{needs}
 use mathlib.Core.Path.{refl}
 use Rattle.fragments.specs.Calls.{bytesFor}

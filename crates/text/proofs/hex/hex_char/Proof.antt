@@ -1,6 +1,5 @@
 -- `text::hex::hex_char` meets its contract.
 use mathlib.Core.Path.{refl}
-use native.Mathlib.Omega.{arith}
 use borrow.Author.Needs.{needs}
 use Rattle.text.proofs.Printed.{char-decimal, char-letter}
 use Rattle.text.proofs.hex.hex_char.Statement.{statement}

@@ -1,16 +1,16 @@
--- `root_finder::trace::conjugates` meets its contract.
+-- `root_finder::trace::raise` meets its contract.
 use mathlib.Core.Path.{_≡_}
 use Prim.Native.Nat.{_-_, _≤_}
 use borrow.Author.Needs.{needs}
 use lib.ListN.{length}
-use Rattle.root_finder.proofs.trace.conjugates.Statement.{statement}
-use Rattle.root_finder.proofs.trace.conjugates.Tie as tie
+use Rattle.root_finder.proofs.trace.raise.Statement.{statement}
+use Rattle.root_finder.proofs.trace.raise.Tie as tie
 
 abbrev Inv-loop : tie.InvT-loop
-Inv-loop powers logs n m divisor d rows₀ power₀ k₀ rows power k = (k ≤ m) × (length power ≡ 128) × (length rows ≡ length rows₀)
+Inv-loop powers logs n m rows0 rows1 rows2 rows3 d rows₀ power₀ k₀ rows power k = (k ≤ m) × (length power ≡ 128) × (length rows ≡ length rows₀)
 
 abbrev μ-loop : tie.MeasureT-loop
-μ-loop powers logs n m divisor d rows₀ power₀ k₀ rows power k = m - k
+μ-loop powers logs n m rows0 rows1 rows2 rows3 d rows₀ power₀ k₀ rows power k = m - k
 
 array-write-power : tie.Need-array-write-power Inv-loop μ-loop
 array-write-power c = search needs
@@ -33,14 +33,20 @@ slice-aggregate-square c = search needs
 square-requires : tie.Need-square-requires Inv-loop μ-loop
 square-requires c κs = search needs
 
-slice-aggregate-divide : tie.Need-slice-aggregate-divide Inv-loop μ-loop
-slice-aggregate-divide c = search needs
+slice-aggregate-terms : tie.Need-slice-aggregate-terms Inv-loop μ-loop
+slice-aggregate-terms c = search needs
 
-add-divide : tie.Need-add-divide Inv-loop μ-loop
-add-divide c = search needs
+add-terms : tie.Need-add-terms Inv-loop μ-loop
+add-terms c = search needs
 
-divide-requires : tie.Need-divide-requires Inv-loop μ-loop
-divide-requires c κs = search needs
+terms-requires : tie.Need-terms-requires Inv-loop μ-loop
+terms-requires c κs = search needs
+
+slice-aggregate-reduce : tie.Need-slice-aggregate-reduce Inv-loop μ-loop
+slice-aggregate-reduce c = search needs
+
+reduce-requires : tie.Need-reduce-requires Inv-loop μ-loop
+reduce-requires c κs = search needs
 
 add-k : tie.Need-add-k Inv-loop μ-loop
 add-k c = search needs
@@ -63,8 +69,8 @@ same-length c = search needs
 returns : tie.Need-returns Inv-loop μ-loop
 returns c = search needs
 
-pub conjugates-spec : {M : Type 1} → statement M
-conjugates-spec =
+pub raise-spec : {M : Type 1} → statement M
+raise-spec =
     tie.close
     (tie.spec
     Inv-loop
@@ -76,9 +82,11 @@ conjugates-spec =
     take-logs-requires
     slice-aggregate-square
     square-requires
-    slice-aggregate-divide
-    add-divide
-    divide-requires
+    slice-aggregate-terms
+    add-terms
+    terms-requires
+    slice-aggregate-reduce
+    reduce-requires
     add-k
     loop-less
     loop-again

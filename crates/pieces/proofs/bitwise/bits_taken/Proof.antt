@@ -1,0 +1,75 @@
+-- `pieces::bitwise::bits_taken` meets its contract.
+use Prim.Native.Nat.{_≤_, _<_, _-_, _*_}
+use mathlib.Core.Path.{_≡_, ap, _∙_}
+use native.Mathlib.Omega.{arith}
+use lib.ListN.{length}
+use borrow.Author.Needs.{needs}
+use Rattle.bits.specs.Bits.{bitOf, run}
+use Rattle.bits.proofs.Pages.{bitAt-lt}
+use Rattle.code.specs.Register.{register}
+use Rattle.remainder.specs.Remainder.{parityFrom}
+use Rattle.pieces.specs.State.{bitsOf}
+use Rattle.pieces.proofs.Single.{taken-below, run-start, run-next}
+use Rattle.pieces.proofs.bitwise.bits_taken.Statement.{statement}
+use Rattle.pieces.proofs.bitwise.bits_taken.Tie as tie
+
+abbrev Inv-loop : tie.InvT-loop
+Inv-loop row used piece n r₀ i₀ r i = (i ≤ n) × (register (r .words) ≡ parityFrom (64 * used) (register row) (register (r₀ .words)) (run (bitOf piece) 0 i))
+
+abbrev μ-loop : tie.MeasureT-loop
+μ-loop row used piece n r₀ i₀ r i = n - i
+
+mul-n : tie.Need-mul-n Inv-loop μ-loop
+mul-n c = search needs
+
+loop-holds : tie.Need-loop-holds Inv-loop μ-loop
+loop-holds c = (omega arith, run-start _ _ _ _)
+
+bit-at-requires : tie.Need-bit-at-requires Inv-loop μ-loop
+bit-at-requires c κs = search needs
+
+cast-bit-taken : tie.Need-cast-bit-taken Inv-loop μ-loop
+cast-bit-taken c = search needs
+
+bit-taken-requires : tie.Need-bit-taken-requires Inv-loop μ-loop
+bit-taken-requires c κs =
+    let s = c .before .before .before .before in
+    let b : c .bit-at .result < 2 = rw (c .bit-at .ensures) (bitAt-lt (s .args .piece .now) _) in
+    (s .pre .0, taken-below _ (s .args .row) (s .pre .0) _ _ (s .pre .1) (c .before .before .loop .inv .1), b)
+
+add-i : tie.Need-add-i Inv-loop μ-loop
+add-i c = search needs
+
+loop-less : tie.Need-loop-less Inv-loop μ-loop
+loop-less c = search needs
+
+loop-again : tie.Need-loop-again Inv-loop μ-loop
+loop-again c =
+    let s = c .before .before .before .before .before in
+    let l = c .before .before .before .loop in
+    let b : c .before .bit-at .result < 2 = rw (c .before .bit-at .ensures) (bitAt-lt (s .args .piece .now) _) in
+    (omega arith, run-next _ _ _ (s .args .piece .now) (l .i) (l .inv .1) (c .before .bit-at .ensures) b (c .bit-taken .ensures))
+
+returns : tie.Need-returns Inv-loop μ-loop
+unfolding bitsOf
+returns c =
+    let s = c .before .before .before .args in
+    let l = c .before .loop in
+    let e : l .i ≡ 8 * length (s .piece .now) = omega arith in
+    l .inv .1 ∙ ap (λ k. parityFrom (64 * s .used) (register (s .row)) (register (s .state .words)) (run (bitOf (s .piece .now)) 0 k)) e
+
+pub bits-taken-spec : {M : Type 1} → statement M
+bits-taken-spec =
+    tie.close
+    (tie.spec
+    Inv-loop
+    μ-loop
+    mul-n
+    loop-holds
+    bit-at-requires
+    cast-bit-taken
+    bit-taken-requires
+    add-i
+    loop-less
+    loop-again
+    returns)
