@@ -37,7 +37,7 @@
  *
  * An x86-64 processor with SSE2 switched on, the System V calling convention, memcpy and memset with C's meaning (a boot loader supplies its
  * own), and room on the stack: RUDDERFIG_STACK_.. below, without what memcpy and memset take. It needs nothing else, has no variables, can be
- * linked freestanding and runs at any address. About 180 kB of it are code and constants. The code uses the red zone: an interrupt must not
+ * linked freestanding and runs at any address. About 190 kB of it are code and constants. The code uses the red zone: an interrupt must not
  * write the 128 bytes below the stack pointer, so one that is taken on the same stack has to step over them. A large frame is touched page by
  * page from above, so that a guard page below the stack is always hit.
  */
