@@ -37,7 +37,7 @@
  *
  * An x86-64 processor with SSE2 switched on, the System V calling convention, memcpy and memset with C's meaning (a boot loader supplies its
  * own), and room on the stack: RUDDERFIG_STACK_.. below, without what memcpy and memset take. It needs nothing else, has no variables, can be
- * linked freestanding and runs at any address. About 160 kB of it are code and constants. The code uses the red zone: an interrupt must not
+ * linked freestanding and runs at any address. About 180 kB of it are code and constants. The code uses the red zone: an interrupt must not
  * write the 128 bytes below the stack pointer, so one that is taken on the same stack has to step over them. A large frame is touched page by
  * page from above, so that a guard page below the stack is always hit.
  */
@@ -74,15 +74,15 @@ enum rudderfig_reply_number {
 #define RUDDERFIG_STACK_LOCATE_BIT 256
 #define RUDDERFIG_STACK_BIT_POSITION 256
 #define RUDDERFIG_STACK_WRITE_PAGE 24576
-#define RUDDERFIG_STACK_READ_PAGE 126976
-#define RUDDERFIG_STACK_JUDGE_BLOCK 94208
-#define RUDDERFIG_STACK_LOCATE_ERRORS 73728
+#define RUDDERFIG_STACK_READ_PAGE 139264
+#define RUDDERFIG_STACK_JUDGE_BLOCK 102400
+#define RUDDERFIG_STACK_LOCATE_ERRORS 86016
 #define RUDDERFIG_STACK_CHECK_CLAIM 24576
 #define RUDDERFIG_STACK_EXPORT_FRAGMENTS 1024
 #define RUDDERFIG_STACK_IMPORT_FRAGMENTS 1024
 #define RUDDERFIG_STACK_PARITY_START 256
 #define RUDDERFIG_STACK_PARITY_FEED 24576
-#define RUDDERFIG_STACK_PARITY_FINISH 512
+#define RUDDERFIG_STACK_PARITY_FINISH 1024
 
 /* The largest of them. */
 #define RUDDERFIG_STACK RUDDERFIG_STACK_READ_PAGE
