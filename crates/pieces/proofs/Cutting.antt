@@ -8,18 +8,18 @@
 -- finish-short         finishing before that is 6, and finish-buffer: into a buffer of another length too
 -- cutting              start, feed any pieces that make up the message, finish: the parity of the message
 -- parity-last          the last mt bits of these bytes are the parity that a page has after the message
-use mathlib.Core.Path.{_≡_, refl, sym, ap, ap₂, _∙_, subst}
-use mathlib.Core.Bool.{Bool, true, false, true≢false}
+use mathlib.Core.Path.{_≡_, refl, sym, ap, ap₂, _∙_}
+use mathlib.Core.Bool.{Bool, true, false}
 use mathlib.Core.List.{List, [], _∷_, _++_}
-use Prim.Native.Nat.{ℕ, zero, suc, _+_, _-_, _*_, _/_, _%_, _^_, _≤_, _<_}
+use Prim.Native.Nat.{ℕ, suc, _+_, _-_, _*_, _/_, _%_, _^_, _≤_, _<_}
 use native.Mathlib.Omega.{arith}
 use native.Mathlib.Nat.{add-assoc, mod-eq-of-lt, lt-of-lt-of-le}
 use lib.ListN.{length, getD, replicate, length-append, List·getD-append}
 use lib.Seq.{getD-append-add}
 use lib.Dec.{eqb, leb}
 use lib.Pow.{pow-pos, pow-mono}
-use borrow.Author.Tests.{le-leb, lt-leb, leb-true, eq-eqb, ne-eqb}
-use Rattle.bits.specs.Bits.{bit, bitAt, bitOf, run, number, digits, bytes}
+use borrow.Author.Tests.{leb-true}
+use Rattle.bits.specs.Bits.{bit, bitAt, bitOf, run, number, digits}
 use Rattle.bits.proofs.Numbers.{digits-length, digits-at, number-digits}
 use Rattle.bits.proofs.Runs.{run-append, run-cong, run-ext}
 use Rattle.bits.proofs.Pages.{bytes-run}
@@ -34,13 +34,12 @@ use Rattle.code.proofs.Remainder.{remainder-below}
 use Rattle.remainder.specs.Remainder.{bytesOf}
 use Rattle.remainder.proofs.Fold.{parity-bits-below}
 use Rattle.pieces.specs.declared.State.{State}
-use Rattle.pieces.specs.declared.Answered.{Answered}
 use Rattle.pieces.specs.State.{bitsOf, carried, wordsOf, choiceOf, stateOf, after}
-use Rattle.pieces.specs.Calls.{blockReply, usable, parityBytes, answered, Finished, finished, startFor, startOf, feedIn, feedFor, feedOf, finishReply, finishIn, finishFor, finishOf}
+use Rattle.pieces.specs.Calls.{blockReply, usable, parityBytes, answered, finished, startFor, startOf, feedIn, feedFor, feedOf, finishIn, finishFor, finishOf}
 use Rattle.pieces.specs.Cutting.{joined, feeds, parityIn}
 use Rattle.pieces.proofs.Words.{register-words}
 use Rattle.pieces.proofs.Carrying.{carried-start, carried-append, carried-below}
-use Rattle.pieces.proofs.Replies.{right-level, Going, usable-going, going-usable, usable-level, start-done, feed-past, feed-taken, finish-early, finish-bytes, finish-right, finish-refused, finish-done}
+use Rattle.pieces.proofs.Replies.{right-level, Going, usable-going, going-usable, start-done, feed-past, feed-taken, finish-early, finish-bytes, finish-right, finish-refused, finish-done}
 
 append-assoc : (u v w : List ℕ) → (u ++ v) ++ w ≡ u ++ (v ++ w)
 append-assoc [] v w = refl

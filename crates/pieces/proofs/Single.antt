@@ -1,14 +1,13 @@
 -- Laws of the division bit by bit, with divisor and parity moved up to whole words.
 use mathlib.Core.Path.{_≡_, refl, sym, ap, ap₂, _∙_, subst}
-use mathlib.Core.Bool.{Bool, true, false}
-use mathlib.Core.List.{List, [], _∷_, _++_}
+use mathlib.Core.List.{List, [], _∷_}
 use Prim.Native.Nat.{ℕ, zero, suc, _+_, _-_, _*_, _/_, _%_, _^_, _<_, _≤_}
 use native.Mathlib.Omega.{arith}
 use native.Mathlib.Nat.{add-zero, zero-add, mod-eq-of-lt, le-trans}
 use lib.ListN.{length}
 use lib.Dec.{eqb}
 use lib.Bits.{bitXor, xor-zero-l, xor-self}
-use lib.Pow.{pow-pos, pow-mono, shr-lt, shr-shr, shl-shr, shl-lt}
+use lib.Pow.{pow-mono, shr-lt, shr-shr, shl-shr, shl-lt}
 use Rattle.bits.specs.Bits.{bit, bitAt, bitOf, run, digits}
 use Rattle.bits.proofs.Numbers.{bit-zero}
 use Rattle.bits.proofs.Runs.{run-append}
@@ -23,7 +22,7 @@ use Rattle.remainder.specs.Table.{width, rest}
 use Rattle.remainder.proofs.Words.{Words, register-mod}
 use Rattle.remainder.proofs.Parity.{rest-zero, rest-one, parity-digits, parity-append, parity-below, parity-up}
 use Rattle.remainder.proofs.Level.{made-words, made-room}
-use Rattle.pieces.specs.State.{bitsOf, carried}
+use Rattle.pieces.specs.State.{carried}
 use Rattle.pieces.specs.Steps.{Aligned}
 use Rattle.pieces.proofs.Carrying.{degree-some, carried-more}
 

@@ -1,15 +1,11 @@
 -- The state before the first byte.
-use mathlib.Core.Path.{_≡_, refl, sym, ap, _∙_}
-use mathlib.Core.Bool.{false}
-use mathlib.Core.List.{List, []}
+use mathlib.Core.Path.{_≡_, refl}
+use mathlib.Core.List.{[]}
 use Prim.Native.Nat.{ℕ, _*_}
 use lib.ListN.{replicate}
 use Rattle.bits.specs.Bits.{run}
 use Rattle.field.specs.declared.Field.{Field}
-use Rattle.field.specs.Field.{degree}
-use Rattle.code.specs.Generator.{remainder}
-use Rattle.pieces.specs.declared.State.{State}
-use Rattle.pieces.specs.State.{bitsOf, carried, wordsOf, choiceOf, stateOf}
+use Rattle.pieces.specs.State.{bitsOf, choiceOf, stateOf}
 use Rattle.pieces.proofs.Words.{wordsOf-zero}
 use Rattle.pieces.proofs.Carrying.{parity-none}
 

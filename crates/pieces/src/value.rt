@@ -10,7 +10,7 @@ use field::Field;
 use remainder::Register;
 use remainder::digits::to_bytes;
 ghost use mathlib.Core.Path.{_≡_};
-ghost use Prim.Native.Nat.{_+_, _*_, _≤_};
+ghost use Prim.Native.Nat.{_+_, _≤_};
 ghost use mathlib.Core.Bool.{true};
 ghost use lib.ListN.{length};
 ghost use Rattle.pieces.specs.State.{choiceOf, after};

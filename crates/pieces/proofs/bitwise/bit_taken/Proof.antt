@@ -1,5 +1,4 @@
 -- `pieces::bitwise::bit_taken` meets its contract.
-use Prim.Native.Nat.{_*_, _^_}
 use mathlib.Core.Path.{_≡_}
 use native.Mathlib.Omega.{arith}
 use native.Mathlib.Nat.{mod-lt}

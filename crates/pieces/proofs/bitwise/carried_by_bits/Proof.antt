@@ -1,8 +1,6 @@
 -- `pieces::bitwise::carried_by_bits` meets its contract.
-use Prim.Native.Nat.{_*_, _≤_, _<_}
-use mathlib.Core.Path.{_≡_}
+use Prim.Native.Nat.{_*_}
 use native.Mathlib.Omega.{arith}
-use lib.ListN.{length}
 use Rattle.remainder.proofs.Level.{made-words, made-room, made-raise}
 use Rattle.pieces.proofs.Single.{taken-below, divisor-aligned, moved-below, moved-room, moved-after, moved-back}
 use borrow.Author.Needs.{needs}

@@ -1,6 +1,5 @@
 -- `pieces::rules::block_reply` meets its contract.
-use Prim.Native.Nat.{_≤_, _*_}
-use mathlib.Core.Path.{_≡_}
+use Prim.Native.Nat.{_*_}
 use native.Mathlib.Omega.{arith}
 use Rattle.remainder.proofs.Fold.{parity-bits-below}
 use Rattle.pieces.proofs.Replies.{reply-level, reply-empty, reply-plain, reply-long, reply-right, longest-most}

@@ -1,6 +1,6 @@
 -- `pieces::rules::finish_reply` meets its contract.
-use Prim.Native.Nat.{_≤_, _*_, _+_, _/_}
-use mathlib.Core.Path.{_≡_, sym, ap, _∙_}
+use Prim.Native.Nat.{_*_, _+_, _/_}
+use mathlib.Core.Path.{sym, ap, _∙_}
 use native.Mathlib.Omega.{arith}
 use borrow.Author.Tests.{not-true, not-false}
 use Rattle.remainder.proofs.Fold.{parity-bits-below}

@@ -1,6 +1,6 @@
 -- `pieces::rules::is_usable` meets its contract.
-use Prim.Native.Nat.{_≤_, _*_}
-use mathlib.Core.Path.{_≡_, sym, _∙_}
+use Prim.Native.Nat.{_*_}
+use mathlib.Core.Path.{sym, _∙_}
 use native.Mathlib.Omega.{arith}
 use Rattle.remainder.proofs.Fold.{parity-bits-below}
 use Rattle.pieces.proofs.Replies.{right-level, usable-refused, usable-past, usable-below}

@@ -1,6 +1,4 @@
 -- `pieces::value::advanced` meets its contract.
-use mathlib.Core.Path.{_≡_, sym, _∙_}
-use native.Mathlib.Omega.{arith}
 use Rattle.pieces.specs.State.{after}
 use Rattle.pieces.proofs.Words.{words-number}
 use Rattle.pieces.proofs.Replies.{usable-going, usable-level, piece-short}

@@ -1,5 +1,5 @@
 -- `pieces::value::feed_in` meets its contract.
-use mathlib.Core.Path.{_≡_, sym, _∙_}
+use mathlib.Core.Path.{sym, _∙_}
 use native.Mathlib.Omega.{arith}
 use borrow.Author.Tests.{not-true, not-false}
 use Rattle.pieces.proofs.Replies.{usable-going, feed-unusable, feed-past, feed-taken}

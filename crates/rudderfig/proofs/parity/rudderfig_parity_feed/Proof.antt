@@ -1,6 +1,6 @@
 -- `rudderfig_parity_feed` meets its contract: a walk of its MIR, by hand. The borrow of the state is opened, the state is copied out, `fed` is called on it and the piece, the state that it returns is stored whole, and the borrow is
 -- closed at it. All that the proof knows of `fed` is that it meets its contract. Both structs are plain data: what one owns is made anew from its relation wherever it is asked for.
-use mathlib.Core.Path.{_≡_, refl, ap}
+use mathlib.Core.Path.{refl, ap}
 use Prim.Native.Nat.{ℕ}
 use mathlib.Core.List.{List, [], _∷_}
 use lib.ListN.{length}
@@ -29,7 +29,7 @@ use denote.Builtin.{u8, u64}
 use denote.Ref.{RefT, MutRef, now, ptr-vals, mut-tells}
 use denote.Signature.{plain}
 use denote.Slice.{sliceVal, ShrSlice, slice-vals, shr-slice-tells, shr-slice-lawful, shr-slice-copy}
-use denote.Steps.{only, opens, closes, owned, facts, peeks, heard, nothing}
+use denote.Steps.{only, opens, closes, owned, facts, heard, nothing}
 use denote.Struct.Laws as LL
 use denote.Struct.Steps.{spelt}
 use denote.Triple.Statement.{Contract, Triple}
