@@ -93,9 +93,10 @@ fn feed_in(f: Field, state: State, piece: &[u8]) -> Answered
         };
     }
     if state.size - state.fed < piece.len() as u64 {
+        let refused = state;
         return Answered {
             reply: 6,
-            state: state,
+            state: refused,
         };
     }
     let next = advanced(f, state, piece);
@@ -132,9 +133,10 @@ fn finish_in(f: Field, state: State, parity: &mut [u8]) -> Answered
     }
     let words = state.words;
     to_bytes(Register { words: words }, parity);
+    let finished = state;
     Answered {
         reply: 0,
-        state: state,
+        state: finished,
     }
 }
 
