@@ -3,7 +3,7 @@
  * worn, read back, and then ruined.
  *
  *     make lib
- *     cc -Iinclude host/c/first.c include/librudderfig.a -o first && ./first
+ *     cc -Iinclude host/c/first.c include/librudderfig.a -o target/first && target/first
  */
 #include <stdio.h>
 #include <string.h>
