@@ -1,5 +1,6 @@
 // The bits of a short piece one by one, with no table: the divisor and the parity so far are moved up until they fill whole words.
-use bits::read::bit_at;
+use bit_reader::next_bit;
+use bit_reader::steps::bit_or_zero;
 use code::generators::generator_row;
 use field::Field;
 use remainder::Register;
@@ -56,7 +57,8 @@ fn bits_taken(state: Register, row: [u64; 14], used: usize, piece: &[u8]) -> Reg
     let mut r = state;
     let mut i = 0;
     while i < n {
-        let b = bit_at(piece, i);
+        let read = next_bit(piece, i);
+        let b = bit_or_zero(read);
         r = bit_taken(r, row, used, b as u64);
         i += 1;
     }

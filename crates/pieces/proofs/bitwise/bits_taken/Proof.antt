@@ -6,6 +6,7 @@ use lib.ListN.{length}
 use borrow.Author.Needs.{needs}
 use Rattle.bits.specs.Bits.{bitOf, run}
 use Rattle.bits.proofs.Pages.{bitAt-lt}
+use Rattle.bit_reader.proofs.Walking.{bitIn-read}
 use Rattle.code.specs.Register.{register}
 use Rattle.remainder.specs.Remainder.{parityFrom}
 use Rattle.pieces.specs.State.{bitsOf}
@@ -25,17 +26,21 @@ mul-n c = search needs
 loop-holds : tie.Need-loop-holds Inv-loop μ-loop
 loop-holds c = (omega arith, run-start _ _ _ _)
 
-bit-at-requires : tie.Need-bit-at-requires Inv-loop μ-loop
-bit-at-requires c κs = search needs
+next-bit-requires : tie.Need-next-bit-requires Inv-loop μ-loop
+next-bit-requires c κs = search needs
+
+bit-or-zero-requires : tie.Need-bit-or-zero-requires Inv-loop μ-loop
+bit-or-zero-requires c κs = search needs
 
 cast-bit-taken : tie.Need-cast-bit-taken Inv-loop μ-loop
 cast-bit-taken c = search needs
 
 bit-taken-requires : tie.Need-bit-taken-requires Inv-loop μ-loop
 bit-taken-requires c κs =
-    let s = c .before .before .before .before in
-    let b : c .bit-at .result < 2 = rw (c .bit-at .ensures) (bitAt-lt (s .args .piece .now) _) in
-    (s .pre .0, taken-below _ (s .args .row) (s .pre .0) _ _ (s .pre .1) (c .before .before .loop .inv .1), b)
+    let s = c .before .before .before .before .before in
+    let l = c .before .before .before .loop in
+    let e = bitIn-read (s .args .piece .now) (l .i) (c .before .next-bit .ensures) (c .bit-or-zero .ensures) (omega arith) in
+    (s .pre .0, taken-below _ (s .args .row) (s .pre .0) _ _ (s .pre .1) (l .inv .1), rw e (bitAt-lt _ _))
 
 add-i : tie.Need-add-i Inv-loop μ-loop
 add-i c = search needs
@@ -45,10 +50,11 @@ loop-less c = search needs
 
 loop-again : tie.Need-loop-again Inv-loop μ-loop
 loop-again c =
-    let s = c .before .before .before .before .before in
-    let l = c .before .before .before .loop in
-    let b : c .before .bit-at .result < 2 = rw (c .before .bit-at .ensures) (bitAt-lt (s .args .piece .now) _) in
-    (omega arith, run-next _ _ _ (s .args .piece .now) (l .i) (l .inv .1) (c .before .bit-at .ensures) b (c .bit-taken .ensures))
+    let s = c .before .before .before .before .before .before in
+    let l = c .before .before .before .before .loop in
+    let e = bitIn-read (s .args .piece .now) (l .i) (c .before .before .next-bit .ensures) (c .before .bit-or-zero .ensures) (omega arith) in
+    let b : c .before .bit-or-zero .result < 2 = rw e (bitAt-lt _ _) in
+    (omega arith, run-next _ _ _ (s .args .piece .now) (l .i) (l .inv .1) e b (c .bit-taken .ensures))
 
 returns : tie.Need-returns Inv-loop μ-loop
 unfolding bitsOf
@@ -66,7 +72,8 @@ bits-taken-spec =
     μ-loop
     mul-n
     loop-holds
-    bit-at-requires
+    next-bit-requires
+    bit-or-zero-requires
     cast-bit-taken
     bit-taken-requires
     add-i
