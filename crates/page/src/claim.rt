@@ -95,7 +95,7 @@ fn is_code_flipped(
     let n = covered(shape);
     copy_bits(page, position, word, 0, n);
     flip_claims(claims, word, n);
-    let mut table = [0u64; 2304];
+    let mut table = [0u64; 3600];
     make_table(field, level, &mut table);
     let rest = remainder_of(field, level, &table, word, 0, n);
     is_zero(rest)

@@ -89,7 +89,7 @@ fn write_block(
 
 // Writes block 0, and leaves the table of the later blocks' generator. One table is made after the other in the same place.
 fn write_first(plan: Plan, table: &mut [u64], metadata: &[u8], data: &[u8], page: &mut [u8])
-    requires { ⌜ Planned plan × Lent plan (now metadata) (now «data») (now page) × (2304 ≤ length (now table)) ⌝ }
+    requires { ⌜ Planned plan × Lent plan (now metadata) (now «data») (now page) × (3600 ≤ length (now table)) ⌝ }
     ensures { λ r. ⌜ (now (page .exit)
         ≡ placed (now (page .entry)) 0 (encoded (plan .first) (run (bitOf (now (metadata .entry) ++ now («data» .entry))) 0 (plan .first .message))))
         × Table (plan .later .field) (plan .later .level) (now (table .exit)) ⌝ }
@@ -110,7 +110,7 @@ fn write_blocks(plan: Plan, metadata: &[u8], data: &[u8], page: &mut [u8])
     let blocks = plan.blocks;
     let first = plan.first;
     let later = plan.later;
-    let mut table = [0u64; 2304];
+    let mut table = [0u64; 3600];
     write_first(plan, &mut table, metadata, data, page);
     let mut at = first.message as usize;
     let mut block = 1;

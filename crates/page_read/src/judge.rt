@@ -34,7 +34,7 @@ fn own_remainder(plan: Plan, page: &[u8], block: u16) -> Register
     let shape = block_shape(plan, block);
     let f = shape.field;
     let t = shape.level as usize;
-    let mut table = [0u64; 2304];
+    let mut table = [0u64; 3600];
     make_table(f, t, &mut table);
     block_remainder(plan, page, &table, block)
 }

@@ -142,7 +142,7 @@ fn read_lent(
     let first = plan.first;
     let f = first.field;
     let t = first.level as usize;
-    let mut table = [0u64; 2304];
+    let mut table = [0u64; 3600];
     make_table(f, t, &mut table);
     let state = block_remainder(plan, page, &table, 0);
     later_table(plan, &mut table);

@@ -19,7 +19,7 @@ fn carried_by_table(f: Field, level: usize, state: Register, piece: &[u8]) -> Re
 {
     let t = 2 * level;
     let n = 8 * piece.len();
-    let mut table = [0u64; 2304];
+    let mut table = [0u64; 3600];
     make_table(f, t, &mut table);
     parity_more(f, t, &table, state, piece, 0, n)
 }

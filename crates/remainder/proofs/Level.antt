@@ -22,7 +22,7 @@ use Rattle.code.specs.Generator.{generator, remainder}
 use Rattle.code.proofs.Generator.{generator-monic}
 use Rattle.code.proofs.Remainder.{remainder-below}
 use Rattle.remainder.specs.Remainder.{remainderFrom, parityFrom}
-use Rattle.remainder.specs.Table.{width, gap, rowOf, divisorOf, Filled, Rests, Table}
+use Rattle.remainder.specs.Table.{width, gap, place, rowOf, divisorOf, Filled, Rests, Table}
 use Rattle.remainder.proofs.Fold.{remainder-from, remainder-append, remainderFrom-short, degree-most, parity-bits-below}
 use Rattle.remainder.proofs.Filling.{divisor-rest}
 use Rattle.remainder.proofs.Parity.{rest-one, from-word, parity-message, parity-append, parity-up}
@@ -135,8 +135,8 @@ module _ (f : Field) (t : ℕ) where
         let n : g * 2 ^ k < 2 ^ (suc d + k) = shl-lt (suc d) k (omega arith) in
         le-trans n (pow-mono {i = suc d + k} {j = 896} (omega arith))
 
-    pub table-made : {words : List ℕ} {g x : ℕ} → g ≡ generator f t → x ≡ g * 2 ^ (64 * u - d) → Filled u (2 ^ (64 * u) + x % 2 ^ (64 * u)) 256 words → Table f t words
-    unfolding divisorOf gap
+    pub table-made : {words : List ℕ} {g x : ℕ} → g ≡ generator f t → x ≡ g * 2 ^ (64 * u - d) → Filled u (2 ^ (64 * u) + x % 2 ^ (64 * u)) 400 words → Table f t words
+    unfolding divisorOf gap place
     table-made {words} {g} {x} eg ex filled =
         let r = made-room in
         let w = made-words in

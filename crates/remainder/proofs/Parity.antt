@@ -198,7 +198,7 @@ module _ (d g : ℕ) where
       parity-below r (b ∷ w) h =
           parity-below (parityStep d g r b) w (remainderStep-below d g (bitXor r (digit b * 2 ^ (d - 1))) false hg (xor-lt d r (digit b * 2 ^ (d - 1)) h (enters-below b)))
 
-      rest-below : (v : ℕ) → v < 2 ^ d → rest d g v < 2 ^ d
+      pub rest-below : (v : ℕ) → v < 2 ^ d → rest d g v < 2 ^ d
       unfolding rest
       rest-below v h = remainderFrom-below d g hg v (replicate d false) h
 

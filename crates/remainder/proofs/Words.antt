@@ -295,10 +295,25 @@ move-next ws vs q i h inv =
     let g : getD vs (i + q) 0 ≡ getD (drop q vs) i 0 = ap (λ k. getD vs k 0) (add-comm i q) ∙ sym (getD-drop q vs i 0) in
     low-store ws i (getD vs (i + q) 0) h ∙ rw (g, inv) (sym (low-next (drop q vs) i))
 
+-- words moved up by one place
+pub up-next : (ws vs : List ℕ) (i : ℕ) → 0 < i → i < length ws → low ws i ≡ low vs (i - 1) * 18446744073709551616
+    → low (set ws i (getD vs (i - 1) 0)) (i + 1) ≡ low vs (i + 1 - 1) * 18446744073709551616
+up-next ws vs i some h inv =
+    let n : ℕ = i - 1 in
+    let e : i ≡ n + 1 = omega arith in
+    let d : i + 1 - 1 ≡ n + 1 = omega arith in
+    let p : 2 ^ (64 * i) ≡ 18446744073709551616 * 2 ^ (64 * n) = ap (λ k. 2 ^ (64 * k)) e ∙ next-power n in
+    low-store ws i (getD vs n 0) h ∙ rw (d, p, inv, low-next vs n) (omega arith)
+
 pub zeros-at : (n k : ℕ) → _≡_ {A = ℕ} (getD (replicate n 0) k 0) 0
 zeros-at zero k = refl
 zeros-at (suc n) zero = refl
 zeros-at (suc n) (suc k) = zeros-at n k
+
+pub zeros-low : (n u : ℕ) → low (replicate n 0) u ≡ 0
+unfolding low
+zeros-low n zero = refl
+zeros-low n (suc u) = rw (zeros-at n u, zero-mul (2 ^ (64 * u))) (zero-add (low (replicate n 0) u) ∙ zeros-low n u)
 
 pub zeros-store : (ws : List ℕ) (i v : ℕ) → ((k : ℕ) → i ≤ k → getD ws k 0 ≡ 0) → (k : ℕ) → i + 1 ≤ k → getD (set ws i v) k 0 ≡ 0
 zeros-store ws i v z k h = getD-set-other ws i k v 0 (λ e. omega arith) ∙ z k (omega arith)

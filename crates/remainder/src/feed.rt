@@ -1,18 +1,16 @@
-// Coefficients of a message eight at a time, by the table of a divisor. A register has the parity so far in its first words, which it
-// fills: the divisor has the degree 64 used. Odd bits at the end go one by one.
+// Coefficients of a message 64 at a time, by the table of a divisor. A register has the parity so far in its first words, which it
+// fills: the divisor has the degree 64 used. Odd bits at the end go in one step.
 ghost use mathlib.Core.Path.{_≡_};
 ghost use Prim.Native.Nat.{_+_, _-_, _*_, _/_, _%_, _^_, _≤_, _<_};
-ghost use lib.ListN.{length, getD, drop};
+ghost use lib.ListN.{length, drop};
 ghost use lib.Bits.{bitXor};
 ghost use Rattle.bits.specs.Bits.{bitOf, run, digits};
 ghost use Rattle.field.specs.Field.{degree};
 ghost use Rattle.code.specs.Register.{low, register};
 ghost use Rattle.remainder.specs.Remainder.{parityFrom};
-ghost use Rattle.remainder.specs.Table.{divisorOf, Rests};
+ghost use Rattle.remainder.specs.Table.{rest, divisorOf, Rests};
 use crate::Register;
 use crate::divide::pushed;
-use bit_reader::next_bit;
-use bit_reader::steps::bit_or_zero;
 use bits::read::word_at;
 use field::Field;
 
@@ -27,7 +25,7 @@ pub fn parity_bits(f: Field, t: usize) -> usize
 
 // The k highest digits of the number in the first words of a register.
 fn top(state: Register, used: usize, k: usize) -> u64
-    requires { ⌜ (0 < used) × (used ≤ 14) × (0 < k) × (k ≤ 8) × (register (state .words) < 2 ^ (64 * used)) ⌝ }
+    requires { ⌜ (0 < used) × (used ≤ 14) × (0 < k) × (k ≤ 64) × (register (state .words) < 2 ^ (64 * used)) ⌝ }
     ensures { λ r. ⌜ r ≡ register (state .words) / 2 ^ (64 * used - k) ⌝ }
 {
     let words = state.words;
@@ -35,7 +33,7 @@ fn top(state: Register, used: usize, k: usize) -> u64
 }
 
 // The sum over GF(2) of the words of a table from `from` on and of the number in the first words of a register.
-fn row_added(state: Register, table: &[u64], from: usize, used: usize) -> Register
+pub fn row_added(state: Register, table: &[u64], from: usize, used: usize) -> Register
     requires { ⌜ (used ≤ 14) × (from + used ≤ length (now table)) × (register (state .words) < 2 ^ (64 * used)) ⌝ }
     ensures { λ r. ⌜ register (r .words) ≡ bitXor (low (drop from (now (table .entry))) used) (register (state .words)) ⌝ }
 {
@@ -48,16 +46,49 @@ fn row_added(state: Register, table: &[u64], from: usize, used: usize) -> Regist
     Register { words: words }
 }
 
-// Up to eight more coefficients of the message at once: the k digits of b.
-fn step_table(state: Register, table: &[u64], used: usize, k: usize, b: u64) -> Register
-    requires { ⌜ (Rests used (now table)) × (register (state .words) < 2 ^ (64 * used)) × (0 < k) × (k ≤ 8) × (b < 2 ^ k) ⌝ }
+// The sum over GF(2) of the remainder of v, moved up to the degree, and of the number in a register: the rows of the 13 digits of v.
+fn rows_added(state: Register, table: &[u64], used: usize, v: u64) -> Register
+    requires { ⌜ (Rests used (now table)) × (register (state .words) < 2 ^ (64 * used)) ⌝ }
+    ensures { λ r. ⌜ register (r .words)
+        ≡ bitXor (rest (64 * used) (divisorOf used (now (table .entry))) v) (register (state .words)) ⌝ }
+{
+    let mut r = state;
+    let mut left = v;
+    let mut k = 0usize;
+    while k < 13 {
+        let row = 32 * k + (left % 32) as usize;
+        r = row_added(r, table, row * used, used);
+        left = left >> 5;
+        k += 1;
+    }
+    r
+}
+
+// Up to 63 more coefficients of the message at once: the k digits of b.
+fn step_bits(state: Register, table: &[u64], used: usize, k: usize, b: u64) -> Register
+    requires { ⌜ (Rests used (now table)) × (register (state .words) < 2 ^ (64 * used)) × (0 < k) × (k < 64) × (b < 2 ^ k) ⌝ }
     ensures { λ r. ⌜ register (r .words)
         ≡ parityFrom (64 * used) (divisorOf used (now (table .entry))) (register (state .words)) (digits b k) ⌝ }
 {
     let highest = top(state, used, k);
-    let v = (highest ^ b) as usize;
+    let v = highest ^ b;
     let next = pushed(state, used, k, 0);
-    row_added(next, table, v * used, used)
+    rows_added(next, table, used, v)
+}
+
+// The number in the first words of a register times 2^64. What leaves those words is lost.
+fn word_up(state: Register, used: usize) -> Register
+    requires { ⌜ (0 < used) × (used ≤ 14) ⌝ }
+    ensures { λ r. ⌜ register (r .words) ≡ register (state .words) * 2 ^ 64 % 2 ^ (64 * used) ⌝ }
+{
+    let from = state.words;
+    let mut words = [0u64; 14];
+    let mut i = 1;
+    while i < used {
+        words[i] = from[i - 1];
+        i += 1;
+    }
+    Register { words: words }
 }
 
 // The 64 coefficients of a word, the highest digit first.
@@ -66,16 +97,10 @@ fn step_word(state: Register, table: &[u64], used: usize, w: u64) -> Register
     ensures { λ r. ⌜ register (r .words)
         ≡ parityFrom (64 * used) (divisorOf used (now (table .entry))) (register (state .words)) (digits w 64) ⌝ }
 {
-    let mut r = state;
-    let mut left = w;
-    let mut i = 0usize;
-    while i < 8 {
-        let b = left >> 56;
-        r = step_table(r, table, used, 8, b);
-        left = left << 8;
-        i += 1;
-    }
-    r
+    let words = state.words;
+    let v = words[used - 1] ^ w;
+    let next = word_up(state, used);
+    rows_added(next, table, used, v)
 }
 
 // A run of bits word by word: `count` words from position `at` on, wherever that lies in a byte.
@@ -101,48 +126,24 @@ fn feed_words(
     r
 }
 
-// Byte i of a slice.
-fn byte_or_zero(bytes: &[u8], i: usize) -> u8
-    ensures { λ r. ⌜ r ≡ getD (now (bytes .entry)) i 0 ⌝ }
-{
-    if i < bytes.len() { bytes[i] } else { 0 }
-}
-
-// The eight bits from bit k on, counted from the highest, of two bytes that follow each other: by one shift.
-fn eight_of(high: u8, low: u8, k: usize) -> u64
-    requires { ⌜ k < 8 ⌝ }
-    ensures { λ r. ⌜ r ≡ high * 2 ^ k % 256 + low / 2 ^ (8 - k) ⌝ }
-{
-    let pair = high as u64 * 256 + low as u64;
-    (pair >> (8 - k)) % 256
-}
-
-// The bytes of a run of bits: `count` of them from position `at` on, wherever that lies in a byte. Each byte of the slice is read once.
-fn feed_bytes(
+// A run of bits of which there are fewer than 64.
+fn feed_bits(
     state: Register,
     table: &[u64],
     used: usize,
     bytes: &[u8],
     at: usize,
-    count: usize,
+    n: usize,
 ) -> Register
-    requires { ⌜ (Rests used (now table)) × (register (state .words) < 2 ^ (64 * used)) × (at + 8 * count < 18446744073709551616) ⌝ }
+    requires { ⌜ (Rests used (now table)) × (register (state .words) < 2 ^ (64 * used)) × (n < 64) ⌝ }
     ensures { λ r. ⌜ register (r .words)
-        ≡ parityFrom (64 * used) (divisorOf used (now (table .entry))) (register (state .words)) (run (bitOf (now (bytes .entry))) at (8 * count)) ⌝ }
+        ≡ parityFrom (64 * used) (divisorOf used (now (table .entry))) (register (state .words)) (run (bitOf (now (bytes .entry))) at n) ⌝ }
 {
-    let first = at / 8;
-    let k = at % 8;
-    let mut r = state;
-    let mut high = byte_or_zero(bytes, first);
-    let mut fed = 0;
-    while fed < count {
-        let low = byte_or_zero(bytes, first + fed + 1);
-        let b = eight_of(high, low, k);
-        r = step_table(r, table, used, 8, b);
-        high = low;
-        fed += 1;
+    if n == 0 {
+        return state;
     }
-    r
+    let w = word_at(bytes, at);
+    step_bits(state, table, used, n, w >> (64 - n))
 }
 
 // Both with the numbers of words in use written out: the loops over words are then unrolled.
@@ -168,29 +169,7 @@ fn feed_words_fixed(
     feed_words(state, table, used, bytes, at, count)
 }
 
-fn feed_bytes_fixed(
-    state: Register,
-    table: &[u64],
-    used: usize,
-    bytes: &[u8],
-    at: usize,
-    count: usize,
-) -> Register
-    requires { ⌜ (Rests used (now table)) × (register (state .words) < 2 ^ (64 * used)) × (at + 8 * count < 18446744073709551616) ⌝ }
-    ensures { λ r. ⌜ register (r .words)
-        ≡ parityFrom (64 * used) (divisorOf used (now (table .entry))) (register (state .words)) (run (bitOf (now (bytes .entry))) at (8 * count)) ⌝ }
-{
-    if used == 4 {
-        return feed_bytes(state, table, 4, bytes, at, count);
-    }
-    if used == 9 {
-        return feed_bytes(state, table, 9, bytes, at, count);
-    }
-    feed_bytes(state, table, used, bytes, at, count)
-}
-
-// Bits of a run one by one.
-fn feed_bits(
+fn feed_bits_fixed(
     state: Register,
     table: &[u64],
     used: usize,
@@ -198,22 +177,20 @@ fn feed_bits(
     at: usize,
     n: usize,
 ) -> Register
-    requires { ⌜ (Rests used (now table)) × (register (state .words) < 2 ^ (64 * used)) × (at + n < 18446744073709551616) ⌝ }
+    requires { ⌜ (Rests used (now table)) × (register (state .words) < 2 ^ (64 * used)) × (n < 64) ⌝ }
     ensures { λ r. ⌜ register (r .words)
         ≡ parityFrom (64 * used) (divisorOf used (now (table .entry))) (register (state .words)) (run (bitOf (now (bytes .entry))) at n) ⌝ }
 {
-    let mut r = state;
-    let mut fed = 0;
-    while fed < n {
-        let read = next_bit(bytes, at + fed);
-        let b = bit_or_zero(read);
-        r = step_table(r, table, used, 1, b as u64);
-        fed += 1;
+    if used == 4 {
+        return feed_bits(state, table, 4, bytes, at, n);
     }
-    r
+    if used == 9 {
+        return feed_bits(state, table, 9, bytes, at, n);
+    }
+    feed_bits(state, table, used, bytes, at, n)
 }
 
-// Internal: a run of n bits: its words, then its bytes, then its odd bits.
+// Internal: a run of n bits: its words, then its odd bits.
 pub fn feed_run(
     state: Register,
     table: &[u64],
@@ -228,8 +205,5 @@ pub fn feed_run(
 {
     let long = n / 64;
     let most = feed_words_fixed(state, table, used, bytes, at, long);
-    let next = at + 64 * long;
-    let short = n % 64 / 8;
-    let whole = feed_bytes_fixed(most, table, used, bytes, next, short);
-    feed_bits(whole, table, used, bytes, next + 8 * short, n % 8)
+    feed_bits_fixed(most, table, used, bytes, at + 64 * long, n % 64)
 }

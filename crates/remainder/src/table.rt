@@ -1,14 +1,17 @@
-// The table of a divisor: the remainders of the numbers of eight digits, moved up to its degree. It is made row by row, two rows from one.
+// The table of a divisor: the remainders of the numbers of 64 digits of which only five in a row are not zero, moved up to its degree. It is
+// made row by row: those of the powers of 2 by doubling, the others as sums.
 ghost use mathlib.Core.Path.{_≡_};
-ghost use Prim.Native.Nat.{_+_, _*_, _/_, _%_, _^_, _≤_, _<_};
+ghost use Prim.Native.Nat.{_+_, _-_, _*_, _/_, _%_, _^_, _≤_, _<_};
 ghost use lib.ListN.{length, getD, drop};
 ghost use lib.Bits.{bitXor};
 ghost use Rattle.bits.specs.Bits.{bit};
 ghost use Rattle.code.specs.Register.{low, register};
-ghost use Rattle.remainder.specs.Table.{width, Filled, Only, Apart, Table};
+ghost use Rattle.remainder.specs.Table.{width, place, powerRow, rowOf, Filled, Only, Apart, Table};
 use crate::Register;
+use crate::coefficients::zero;
 use crate::divide::raised;
 use crate::feed::parity_bits;
+use crate::feed::row_added;
 use code::generators::generator_row;
 use field::Field;
 
@@ -32,7 +35,7 @@ fn clear_row(table: &mut [u64], used: usize)
 }
 
 // The words of a table from `to` on become twice the number in those from `from` on, without the digit that leaves them.
-fn double_row(table: &mut [u64], from: usize, to: usize, used: usize)
+fn double_words(table: &mut [u64], from: usize, to: usize, used: usize)
     requires { ⌜ (from + used ≤ to) × (to + used ≤ length (now table)) ⌝ }
     ensures { λ r. ⌜ (low (drop to (now (table .exit))) used ≡ low (drop from (now (table .entry))) used * 2 % 2 ^ (64 * used))
         × Only to used (now (table .entry)) (now (table .exit)) ⌝ }
@@ -48,7 +51,7 @@ fn double_row(table: &mut [u64], from: usize, to: usize, used: usize)
 }
 
 // The words of a table from `to` on become the sum over GF(2) of a divisor and of the number in those from `from` on.
-fn add_row(table: &mut [u64], divisor: [u64; 14], from: usize, to: usize, used: usize)
+fn add_words(table: &mut [u64], divisor: [u64; 14], from: usize, to: usize, used: usize)
     requires { ⌜ (used ≤ 14) × (from + used ≤ length (now table)) × (to + used ≤ length (now table)) × Apart from to used ⌝ }
     ensures { λ r. ⌜ (low (drop to (now (table .exit))) used ≡ bitXor (low divisor used) (low (drop from (now (table .entry))) used))
         × Only to used (now (table .entry)) (now (table .exit)) ⌝ }
@@ -57,6 +60,36 @@ fn add_row(table: &mut [u64], divisor: [u64; 14], from: usize, to: usize, used: 
     while i < used {
         table[to + i] = divisor[i] ^ table[from + i];
         i += 1;
+    }
+}
+
+// Both with the numbers of words in use written out: the loops over words are then unrolled.
+
+fn double_row(table: &mut [u64], from: usize, to: usize, used: usize)
+    requires { ⌜ (from + used ≤ to) × (to + used ≤ length (now table)) ⌝ }
+    ensures { λ r. ⌜ (low (drop to (now (table .exit))) used ≡ low (drop from (now (table .entry))) used * 2 % 2 ^ (64 * used))
+        × Only to used (now (table .entry)) (now (table .exit)) ⌝ }
+{
+    if used == 4 {
+        double_words(table, from, to, 4);
+    } else if used == 9 {
+        double_words(table, from, to, 9);
+    } else {
+        double_words(table, from, to, used);
+    }
+}
+
+fn add_row(table: &mut [u64], divisor: [u64; 14], from: usize, to: usize, used: usize)
+    requires { ⌜ (used ≤ 14) × (from + used ≤ length (now table)) × (to + used ≤ length (now table)) × Apart from to used ⌝ }
+    ensures { λ r. ⌜ (low (drop to (now (table .exit))) used ≡ bitXor (low divisor used) (low (drop from (now (table .entry))) used))
+        × Only to used (now (table .entry)) (now (table .exit)) ⌝ }
+{
+    if used == 4 {
+        add_words(table, divisor, from, to, 4);
+    } else if used == 9 {
+        add_words(table, divisor, from, to, 9);
+    } else {
+        add_words(table, divisor, from, to, used);
     }
 }
 
@@ -69,51 +102,97 @@ fn row_digit(table: &[u64], from: usize, p: usize) -> usize
     ((word >> (p % 64)) % 2) as usize
 }
 
-// Rows 2v and 2v + 1 of the table from row v: its double, and the double plus the divisor. The highest digit of row v says which is which.
-fn row_pair(table: &mut [u64], divisor: [u64; 14], used: usize, v: usize)
-    requires { ⌜ (Filled used (2 ^ (64 * used) + low divisor used) (2 * v) (now table)) × (0 < v) × (v < 128) ⌝ }
-    ensures { λ r. ⌜ Filled used (2 ^ (64 * used) + low divisor used) (2 * v + 2) (now (table .exit)) ⌝ }
+// One row more, the row `to`: the double of row `from`, less the divisor where a digit leaves it. The highest digit of row `from` says
+// which of the rows `to` and `to + 1` is the plain double; the other one is that plus the divisor. What is in row `to + 1` does not matter.
+fn double_next(table: &mut [u64], divisor: [u64; 14], used: usize, from: usize, to: usize)
+    requires { ⌜ (Filled used (2 ^ (64 * used) + low divisor used) to (now table)) × (from < to) × (to < 399) × (place from * 2 ≡ place to) ⌝ }
+    ensures { λ r. ⌜ Filled used (2 ^ (64 * used) + low divisor used) (to + 1) (now (table .exit)) ⌝ }
 {
-    let from = v * used;
-    let one = row_digit(table, from, 64 * used - 1);
-    let to = (v * 2 + one) * used;
-    double_row(table, from, to, used);
-    let other = (v * 2 + (1 - one)) * used;
-    add_row(table, divisor, to, other, used);
+    let start = from * used;
+    let one = row_digit(table, start, 64 * used - 1);
+    let plain = (to + one) * used;
+    double_row(table, start, plain, used);
+    let other = (to + (1 - one)) * used;
+    add_row(table, divisor, plain, other, used);
 }
 
-// Makes the table of a divisor of degree 64 used, given without its highest coefficient.
-fn fill(table: &mut [u64], divisor: [u64; 14], used: usize)
-    requires { ⌜ (0 < used) × (used ≤ 14) × (256 * used ≤ length (now table)) ⌝ }
-    ensures { λ r. ⌜ Filled used (2 ^ (64 * used) + low divisor used) 256 (now (table .exit)) ⌝ }
+// The row of 2^i.
+fn power_row(i: usize) -> usize
+    requires { ⌜ i < 65 ⌝ }
+    ensures { λ r. ⌜ r ≡ powerRow i ⌝ }
 {
-    clear_row(table, used);
-    add_row(table, divisor, 0, used, used);
+    32 * (i / 5) + (1usize << (i % 5))
+}
+
+// The words of row v of a table.
+fn row_of(table: &[u64], used: usize, v: usize) -> [u64; 14]
+    requires { ⌜ (used ≤ 14) × (v < 400) × (400 * used ≤ length (now table)) × (rowOf used (now table) v < 2 ^ (64 * used)) ⌝ }
+    ensures { λ r. ⌜ low r used ≡ rowOf used (now (table .entry)) v ⌝ }
+{
+    let state = row_added(zero(), table, v * used, used);
+    state.words
+}
+
+// The row of 2^i from that of 2^(i - 1), and its sums with the rows before it in the same digit.
+fn fill_power(table: &mut [u64], divisor: [u64; 14], used: usize, i: usize)
+    requires { ⌜ (Filled used (2 ^ (64 * used) + low divisor used) (powerRow i) (now table)) × (0 < i) × (i < 64) ⌝ }
+    ensures { λ r. ⌜ Filled used (2 ^ (64 * used) + low divisor used) (powerRow i + 2 ^ (i % 5)) (now (table .exit)) ⌝ }
+{
+    let from = power_row(i - 1);
+    let high = power_row(i);
+    let size = 1usize << (i % 5);
+    double_next(table, divisor, used, from, high);
+    let row = row_of(table, used, high);
     let mut v = 1;
-    while v < 128 {
-        row_pair(table, divisor, used, v);
+    while v < size {
+        add_row(
+            table,
+            row,
+            (high - size + v) * used,
+            (high + v) * used,
+            used,
+        );
         v += 1;
     }
 }
 
-// Makes the table of a divisor of degree 64 used, of which only the digits below that count. The numbers of words in use are written out:
-// the loops over words are then unrolled.
-fn fill_words(table: &mut [u64], divisor: [u64; 14], used: usize)
-    requires { ⌜ (0 < used) × (used ≤ 14) × (256 * used ≤ length (now table)) ⌝ }
-    ensures { λ r. ⌜ Filled used (2 ^ (64 * used) + register divisor % 2 ^ (64 * used)) 256 (now (table .exit)) ⌝ }
+// Row 0 of a digit, before its other rows: zero.
+fn start_digit(table: &mut [u64], divisor: [u64; 14], used: usize, i: usize)
+    requires { ⌜ (Filled used (2 ^ (64 * used) + low divisor used) (powerRow (i - 1) + 2 ^ ((i - 1) % 5)) (now table)) × (0 < i) × (i < 64) ⌝ }
+    ensures { λ r. ⌜ Filled used (2 ^ (64 * used) + low divisor used) (powerRow i) (now (table .exit)) ⌝ }
 {
-    if used == 4 {
-        fill(table, divisor, 4);
-    } else if used == 9 {
-        fill(table, divisor, 9);
-    } else {
-        fill(table, divisor, used);
+    if i % 5 == 0 {
+        let row = [0u64; 14];
+        add_row(table, row, 0, 32 * (i / 5) * used, used);
     }
+}
+
+// Makes the table of a divisor of degree 64 used, given without its highest coefficient.
+fn fill(table: &mut [u64], divisor: [u64; 14], used: usize)
+    requires { ⌜ (0 < used) × (used ≤ 14) × (400 * used ≤ length (now table)) ⌝ }
+    ensures { λ r. ⌜ Filled used (2 ^ (64 * used) + low divisor used) 400 (now (table .exit)) ⌝ }
+{
+    clear_row(table, used);
+    add_row(table, divisor, 0, used, used);
+    let mut i = 1;
+    while i < 64 {
+        start_digit(table, divisor, used, i);
+        fill_power(table, divisor, used, i);
+        i += 1;
+    }
+}
+
+// The same for a divisor of which only the digits below that count.
+fn fill_words(table: &mut [u64], divisor: [u64; 14], used: usize)
+    requires { ⌜ (0 < used) × (used ≤ 14) × (400 * used ≤ length (now table)) ⌝ }
+    ensures { λ r. ⌜ Filled used (2 ^ (64 * used) + register divisor % 2 ^ (64 * used)) 400 (now (table .exit)) ⌝ }
+{
+    fill(table, divisor, used);
 }
 
 // Internal: makes the table of the generator of the level t. At t = 0 there is nothing to divide by, and none is made.
 pub fn make_table(f: Field, t: usize, table: &mut [u64])
-    requires { ⌜ (t % 2 ≡ 0) × (t ≤ 40) × (2304 ≤ length (now table)) ⌝ }
+    requires { ⌜ (t % 2 ≡ 0) × (t ≤ 40) × (3600 ≤ length (now table)) ⌝ }
     ensures { λ r. ⌜ Table f t (now (table .exit)) ⌝ }
 {
     if t == 0 {
