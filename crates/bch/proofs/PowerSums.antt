@@ -4,13 +4,12 @@
 -- Squaring f s i v       v is s with the i first squares in place
 use mathlib.Core.Path.{_≡_, refl, sym, ap, ap₂, _∙_}
 use mathlib.Core.Bool.{Bool, true, false, cond}
-use mathlib.Core.List.{List, [], _∷_, _++_, append-nil}
+use mathlib.Core.List.{List, [], _∷_, _++_}
 use Prim.Native.Nat.{ℕ, zero, suc, _+_, _*_, _/_, _^_, _≤_, _<_}
 use native.Mathlib.Nat.{one-mul, add-mul}
 use native.Mathlib.Numerals.{add-one}
 use native.Mathlib.Omega.{arith}
 use native.Mathlib.Decide.{decLt, ℕ-discrete}
-use borrow.Author.Tests.{eq-eqb, ne-eqb}
 use lib.Dec.{eqb}
 use lib.Bits.{bitXor, xor-lt, xor-self, xor-zero-r}
 use lib.ListN.{length, getD, set, take, replicate, length-set, length-replicate, getD-replicate, List·getD-eq-default}
@@ -21,7 +20,6 @@ use Rattle.algebra.specs.Array.{coef}
 use Rattle.bits.specs.Bits.{bit, digits}
 use Rattle.bits.proofs.Numbers.{digits-length}
 use Rattle.field.specs.declared.Field.{Field}
-use Rattle.field.specs.declared.Field.the-variants.{Thirteen, Fourteen}
 use Rattle.field.specs.Field.{degree, modulus, longest, mul, product, a^, Elem}
 use Rattle.field.proofs.Xor.{xor-assoc, xor-eq}
 use Rattle.field.proofs.Order.{a^-below, a^-add}
@@ -34,7 +32,6 @@ use Rattle.code.specs.Locations.{listed, powerSum}
 use Rattle.code.proofs.Codeword.{value-square}
 use Rattle.code.proofs.Flips.{value-power-sum}
 use Rattle.code.proofs.Locations.{listed-power-sum}
-use Rattle.remainder.proofs.Fold.{parity-bits-below}
 use Rattle.bch.specs.KeyEquation.{Elements, series, PowerSums}
 use Rattle.bch.specs.PowerSums.{Decides, Summed, Agrees, Squared, Syndromes}
 use Rattle.bch.proofs.Element.{entry-below}
@@ -60,14 +57,6 @@ zeros-at n j = elim (decLt j n) [
   | yes h ↦ getD-replicate {A = ℕ} n j 0 0 h
   | no h ↦ List·getD-eq-default {A = ℕ} (replicate {A = ℕ} n 0) 0 (rw (length-replicate {A = ℕ} n 0) (omega arith))
 ]
-
--- Every exponent of a remainder is below the number of powers of a.
-pub term-below : (f : Field) (t : ℕ) {p : ℕ} → t ≤ 62 → p < degree f * t → p < longest f
-term-below f t {p} l h = go f (parity-bits-below f t l)
-  where
-    go : (g : Field) → degree f * t ≤ 868 → p < longest g
-    go Thirteen m = unfold longest in omega arith
-    go Fourteen m = unfold longest in omega arith
 
 module _ (f : Field) where
   pub elements-set : {l : List ℕ} (i v : ℕ) → i < 128 → Elements f l → v < 2 ^ degree f → Elements f (set l i v)
@@ -121,7 +110,7 @@ module _ (f : Field) where
 
   -- ---- the powers of several exponents, one after the other
 
-  powerSum-append : (ps qs : List ℕ) (j : ℕ) → powerSum f (ps ++ qs) j ≡ bitXor (powerSum f ps j) (powerSum f qs j)
+  pub powerSum-append : (ps qs : List ℕ) (j : ℕ) → powerSum f (ps ++ qs) j ≡ bitXor (powerSum f ps j) (powerSum f qs j)
   unfolding powerSum
   powerSum-append [] qs j = refl
   powerSum-append (p ∷ ps) qs j = ap (bitXor (a^ f (j * p))) (powerSum-append ps qs j) ∙ sym (xor-assoc (a^ f (j * p)) (powerSum f ps j) (powerSum f qs j))
@@ -150,16 +139,9 @@ module _ (f : Field) where
 
     -- ---- the terms of a remainder x
 
-    term-next : (x p : ℕ) → ascending (digits x (p + 1)) ≡ ascending (digits x p) ++ cond (eqb (bit x p) 1) (p ∷ []) []
+    pub term-next : (x p : ℕ) → ascending (digits x (p + 1)) ≡ ascending (digits x p) ++ cond (eqb (bit x p) 1) (p ∷ []) []
     unfolding ascending digits
     term-next x p = rw (add-one p, digits-length x p)
-
-    pub summed-term : {s v u : List ℕ} (x p : ℕ) → bit x p ≡ 1 → Summed f t s (ascending (digits x p)) v → Summed f t v (p ∷ []) u
-        → Summed f t s (ascending (digits x (p + 1))) u
-    summed-term x p e h g = rw (term-next x p, eq-eqb (bit x p) 1 e) (summed-append h g)
-
-    pub summed-no-term : {s v : List ℕ} (x p : ℕ) → (bit x p ≡ 1 → ⊥) → Summed f t s (ascending (digits x p)) v → Summed f t s (ascending (digits x (p + 1))) v
-    summed-no-term x p e h = rw (term-next x p, ne-eqb (bit x p) 1 e, append-nil (ascending (digits x p))) h
 
   -- ---- the squares
 
@@ -194,7 +176,7 @@ module _ (f : Field) where
 
   -- ---- the syndromes
 
-  listed-value : (w : Word) (j : ℕ) → powerSum f (ascending w) (suc j) ≡ value f w (a^ f (suc j))
+  pub listed-value : (w : Word) (j : ℕ) → powerSum f (ascending w) (suc j) ≡ value f w (a^ f (suc j))
   unfolding listed
   listed-value w j = sym (listed-power-sum f w j) ∙ sym (value-power-sum f w j)
 

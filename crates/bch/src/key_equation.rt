@@ -29,8 +29,8 @@ pub struct Recurrence {
     pub gap: usize,
 }
 
-// x a^e
-fn scaled(f: Field, powers: &[u16; 16384], logs: &[u16; 16384], x: u16, e: usize) -> u16
+// Internal. x a^e
+pub fn scaled(f: Field, powers: &[u16; 16384], logs: &[u16; 16384], x: u16, e: usize) -> u16
     requires { ⌜ Tables f (now powers) (now logs) ⌝ }
     requires { ⌜ (x < 2 ^ degree f) × (e < longest f) ⌝ }
     ensures { λ r. ⌜ Elem (degree f) (mul (degree f) (modulus f) x (a^ f e)) r ⌝ }

@@ -4,7 +4,8 @@
 //
 // It asks nothing of its caller. The steps:
 // 1. request.rt looks at the numbers and lengths, and makes the tables of powers and logarithms where the remainder is not zero.
-// 2. power_sums.rt works out the syndromes: the values of the remainder at a, a^2, .., a^(2t).
+// 2. power_sums.rt works out the syndromes, the values of the remainder at a, a^2, .., a^(2t): lanes.rt those at odd powers, side by
+//    side, and each of the others is a square.
 // 3. key_equation.rt finds the shortest recurrence of the syndromes by the algorithm of Berlekamp and Massey, whose coefficients are
 //    those of the error locator.
 // 4. locate.rt refuses a locator that is too long, and lets crate `root_finder` propose its roots. Where the proposal fails,
@@ -16,6 +17,7 @@
 // proofs/Remainder.antt that reply 9 is given exactly if there is no set, and that a refusal changes no place.
 pub mod answers;
 pub mod key_equation;
+pub mod lanes;
 pub mod locate;
 pub mod power_sums;
 mod request;

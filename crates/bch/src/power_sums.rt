@@ -4,23 +4,25 @@
 //   sums_agree     whether the power sums of a list of places are the syndromes
 //
 // The value of a polynomial at a^j is the sum of a^(jp) over the exponents p of its terms; it stands at the place j - 1 of an array.
-// Both functions go by one step, which adds the powers of one exponent to the sums with odd j. The sums with even j are squares.
+// The sums with odd j are worked out, for a remainder by lanes.rt, for a list of places by adding the powers of one after the other.
+// The sums with even j are squares.
 ghost use mathlib.Core.Path.{_≡_};
 ghost use mathlib.Core.List.{[], _∷_};
-ghost use Prim.Native.Nat.{ℕ, _+_, _<_, _≤_};
+ghost use Prim.Native.Nat.{ℕ, _+_, _*_, _^_, _<_, _≤_};
 ghost use lib.ListN.{getD, take};
-ghost use Rattle.field.specs.Field.{longest};
+ghost use Rattle.field.specs.Field.{degree, longest};
 ghost use Rattle.field.specs.Tables.{Tables};
 ghost use Rattle.powers.specs.Powers.{Powers};
 ghost use Rattle.code.specs.Register.{register};
 ghost use Rattle.bch.specs.KeyEquation.{Elements};
+ghost use Rattle.bch.specs.Lanes.{Spread};
 ghost use Rattle.bch.specs.PowerSums.{Decides, Summed, Agrees, Squared, Syndromes};
+use crate::lanes::fill_rows;
+use crate::lanes::lane_values;
 use field::Field;
 use field::tables::product_by_tables;
 use field::tables::wrap;
 use remainder::Register;
-use remainder::coefficients::coefficient;
-use remainder::feed::parity_bits;
 
 // Adds a^(jp) to the sum with each odd j below 2t.
 fn add_powers(f: Field, powers: &[u16; 16384], sums: &mut [u16; 128], t: usize, p: usize)
@@ -63,6 +65,22 @@ fn add_squares(
     }
 }
 
+// The lanes at the places of the sums with odd j.
+fn spread(lanes: &[u16; 64], t: usize) -> [u16; 128]
+    requires { ⌜ t ≤ 62 ⌝ }
+    ensures { λ r. ⌜ Spread t (now (lanes .entry)) r ⌝ }
+{
+    let mut sums = [0; 128];
+    let mut i: usize = 0;
+    while i < t {
+        let at = i + i;
+        let v = lanes[i];
+        sums[at] = v;
+        i += 1;
+    }
+    sums
+}
+
 // Internal. The values of a remainder at a, a^2, .., a^(2t).
 pub fn syndromes(
     f: Field,
@@ -72,18 +90,13 @@ pub fn syndromes(
     t: usize,
 ) -> [u16; 128]
     requires { ⌜ Tables f (now powers) (now logs) ⌝ }
-    requires { ⌜ t ≤ 62 ⌝ }
+    requires { ⌜ (t ≤ 62) × (register (state .words) < 2 ^ (degree f * t)) ⌝ }
     ensures { λ r. ⌜ Syndromes f t (register (state .words)) r ⌝ }
 {
-    let d = parity_bits(f, t);
-    let mut sums = [0; 128];
-    let mut p: usize = 0;
-    while p < d {
-        if coefficient(state, p) == 1 {
-            add_powers(f, powers, &mut sums, t, p);
-        }
-        p += 1;
-    }
+    let mut rows = [0u16; 2048];
+    fill_rows(powers, &mut rows, t);
+    let lanes = lane_values(f, powers, logs, &rows, state, t);
+    let mut sums = spread(&lanes, t);
     add_squares(f, powers, logs, &mut sums, t);
     sums
 }
