@@ -1,0 +1,2 @@
+-- The replies of document 01's table, and which of several is given.
+pub mod Replies

@@ -1,0 +1,58 @@
+-- The replies of document 01's table ("Replies"): the number of each refusal, the block beside it, and which of several is given.
+--
+-- number r             the number of a refusal; 0, done, is none of them
+-- block r              the block that goes with it: 0 except in reply 9
+-- verdictNumber v      the reply of a verdict: 0 where all rules are kept
+-- Rule                 one reply of a call: the refusal, and whether it applies
+-- verdict rules        the verdict by a list of rules in the order in which they are looked at: the first that applies decides
+-- reply rules          its number
+use mathlib.Core.Bool.{Bool, cond}
+use mathlib.Core.List.{List, [], _∷_}
+use Prim.Native.Nat.{ℕ}
+use Rattle.replies.specs.declared.Refusal.{Refusal}
+use Rattle.replies.specs.declared.Refusal.the-variants as refusal
+use Rattle.replies.specs.declared.Verdict.{Verdict}
+use Rattle.replies.specs.declared.Verdict.the-variants.{Passed, Refused}
+
+unfoldable pub number : Refusal → ℕ
+number refusal.LevelTooHigh = 1
+number refusal.EmptyMessage = 2
+number refusal.BlockTooLong = 3
+number refusal.PageTooSmall = 4
+number refusal.PageLength = 5
+number refusal.BufferLength = 6
+number refusal.OutOfRange = 7
+number refusal.RemainderTooWide = 8
+number (refusal.Uncorrectable b) = 9
+number refusal.ClaimWrong = 10
+
+unfoldable pub block : Refusal → ℕ
+block refusal.LevelTooHigh = 0
+block refusal.EmptyMessage = 0
+block refusal.BlockTooLong = 0
+block refusal.PageTooSmall = 0
+block refusal.PageLength = 0
+block refusal.BufferLength = 0
+block refusal.OutOfRange = 0
+block refusal.RemainderTooWide = 0
+block (refusal.Uncorrectable b) = b
+block refusal.ClaimWrong = 0
+
+unfoldable pub verdictNumber : Verdict → ℕ
+verdictNumber Passed = 0
+verdictNumber (Refused r) = number r
+
+pub record Rule : Type 0 where
+  pub applies : Bool
+  pub why : Refusal
+
+-- The entry of a list of rules.
+abbrev pub rule : Bool → Refusal → Rule
+rule applies why = record { applies = applies; why = why }
+
+unfoldable pub verdict : List Rule → Verdict
+verdict [] = Passed
+verdict (r ∷ rs) = cond (r .applies) (Refused (r .why)) (verdict rs)
+
+unfoldable pub reply : List Rule → ℕ
+reply rules = verdictNumber (verdict rules)
