@@ -1,5 +1,6 @@
 -- Laws of layouts.
 pub mod Plans
+pub mod Numbers
 pub mod Reasons
 pub mod Accepting
 pub mod Placing

@@ -9,6 +9,7 @@ use native.Mathlib.Nat.{eq-zero-or-pos, le-of-eq}
 use lib.Dec.{eqb, ltb}
 use borrow.Author.Tests.{ltb-true, lt-ltb, eq-eqb, ne-eqb}
 use Rattle.field.specs.Field.{longest}
+use Rattle.replies.specs.Replies.{number}
 use Rattle.layout.specs.declared.BlockFields.{BlockFields}
 use Rattle.layout.specs.declared.Layout.{Layout}
 use Rattle.layout.specs.declared.Plan.{Plan}
@@ -20,7 +21,7 @@ use Rattle.layout.specs.declared.Reason.{Reason}
 use Rattle.layout.specs.declared.Finding.{Finding}
 use Rattle.layout.specs.declared.Finding.the-variants.{Kept, Broken}
 use Rattle.layout.specs.Plan.{planOf, coveredOf, used}
-use Rattle.layout.specs.Acceptance.{test, levelRule, messageRule, lengthRule, roomRule, either, ofBlocks, findingOf, ruleNumber}
+use Rattle.layout.specs.Acceptance.{test, levelRule, messageRule, lengthRule, roomRule, either, ofBlocks, findingOf, ruleRefusal, ruleNumber}
 
 -- the reasons, with the two numbers compared
 unfoldable pub levelReason : Kind → BlockFields → Reason
@@ -134,12 +135,12 @@ decide-blocks {P = P} {Q = Q} n x y p q =
 
 decide-level : (kind : Kind) (fields : BlockFields) (n : ℕ) → 2 + kindRank kind ≡ n →
     Decides n (suc n) (λ r. (20 < fields .ecc) × (r ≡ levelReason kind fields)) (levelRule kind fields)
-unfolding levelRule levelReason rank ruleNumber
+unfolding levelRule levelReason rank ruleNumber ruleRefusal number
 decide-level kind fields n e = decide-test _ _ e (λ h. ltb-true _ _ h) (λ h. lt-ltb _ _ h)
 
 decide-message : (kind : Kind) (s : Shape) (n : ℕ) → 4 + kindRank kind ≡ n →
     Decides n (suc n) (λ r. (s .message < 1) × (r ≡ messageReason kind s)) (messageRule kind s)
-unfolding messageRule messageReason rank ruleNumber
+unfolding messageRule messageReason rank ruleNumber ruleRefusal number
 decide-message kind s n e = decide-test _ _ e (λ h. ltb-true _ _ h) (λ h. lt-ltb _ _ h)
 
 long-true : (t n m : ℕ) → cond (eqb t 0) false (ltb m n) ≡ true → (0 < t) × (m < n)
@@ -154,11 +155,11 @@ true-long t n m h = simp (ne-eqb t 0 (λ e. omega (arith, h .0)), lt-ltb m n (h 
 
 decide-length : (kind : Kind) (s : Shape) (n : ℕ) → 6 + kindRank kind ≡ n →
     Decides n (suc n) (λ r. ((0 < s .level) × (longest (s .field) < coveredOf s)) × (r ≡ lengthReason kind s)) (lengthRule kind s)
-unfolding lengthRule lengthReason rank ruleNumber
+unfolding lengthRule lengthReason rank ruleNumber ruleRefusal number
 decide-length kind s n e = decide-test _ _ e (long-true _ _ _) (true-long _ _ _)
 
 decide-room : (q : Plan) → Decides 8 9 (λ r. (8 * q .size < used q) × (r ≡ roomReason q)) (roomRule q)
-unfolding roomRule roomReason rank ruleNumber kindRank
+unfolding roomRule roomReason rank ruleNumber ruleRefusal number kindRank
 decide-room q = decide-test _ _ refl (λ h. ltb-true _ _ h) (λ h. lt-ltb _ _ h)
 
 module _ (l : Layout) where

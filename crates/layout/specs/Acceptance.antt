@@ -7,13 +7,17 @@
 -- findingOf l             the first broken rule of a layout
 -- judged l f              the answer to a layout by the finding f
 -- acceptance record       the answer to a layout record
--- ruleNumber, refusalReply   document 01's number of a rule and of a refusal
+-- ruleRefusal, refusalOf  what a broken rule and a refusal are in document 01's table (replies/Replies)
+-- ruleNumber, refusalReply   its number there
 use Prim.Native.Nat.{ℕ, _*_}
 use mathlib.Core.List.{List}
 use mathlib.Core.Bool.{Bool, true, false, cond}
 use lib.ListN.{length}
 use lib.Dec.{eqb, ltb}
 use Rattle.field.specs.Field.{longest}
+use Rattle.replies.specs.declared.Refusal as table
+use Rattle.replies.specs.declared.Refusal.the-variants as row
+use Rattle.replies.specs.Replies.{number}
 use Rattle.layout.specs.declared.BlockFields.{BlockFields}
 use Rattle.layout.specs.declared.Layout.{Layout}
 use Rattle.layout.specs.declared.Shape.{Shape}
@@ -80,15 +84,21 @@ judged l (Broken r) = Refused (refusal.Rule r)
 unfoldable pub acceptance : List ℕ → Acceptance
 acceptance rec = cond (eqb (length rec) 8) (judged (layoutOf rec) (findingOf (layoutOf rec))) (Refused refusal.RecordLength)
 
--- The reply of a broken rule.
-unfoldable pub ruleNumber : Rule → ℕ
-ruleNumber Level = 1
-ruleNumber Message = 2
-ruleNumber Length = 3
-ruleNumber Room = 4
+-- The replies 1 to 4 of document 01's table.
+unfoldable pub ruleRefusal : Rule → table.Refusal
+ruleRefusal Level = row.LevelTooHigh
+ruleRefusal Message = row.EmptyMessage
+ruleRefusal Length = row.BlockTooLong
+ruleRefusal Room = row.PageTooSmall
 
--- 6 for the record's length, 1 to 4 for a broken rule, 7 for a number outside its range.
+-- A record of another length is a lent buffer of another length, 6; a number outside its range is 7.
+unfoldable pub refusalOf : Refusal → table.Refusal
+refusalOf refusal.RecordLength = row.BufferLength
+refusalOf (refusal.Rule r) = ruleRefusal (r .rule)
+refusalOf refusal.Range = row.OutOfRange
+
+unfoldable pub ruleNumber : Rule → ℕ
+ruleNumber r = number (ruleRefusal r)
+
 unfoldable pub refusalReply : Refusal → ℕ
-refusalReply refusal.RecordLength = 6
-refusalReply (refusal.Rule r) = ruleNumber (r .rule)
-refusalReply refusal.Range = 7
+refusalReply r = number (refusalOf r)

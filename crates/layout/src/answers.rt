@@ -4,34 +4,49 @@ use crate::BitAnswer;
 use crate::PositionAnswer;
 use crate::Refusal;
 use crate::Rule;
+use replies::refusal_number;
 ghost use mathlib.Core.Path.{_≡_};
-ghost use Rattle.layout.specs.Acceptance.{ruleNumber, refusalReply};
+ghost use Rattle.layout.specs.Acceptance.{ruleRefusal, refusalOf, ruleNumber, refusalReply};
 ghost use Rattle.layout.specs.Answers.{acceptanceNumbers, bitNumbers, positionNumbers};
+
+// The case of document 01's table that a broken rule is.
+fn rule_refusal(rule: Rule) -> replies::Refusal
+    ensures { λ r. ⌜ r ≡ ruleRefusal rule ⌝ }
+{
+    match rule {
+        Rule::Level => replies::Refusal::LevelTooHigh,
+        Rule::Message => replies::Refusal::EmptyMessage,
+        Rule::Length => replies::Refusal::BlockTooLong,
+        Rule::Room => replies::Refusal::PageTooSmall,
+    }
+}
+
+// The case of document 01's table that a refusal is.
+pub fn refusal_of(refusal: Refusal) -> replies::Refusal
+    ensures { λ r. ⌜ r ≡ refusalOf refusal ⌝ }
+{
+    match refusal {
+        Refusal::RecordLength => replies::Refusal::BufferLength,
+        Refusal::Rule(reason) => {
+            let rule = reason.rule;
+            rule_refusal(rule)
+        }
+        Refusal::Range => replies::Refusal::OutOfRange,
+    }
+}
 
 // The number of a rule's reply.
 pub fn rule_number(rule: Rule) -> u8
     ensures { λ r. ⌜ r ≡ ruleNumber rule ⌝ }
 {
-    match rule {
-        Rule::Level => 1,
-        Rule::Message => 2,
-        Rule::Length => 3,
-        Rule::Room => 4,
-    }
+    refusal_number(rule_refusal(rule))
 }
 
 // The reply of a refusal.
 pub fn refusal_reply(refusal: Refusal) -> u8
     ensures { λ r. ⌜ r ≡ refusalReply refusal ⌝ }
 {
-    match refusal {
-        Refusal::RecordLength => 6,
-        Refusal::Rule(reason) => {
-            let rule = reason.rule;
-            rule_number(rule)
-        }
-        Refusal::Range => 7,
-    }
+    refusal_number(refusal_of(refusal))
 }
 
 // The reply of an answer to a layout record.

@@ -10,7 +10,7 @@
 //    definitions above this crate know a plan and no layout words; block b starts where block b - 1 ends, at any bit.
 // 3. rules.rt looks for the first rule that the layout breaks (`Finding`), block 0 before the later blocks.
 // 4. places.rt finds the block of a position by one division; positions and exponents of a block run against each other.
-// 5. answers.rt gives document 01's number of each answer.
+// 5. answers.rt gives the case of document 01's table that a refusal is, and the number of each answer.
 mod answers;
 mod fields;
 mod places;
@@ -20,6 +20,7 @@ mod sums;
 pub use answers::acceptance_reply;
 pub use answers::bit_reply;
 pub use answers::position_reply;
+pub use answers::refusal_of;
 pub use answers::refusal_reply;
 pub use answers::rule_number;
 use field::Field;

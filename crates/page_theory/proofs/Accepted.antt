@@ -1,45 +1,26 @@
--- Under an accepted layout record a call is the call under its plan; of a refused one the reply is 1, 2, 3, 4 or 6.
+-- Under an accepted layout record a call is the call under its plan.
 use mathlib.Core.Path.{_≡_, refl}
 use mathlib.Core.Bool.{Bool, true, false, cond}
 use mathlib.Core.List.{List}
-use Prim.Native.Nat.{ℕ, _<_}
+use Prim.Native.Nat.{ℕ}
 use native.Mathlib.Omega.{arith}
 use lib.ListN.{length}
 use lib.Dec.{eqb}
 use Rattle.layout.specs.declared.Plan.{Plan}
 use Rattle.layout.specs.declared.Layout.{Layout}
-use Rattle.layout.specs.declared.Rule.{Rule}
-use Rattle.layout.specs.declared.Rule.the-variants.{Level, Message, Length, Room}
 use Rattle.layout.specs.declared.Finding.{Finding}
 use Rattle.layout.specs.declared.Finding.the-variants.{Kept, Broken}
-use Rattle.layout.specs.declared.Refusal.{Refusal}
 use Rattle.layout.specs.declared.Refusal.the-variants as refusal
 use Rattle.layout.specs.declared.Acceptance.the-variants.{Accepted, Refused}
 use Rattle.layout.specs.Record.{layoutOf}
 use Rattle.layout.specs.Plan.{planOf, Valid}
-use Rattle.layout.specs.Acceptance.{findingOf, judged, acceptance, ruleNumber, refusalReply}
+use Rattle.layout.specs.Acceptance.{findingOf, judged, acceptance}
 use Rattle.layout.specs.Answers as numbers
 use Rattle.layout.specs.Answers.{acceptanceNumbers}
 use Rattle.layout.proofs.Accepting.{plan-valid}
+use Rattle.layout.proofs.Numbers.{refusal-reply-range}
 use Rattle.page_theory.specs.Damage.{Accepts}
 use Rattle.page_theory.specs.Calls.{writeIn, writeFor, writeOf, readIn, readFor, readOf, judgeIn, judgeFor, judgeOf, claimIn, claimFor, claimOf}
-
-rule-small : (r : Rule) → (0 < ruleNumber r) × (ruleNumber r < 7)
-unfolding ruleNumber
-rule-small Level = (omega arith, omega arith)
-rule-small Message = (omega arith, omega arith)
-rule-small Length = (omega arith, omega arith)
-rule-small Room = (omega arith, omega arith)
-
-pub refused-small : (rec : List ℕ) (r : Refusal) → acceptance rec ≡ Refused r → refusalReply r < 7
-unfolding acceptance judged refusalReply
-refused-small rec r e = go (eqb (length rec) 8) (findingOf (layoutOf rec)) e
-  where
-    go : (b : Bool) (f : Finding) → cond b (judged (layoutOf rec) f) (Refused refusal.RecordLength) ≡ Refused r
-        → refusalReply r < 7
-    go false f e = let k : r ≡ refusal.RecordLength = cc in rw k (omega arith)
-    go true Kept e = let z : _≡_ {A = ℕ} 0 1 = cc in absurd (omega arith)
-    go true (Broken x) e = let k : r ≡ refusal.Rule x = cc in rw k (rule-small (x .rule) .1)
 
 pub accepted-accepts : (rec : List ℕ) (l : Layout) → acceptance rec ≡ Accepted l → Accepts rec (planOf (layoutOf rec))
 unfolding acceptanceNumbers numbers.done
@@ -47,15 +28,15 @@ accepted-accepts rec l e = record { reply = rw e; plan = refl }
 
 module _ (rec : List ℕ) (q : Plan) (h : Accepts rec q) where
   accepts-both : (findingOf (layoutOf rec) ≡ Kept) × (acceptance rec ≡ Accepted (layoutOf rec))
-  unfolding acceptance judged acceptanceNumbers numbers.done numbers.refused refusalReply
+  unfolding acceptance judged acceptanceNumbers numbers.done numbers.refused
   accepts-both = go (eqb (length rec) 8) (findingOf (layoutOf rec)) (h .reply)
     where
       go : (b : Bool) (f : Finding)
           → acceptanceNumbers (cond b (judged (layoutOf rec) f) (Refused refusal.RecordLength)) .reply ≡ 0
           → (f ≡ Kept) × (cond b (judged (layoutOf rec) f) (Refused refusal.RecordLength) ≡ Accepted (layoutOf rec))
-      go false f e = absurd (omega arith)
+      go false f e = absurd (omega (arith, refusal-reply-range refusal.RecordLength .0))
       go true Kept e = (refl, refl)
-      go true (Broken r) e = absurd (omega (arith, rule-small (r .rule) .0))
+      go true (Broken r) e = absurd (omega (arith, refusal-reply-range (refusal.Rule r) .0))
 
   pub accepts-layout : acceptance rec ≡ Accepted (layoutOf rec)
   accepts-layout = accepts-both .1

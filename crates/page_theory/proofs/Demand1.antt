@@ -15,6 +15,7 @@ use Rattle.layout.specs.declared.Acceptance.the-variants.{Accepted, Refused}
 use Rattle.layout.specs.Plan.{planOf, field, level}
 use Rattle.layout.specs.Acceptance.{acceptance, refusalReply}
 use Rattle.code.specs.Outcome.{Outcome, good, ruined}
+use Rattle.layout.proofs.Numbers.{acceptance-refused-reply}
 use Rattle.page_theory.specs.Page.{pageOf, blockWord}
 use Rattle.page_theory.specs.Reading.{Reading, done, refused, outcome, reading}
 use Rattle.page_theory.specs.Claim.{Right, right?}
@@ -47,7 +48,6 @@ use Rattle.page_theory.specs.Calls.{
   claimFor,
   claimOf,
 }
-use Rattle.page_theory.proofs.Accepted.{refused-small}
 
 -- How writing ends: with a reply of the table, about block 0, and after a refusal the page is as it was lent.
 pub record WriteEnds (page : List ℕ) (r : Written) : Type 0 where
@@ -124,7 +124,7 @@ module _ (m d page : List ℕ) where
     where
       go : (a : Acceptance) → acceptance rec ≡ a → WriteEnds page (writeFor a m d page)
       go (Accepted l) h = write-in (planOf l)
-      go (Refused r) h = ends-write (refusalReply r) (refused-small rec r h)
+      go (Refused r) h = ends-write (refusalReply r) (acceptance-refused-reply rec r h)
 
 module _ (page m d c : List ℕ) where
   ends-read : (x : ℕ) → x < 7 → ReadEnds m d c (readEnded x 0 m d c)
@@ -150,7 +150,7 @@ module _ (page m d c : List ℕ) where
     where
       go : (a : Acceptance) → acceptance rec ≡ a → ReadEnds m d c (readFor a page m d c)
       go (Accepted l) h = read-in (planOf l)
-      go (Refused r) h = ends-read (refusalReply r) (refused-small rec r h)
+      go (Refused r) h = ends-read (refusalReply r) (acceptance-refused-reply rec r h)
 
 -- the replies about a page and a block number
 data BlockReply : ℕ → Type 0 where
@@ -191,7 +191,7 @@ module _ (page : List ℕ) (b : ℕ) where
     where
       go : (a : Acceptance) → acceptance rec ≡ a → JudgeEnds b (judgeFor a page b)
       go (Accepted l) h = judge-in (planOf l)
-      go (Refused r) h = ends-judge (refusalReply r) (refused-small rec r h)
+      go (Refused r) h = ends-judge (refusalReply r) (acceptance-refused-reply rec r h)
 
 module _ (page : List ℕ) (b : ℕ) (claims : List ℕ) where
   ends-claim : (x : ℕ) → x < 7 → ClaimEnds (claimEnded x)
@@ -218,4 +218,4 @@ module _ (page : List ℕ) (b : ℕ) (claims : List ℕ) where
     where
       go : (a : Acceptance) → acceptance rec ≡ a → ClaimEnds (claimFor a page b claims)
       go (Accepted l) h = claim-in (planOf l)
-      go (Refused r) h = ends-claim (refusalReply r) (refused-small rec r h)
+      go (Refused r) h = ends-claim (refusalReply r) (acceptance-refused-reply rec r h)

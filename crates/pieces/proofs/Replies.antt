@@ -11,8 +11,9 @@ use borrow.Author.Tests.{eq-eqb, ne-eqb, le-leb, lt-leb, lt-ltb, le-ltb, eqb-tru
 use Rattle.field.specs.declared.Field.{Field}
 use Rattle.field.specs.declared.Field.the-variants.{Thirteen, Fourteen}
 use Rattle.field.specs.Field.{degree, longest}
+use Rattle.replies.specs.Replies.{number}
 use Rattle.layout.specs.Plan.{coveredOf}
-use Rattle.layout.specs.Acceptance.{test, either, levelRule, messageRule, lengthRule, ruleNumber}
+use Rattle.layout.specs.Acceptance.{test, either, levelRule, messageRule, lengthRule, ruleRefusal, ruleNumber}
 use Rattle.code.specs.Register.{register}
 use Rattle.remainder.specs.Remainder.{bytesOf}
 use Rattle.remainder.proofs.Fold.{parity-bits-below}
@@ -29,22 +30,22 @@ longest-most Fourteen = omega arith
 
 module _ (f : Field) (level n : ℕ) where
   pub reply-level : 20 < level → 1 ≡ blockReply f level n
-  unfolding blockReply levelRule test either findingReply ruleNumber
+  unfolding blockReply levelRule test either findingReply ruleNumber ruleRefusal number
   reply-level h = rw (lt-ltb 20 level h)
 
   module _ (low : level ≤ 20) where
     pub reply-empty : n ≡ 0 → 2 ≡ blockReply f level n
-    unfolding blockReply levelRule messageRule shapeFor test either findingReply ruleNumber
+    unfolding blockReply levelRule messageRule shapeFor test either findingReply ruleNumber ruleRefusal number
     reply-empty e = rw (le-ltb 20 level low, lt-ltb (8 * n) 1 (omega arith))
 
     module _ (some : 0 < n) where
       pub reply-plain : level ≡ 0 → 0 ≡ blockReply f level n
-      unfolding blockReply levelRule messageRule lengthRule shapeFor test either findingReply ruleNumber
+      unfolding blockReply levelRule messageRule lengthRule shapeFor test either findingReply ruleNumber ruleRefusal number
       reply-plain e = rw (le-ltb 20 level low, le-ltb (8 * n) 1 (omega arith), eq-eqb (2 * level) 0 (omega arith))
 
       module _ (coded : 0 < level) where
         pub reply-long : longest f < 8 * n + degree f * (2 * level) → 3 ≡ blockReply f level n
-        unfolding blockReply levelRule messageRule lengthRule shapeFor coveredOf test either findingReply ruleNumber
+        unfolding blockReply levelRule messageRule lengthRule shapeFor coveredOf test either findingReply ruleNumber ruleRefusal number
         reply-long h = rw (
           le-ltb 20 level low,
           le-ltb (8 * n) 1 (omega arith),
@@ -53,7 +54,7 @@ module _ (f : Field) (level n : ℕ) where
         )
 
         pub reply-right : 8 * n + degree f * (2 * level) ≤ longest f → 0 ≡ blockReply f level n
-        unfolding blockReply levelRule messageRule lengthRule shapeFor coveredOf test either findingReply ruleNumber
+        unfolding blockReply levelRule messageRule lengthRule shapeFor coveredOf test either findingReply ruleNumber ruleRefusal number
         reply-right h = rw (
           le-ltb 20 level low,
           le-ltb (8 * n) 1 (omega arith),

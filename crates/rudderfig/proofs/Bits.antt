@@ -4,18 +4,16 @@ use mathlib.Core.Path.{_≡_}
 use mathlib.Core.List.{List}
 use Prim.Native.Nat.{ℕ, _+_, _*_, _/_, _%_, _<_}
 use native.Mathlib.Omega.{arith}
-use Rattle.layout.specs.declared.Rule.{Rule}
-use Rattle.layout.specs.declared.Rule.the-variants.{Level, Message, Length, Room}
 use Rattle.layout.specs.declared.Refusal.{Refusal}
-use Rattle.layout.specs.declared.Refusal.the-variants as refusal
 use Rattle.layout.specs.declared.Acceptance.{Acceptance}
 use Rattle.layout.specs.declared.Acceptance.the-variants as acceptance
 use Rattle.layout.specs.declared.BitAnswer.{BitAnswer}
 use Rattle.layout.specs.declared.BitAnswer.the-variants as bit
 use Rattle.layout.specs.declared.PositionAnswer.{PositionAnswer}
 use Rattle.layout.specs.declared.PositionAnswer.the-variants as position
-use Rattle.layout.specs.Acceptance.{ruleNumber, refusalReply}
+use Rattle.layout.specs.Acceptance.{refusalReply}
 use Rattle.layout.specs.Answers.{Numbers, done, refused, acceptanceNumbers, bitNumbers, positionNumbers}
+use Rattle.layout.proofs.Numbers.{refusal-reply-range}
 use Rattle.rudderfig.specs.Answer.{doneWord, refusedWord, replyIn, blockIn, kindIn, valueIn, Bare}
 use Rattle.rudderfig.specs.Bits.{acceptanceWord, bitWord, positionWord}
 use Rattle.rudderfig.proofs.Words.{done-reply, done-block, done-kind, done-value, done-bare, refused-reply, refused-block, refused-bare}
@@ -26,23 +24,10 @@ pub record Says (n : Numbers) (w : ℕ) : Type 0 where
   pub block : blockIn w ≡ n .block
   pub bare : Bare w
 
-rule-low : (r : Rule) → ruleNumber r < 256
-unfolding ruleNumber
-rule-low Level = omega arith
-rule-low Message = omega arith
-rule-low Length = omega arith
-rule-low Room = omega arith
-
-pub refusal-low : (r : Refusal) → refusalReply r < 256
-unfolding refusalReply
-refusal-low refusal.RecordLength = omega arith
-refusal-low (refusal.Rule r) = rule-low (r .rule)
-refusal-low refusal.Range = omega arith
-
 refused-says : (r : Refusal) → Says (refused r) (refusedWord (refusalReply r) 0)
 unfolding refused
 refused-says r =
-    let low = refusal-low r in
+    let low : refusalReply r < 256 = omega (arith, refusal-reply-range r .1) in
     record { reply = refused-reply low (omega arith); block = refused-block low (omega arith); bare = refused-bare low (omega arith) }
 
 done-says : {kind : ℕ} (values : List ℕ) (value : ℕ) → kind < 0x100 → Says (done values) (doneWord kind value)
