@@ -4,7 +4,7 @@
  * Link librudderfig.a, which `make lib` leaves beside this file. Eight calls answer the seven questions of the project's document 01, two more
  * hand a remainder to a hardware locator and take it back, and three take a block's message in pieces; the numbers and names below are the
  * documents'. Each call is total: any layout words, any lengths, any page content get an answer, and a caller has to have tested nothing. Each is
- * proved to return what its definition says, and to leave every lent byte as that definition says.
+ * proved to return what its definition says, and to leave every lent byte as that definition says. The header is C99, and C++.
  *
  *
  * The answer word
@@ -48,8 +48,13 @@
 #include <stdint.h>
 
 #ifdef __cplusplus
+#define RUDDERFIG_CAST(type, value) static_cast<type>(value)
 extern "C" {
+#else
+#define RUDDERFIG_CAST(type, value) ((type)(value))
 #endif
+
+#define RUDDERFIG_VERSION "0.2.0"
 
 enum rudderfig_reply_number {
     RUDDERFIG_DONE = 0,
@@ -87,10 +92,10 @@ enum rudderfig_reply_number {
 /* The largest of them. */
 #define RUDDERFIG_STACK RUDDERFIG_STACK_READ_PAGE
 
-static inline unsigned rudderfig_reply(uint64_t answer) { return (unsigned)(answer & 0xFF); }
-static inline unsigned rudderfig_block(uint64_t answer) { return (unsigned)(answer >> 8 & 0xFFFF); }
-static inline unsigned rudderfig_kind(uint64_t answer) { return (unsigned)(answer >> 24 & 0xFF); }
-static inline uint32_t rudderfig_value(uint64_t answer) { return (uint32_t)(answer >> 32); }
+static inline unsigned rudderfig_reply(uint64_t answer) { return RUDDERFIG_CAST(unsigned, answer & 0xFF); }
+static inline unsigned rudderfig_block(uint64_t answer) { return RUDDERFIG_CAST(unsigned, answer >> 8 & 0xFFFF); }
+static inline unsigned rudderfig_kind(uint64_t answer) { return RUDDERFIG_CAST(unsigned, answer >> 24 & 0xFF); }
+static inline uint32_t rudderfig_value(uint64_t answer) { return RUDDERFIG_CAST(uint32_t, answer >> 32); }
 
 /* What rudderfig_locate_bit answers of a page bit: in the tail, or else its block and its exponent there. */
 static inline int rudderfig_in_tail(uint64_t answer) { return rudderfig_kind(answer) == 1; }
@@ -206,6 +211,8 @@ uint64_t rudderfig_parity_feed(struct rudderfig_parity *state, const uint8_t *pi
  * state that no start has made; 6 where the message is not whole yet, or the buffer has another length. No value.
  */
 uint64_t rudderfig_parity_finish(struct rudderfig_parity *state, uint8_t *parity, size_t parity_len);
+
+#undef RUDDERFIG_CAST
 
 #ifdef __cplusplus
 }

@@ -31,6 +31,8 @@ pub mod decoder;
 pub mod field;
 pub mod fragments;
 pub mod guarded;
+#[cfg(feature = "archive")]
+pub mod interface;
 pub mod layout;
 pub mod library;
 pub mod locate;

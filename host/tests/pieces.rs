@@ -3,6 +3,10 @@
 use model::bits::bits_of;
 use model::field::FieldChoice;
 use model::guarded::Guarded;
+use model::interface::{
+    PARITY_WORDS as WORDS, Parity, rudderfig_parity_feed, rudderfig_parity_finish,
+    rudderfig_parity_start, rudderfig_write_page,
+};
 use model::layout::check_layout;
 use model::pieces::Pieces;
 use model::random::Random;
@@ -10,25 +14,8 @@ use model::reply::Refusal;
 use model::samples::layouts::{CASE_A, accepted_words};
 use model::samples::pages::WrittenPage;
 
-unsafe extern "C" {
-    fn rudderfig_parity_start(state: *mut u64, level_field: u64, choice: u64, length: u64) -> u64;
-    fn rudderfig_parity_feed(state: *mut u64, piece: *const u8, piece_len: usize) -> u64;
-    fn rudderfig_parity_finish(state: *mut u64, parity: *mut u8, parity_len: usize) -> u64;
-    fn rudderfig_write_page(
-        record: *const u8,
-        record_len: usize,
-        metadata: *const u8,
-        metadata_len: usize,
-        data: *const u8,
-        data_len: usize,
-        page: *mut u8,
-        page_len: usize,
-    ) -> u64;
-}
-
-/// The words of struct rudderfig_parity, in the order of crates/pieces/src/lib.rt: level field,
+/// The places of the words of a state, in the order of crates/pieces/src/lib.rt: level field,
 /// field choice, message length, bytes fed, and what is carried.
-const WORDS: usize = 18;
 const LEVEL: usize = 0;
 const CHOICE: usize = 1;
 const LENGTH: usize = 2;
@@ -48,9 +35,9 @@ impl State {
     }
 
     /// Lends the state to a call; the places around it must keep what they held.
-    fn lend(&mut self, random: &mut Random, call: impl FnOnce(*mut u64) -> u64) -> u64 {
+    fn lend(&mut self, random: &mut Random, call: impl FnOnce(*mut Parity) -> u64) -> u64 {
         let mut guarded = Guarded::new(&self.words, 0x5C5C_5C5C_5C5C_5C5C, random);
-        let answer = call(guarded.lend().as_mut_ptr());
+        let answer = call(guarded.lend().as_mut_ptr().cast());
         let content = guarded
             .content()
             .expect("a place beside the state was written");

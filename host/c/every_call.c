@@ -1,0 +1,125 @@
+/*
+ * Every call of rudderfig.h, with answers that another order of its arguments would change. A page of two blocks, each corrected up to 2 flips, is
+ * written from 2 bytes of metadata and 8 of data, worn, read, judged and claimed; a remainder is located and handed to a hardware locator; a message
+ * is taken in one piece. The program is C99 and C++. The exit status is 0 where every answer and every byte is as it should be; else the first line
+ * that was not is printed.
+ */
+#include <stdio.h>
+#include <string.h>
+
+#include "rudderfig.h"
+
+#define CHECK(right)                                    \
+    do                                                  \
+        if (!(right)) {                                 \
+            printf("line %d: not %s\n", __LINE__, #right); \
+            return 1;                                   \
+        }                                               \
+    while (0)
+
+enum { RECORD = 8, METADATA = 2, DATA = 8, COUNTS = 2, PAGE = 17 };
+
+static const uint8_t record[RECORD] = {0x01, 0x02, 0x08, 0x01, 0x00, 0x11, 0x08, 0x01};
+static const uint8_t metadata[METADATA] = {0xAB, 0xCD};
+static const uint8_t data[DATA] = {0x01, 0x23, 0x45, 0x67, 0x89, 0x9A, 0xBC, 0xDE};
+static const uint8_t message_0[6] = {0xAB, 0xCD, 0x01, 0x23, 0x45, 0x67};
+
+static int layouts(void)
+{
+    uint64_t answer;
+
+    CHECK(rudderfig_check_layout(record, RECORD) == RUDDERFIG_DONE);
+    CHECK(rudderfig_check_layout(record, RECORD - 1) == RUDDERFIG_BUFFER_LENGTH);
+
+    answer = rudderfig_locate_bit(record, RECORD, 75);
+    CHECK(rudderfig_reply(answer) == RUDDERFIG_DONE && !rudderfig_in_tail(answer));
+    CHECK(rudderfig_located_block(answer) == 1 && rudderfig_located_exponent(answer) == 56);
+    CHECK(rudderfig_in_tail(rudderfig_locate_bit(record, RECORD, 132)));
+
+    answer = rudderfig_bit_position(record, RECORD, 1, 56);
+    CHECK(rudderfig_reply(answer) == RUDDERFIG_DONE && rudderfig_value(answer) == 75);
+    return 0;
+}
+
+/* Bit 1 of block 0 and bits 0 and 5 of block 1 turned over: exponents 72, and 57 and 52. */
+static int pages(void)
+{
+    static const uint16_t right[2] = {57, 52};
+    uint8_t page[PAGE], metadata_read[METADATA] = {0, 0}, data_read[DATA] = {0}, counts[COUNTS] = {9, 9};
+    uint64_t answer;
+
+    memset(page, 0, PAGE);
+    CHECK(rudderfig_write_page(record, RECORD, metadata, METADATA, data, DATA, page, PAGE) == RUDDERFIG_DONE);
+    CHECK(memcmp(page, message_0, sizeof message_0) == 0);
+
+    page[0] = page[0] ^ 0x40;
+    page[9] = page[9] ^ 0x21;
+    CHECK(rudderfig_read_page(record, RECORD, page, PAGE, metadata_read, METADATA, data_read, DATA, counts, COUNTS) == RUDDERFIG_DONE);
+    CHECK(memcmp(metadata_read, metadata, METADATA) == 0 && memcmp(data_read, data, DATA) == 0);
+    CHECK(counts[0] == 1 && counts[1] == 2);
+
+    answer = rudderfig_judge_block(record, RECORD, page, PAGE, 1);
+    CHECK(rudderfig_reply(answer) == RUDDERFIG_DONE && rudderfig_value(answer) == 2);
+
+    CHECK(rudderfig_check_claim(record, RECORD, page, PAGE, 1, right, 2) == RUDDERFIG_DONE);
+    CHECK(rudderfig_check_claim(record, RECORD, page, PAGE, 0, right, 2) == RUDDERFIG_CLAIM_WRONG);
+
+    page[1] = page[1] ^ 0xFF;
+    answer = rudderfig_read_page(record, RECORD, page, PAGE, metadata_read, METADATA, data_read, DATA, counts, COUNTS);
+    CHECK(rudderfig_reply(answer) == RUDDERFIG_UNCORRECTABLE && rudderfig_block(answer) == 0);
+    return 0;
+}
+
+/* x^9 + x^3 with t = 4 and m = 14; for the hardware locator x^33 + x^3 with t = 8. */
+static int remainders(void)
+{
+    static const uint8_t two[7] = {0, 0, 0, 0, 0, 0x02, 0x08};
+    static const uint8_t apart[13] = {0, 0, 0, 0, 0, 0, 0, 0, 0x02, 0, 0, 0, 0x08};
+    uint16_t places[5] = {0xAAAA, 0xAAAA, 0xAAAA, 0xAAAA, 0xAAAA};
+    uint32_t fragments[RUDDERFIG_FRAGMENTS];
+    uint8_t back[13];
+    uint64_t answer;
+
+    answer = rudderfig_locate_errors(2, 1, 100, two, sizeof two, places, 5);
+    CHECK(rudderfig_reply(answer) == RUDDERFIG_DONE && rudderfig_value(answer) == 2);
+    CHECK(places[0] + places[1] == 12 && (places[0] == 3 || places[0] == 9) && places[2] == 0xAAAA);
+
+    memset(fragments, 0xFF, sizeof fragments);
+    CHECK(rudderfig_export_fragments(4, apart, sizeof apart, fragments, RUDDERFIG_FRAGMENTS) == RUDDERFIG_DONE);
+    CHECK(fragments[0] == 8 && fragments[1] == 2 && fragments[6] == 0);
+
+    memset(back, 0xFF, sizeof back);
+    CHECK(rudderfig_import_fragments(4, fragments, RUDDERFIG_FRAGMENTS, back, sizeof back) == RUDDERFIG_DONE);
+    CHECK(memcmp(back, apart, sizeof back) == 0);
+
+    fragments[6] = RUDDERFIG_START_BIT;
+    CHECK(rudderfig_import_fragments(4, fragments, RUDDERFIG_FRAGMENTS, back, sizeof back) == RUDDERFIG_REMAINDER_TOO_WIDE);
+    return 0;
+}
+
+/* The parity of block 0's message is that of the written page, which starts at bit 48 there. */
+static int pieces(void)
+{
+    struct rudderfig_parity state;
+    uint8_t page[PAGE], parity[4] = {0, 0, 0, 0};
+    uint32_t found, stored;
+
+    CHECK(rudderfig_write_page(record, RECORD, metadata, METADATA, data, DATA, page, PAGE) == RUDDERFIG_DONE);
+    stored = page[6] * UINT32_C(0x40000) + page[7] * UINT32_C(0x400) + page[8] * UINT32_C(4) + page[9] / 64;
+
+    memset(&state, 0xA5, sizeof state);
+    CHECK(rudderfig_parity_start(&state, 1, 0, sizeof message_0) == RUDDERFIG_DONE);
+    CHECK(rudderfig_parity_feed(&state, message_0, sizeof message_0) == RUDDERFIG_DONE);
+    CHECK(rudderfig_parity_finish(&state, parity, sizeof parity) == RUDDERFIG_DONE);
+    found = parity[0] * UINT32_C(0x1000000) + parity[1] * UINT32_C(0x10000) + parity[2] * UINT32_C(0x100) + parity[3];
+    CHECK(found == stored);
+    return 0;
+}
+
+int main(void)
+{
+    if (layouts() || pages() || remainders() || pieces())
+        return 1;
+    printf("every call of version %s answers as it should\n", RUDDERFIG_VERSION);
+    return 0;
+}
