@@ -72,8 +72,8 @@ enum rudderfig_reply_number {
 
 /*
  * Bytes of stack that a call takes at most, its return address included. `make lib` compares them with the machine code.
- * Most of it are the decoder's tables, which are made only where a block is damaged: reading an undamaged page takes about 56,000 bytes, judging
- * an undamaged block about 22,000.
+ * Most of it are the decoder's tables, which are made only where a block is damaged: reading an undamaged page takes about 66,000 bytes, judging
+ * an undamaged block about 32,000.
  */
 #define RUDDERFIG_STACK_CHECK_LAYOUT 256
 #define RUDDERFIG_STACK_LOCATE_BIT 256

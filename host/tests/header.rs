@@ -168,6 +168,23 @@ fn the_header_shows_the_version() {
     assert!(read("include/rudderfig.h").contains(&line));
 }
 
+/// The README's table of stack has every call of the header, with the header's figure.
+#[test]
+fn the_readme_states_the_stack_of_the_header() {
+    let (header, readme) = (read("include/rudderfig.h"), read("README.md"));
+    let table = readme.split("| Bytes of stack at most |").nth(1).unwrap();
+    let table = table.split("\n\n").next().unwrap();
+    for call in header_calls(&header) {
+        let name = format!("`{}`", call.name);
+        let row = table.lines().find(|row| row.contains(&name)).expect(&name);
+        let cell = row.split('|').nth(2).unwrap().trim();
+        let figure = cell.split(' ').next().unwrap().replace(',', "");
+        let of = call.name["rudderfig_".len()..].to_uppercase();
+        let line = format!("#define RUDDERFIG_STACK_{of} {figure}\n");
+        assert!(header.contains(&line), "{line}");
+    }
+}
+
 /// The buffers of rudderfig_locate_errors the other way round.
 fn swapped(header: &str) -> String {
     let right = "const uint8_t *remainder, size_t remainder_len,\n                                 uint16_t *places, size_t places_len";
