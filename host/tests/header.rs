@@ -162,10 +162,17 @@ fn a_state_has_as_many_words_in_the_header() {
 }
 
 #[test]
-fn the_header_shows_the_version() {
+fn header_and_archive_show_the_version() {
     let version = read("VERSION");
     let line = format!("#define RUDDERFIG_VERSION \"{}\"\n", version.trim());
     assert!(read("include/rudderfig.h").contains(&line));
+    let listed = Command::new("ar")
+        .args(["t", "include/librudderfig.a"])
+        .current_dir(ROOT)
+        .output()
+        .unwrap();
+    let object = format!("rudderfig-{}.o\n", version.trim());
+    assert_eq!(String::from_utf8_lossy(&listed.stdout), object);
 }
 
 /// The README's table of stack has every call of the header, with the header's figure.
