@@ -49,17 +49,6 @@ module _ (K : BinaryField) where
   pub pow-swap : (x : F) (m n : ℕ) → pow K (pow K x m) n ≡ pow K (pow K x n) m
   pow-swap x m n = pow-pow x m n ∙ ap (pow K x) (mul-comm m n) ∙ sym (pow-pow x n m)
 
-  -- An element of order N or more has N distinct powers.
-  pub powers-distinct : (a : F) (N : ℕ) → ¬ (a ≡ 𝟘) → ((k : ℕ) → 0 < k → k < N → ¬ (pow K a k ≡ 𝟙)) → Distinct K N (pow K a)
-  powers-distinct a N u h i j l m e =
-      h (j - i) (omega arith) (omega arith) (sym (add-nil-eq K 𝟙 (pow K a (j - i)) (K .no-divisors (pow K a i) _ product (pow-unit a i u))))
-    where
-      apart : j ≡ i + (j - i)
-      apart = omega arith
-
-      product : pow K a i ⊗ (𝟙 ⊕ pow K a (j - i)) ≡ 𝟘
-      product = K .mul-add _ _ _ ∙ rw (K .mul-one (pow K a i), ← pow-add a i (j - i), ← apart, ← e) (K .add-self (pow K a i))
-
   pub distinct-eq : (w : ℕ) (X : ℕ → F) → Distinct K w X → (i j : ℕ) → i < w → j < w → X i ≡ X j → i ≡ j
   distinct-eq w X d i j l m e = go (decLt i j) (decLt j i)
     where

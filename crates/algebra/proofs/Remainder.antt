@@ -1,6 +1,6 @@
 -- Laws of remainders: their value at the zeros of the polynomial, when they are zero, and that an encoded word has these zeros.
 use mathlib.Core.Path.{_≡_, refl, sym, ap, _∙_}
-use Prim.Native.Nat.{ℕ, zero, suc, _+_, _-_, _≤_, _<_}
+use Prim.Native.Nat.{ℕ, zero, suc, _-_, _≤_, _<_}
 use native.Mathlib.Omega.{arith}
 use Rattle.algebra.specs.Field.{BinaryField}
 use Rattle.algebra.specs.Series.{cons}
@@ -11,8 +11,6 @@ use Rattle.algebra.proofs.Polynomial.{
   pow-suc,
   horner-zero,
   horner-suc,
-  horner-cong,
-  horner-append,
   low-suc,
   low-add,
   low-scale,
@@ -39,10 +37,6 @@ module _ (K : BinaryField) (e : ℕ) (g : ℕ → K .carrier) where
   run-value f zero y z = low-nil K (suc e) (λ p. 𝟘) y (λ p l. refl) ∙ sym (horner-zero K f y)
   run-value f (suc n) y z = next-value (f n) (run K e g f n) y z ∙ ap (λ v. y ⊗ v ⊕ f n) (run-value f n y z) ∙ sym (horner-suc K f y n)
 
-  -- A word whose remainder is zero has the polynomial's zeros.
-  pub run-nil-zero : (f : ℕ → F) (n : ℕ) → ((p : ℕ) → p ≤ e → run K e g f n p ≡ 𝟘) → (y : F) → Zero K e g y → horner K f y n ≡ 𝟘
-  run-nil-zero f n h y z = sym (run-value f n y z) ∙ low-nil K (suc e) (run K e g f n) y (λ p l. h p (omega arith))
-
   -- And back, where the polynomial has e + 1 distinct zeros.
   pub zeros-run-nil : (f : ℕ → F) (n : ℕ) (Y : ℕ → F) → Distinct K (suc e) Y → ((i : ℕ) → i ≤ e → Zero K e g (Y i))
       → ((i : ℕ) → i ≤ e → horner K f (Y i) n ≡ 𝟘) → (p : ℕ) → p ≤ e → run K e g f n p ≡ 𝟘
@@ -64,18 +58,3 @@ module _ (K : BinaryField) (e : ℕ) (g : ℕ → K .carrier) where
   unfolding check
   check-value f zero y z = low-nil K (suc e) (λ p. 𝟘) y (λ p l. refl) ∙ sym (rw (horner-zero K f y) (simp ring))
   check-value f (suc n) y z = ahead-value (f n) (check K e g f n) y z ∙ rw (check-value f n y z, horner-suc K f y n) (simp ring)
-
-  -- A word w that is the message f followed by its check coefficients, the highest power first, has the polynomial's zeros.
-  pub encoded-zero : (f w : ℕ → F) (n : ℕ) → ((i : ℕ) → i < n → w i ≡ f i) → ((j : ℕ) → j ≤ e → w (n + j) ≡ check K e g f n (e - j))
-      → (y : F) → Zero K e g y → horner K w y (n + suc e) ≡ 𝟘
-  encoded-zero f w n h k y z =
-      horner-append K w y n (suc e)
-      ∙ rw (
-        horner-cong K w f y n h,
-        horner-cong K (λ j. w (n + j)) (λ j. check K e g f n (suc e - suc j)) y (suc e) (λ j l. k j (omega arith) ∙ ap (check K e g f n) (index j)),
-        ← low-horner K (suc e) (check K e g f n) y,
-        check-value f n y z,
-      ) (K .add-self _)
-    where
-      index : (j : ℕ) → e - j ≡ suc e - suc j
-      index j = omega arith

@@ -1,7 +1,7 @@
 -- Laws of words: counting, listing the ones, power sums, the least distance of the code, and decoding near a codeword.
 use mathlib.Core.Path.{_≡_, refl, sym, ap, ap₂, _∙_}
 use mathlib.Core.Bool.{Bool, true, false, cond}
-use Prim.Native.Nat.{ℕ, zero, suc, _+_, _-_, _≤_, _<_}
+use Prim.Native.Nat.{ℕ, zero, suc, _-_, _≤_, _<_}
 use native.Mathlib.Omega.{arith}
 use native.Mathlib.Decide.{decLt, ℕ-discrete}
 use borrow.Author.Tests.{eq-eqb, ne-eqb}
@@ -12,7 +12,7 @@ use Rattle.algebra.specs.Recurrence.{State, locator}
 use Rattle.algebra.specs.Word.{flip, differ, both, bump, count, Few, Lists, among, bit, Listing, power-sum, Codeword}
 use Rattle.algebra.proofs.Field.{ring, nil-mul, one-mul}
 use Rattle.algebra.proofs.Sum.{sum-zero, sum-suc, sum-cong, sum-add}
-use Rattle.algebra.proofs.Polynomial.{pow-suc, pow-add, pow-unit, pow-swap, horner-sum, horner-square, distinct-eq, powers-independent}
+use Rattle.algebra.proofs.Polynomial.{pow-suc, pow-unit, pow-swap, horner-sum, distinct-eq, powers-independent}
 use Rattle.algebra.proofs.Recurrence.{locator-generates, locator-roots, locator-length, locator-only}
 
 pub differ-false : (x y : Bool) → differ x y ≡ false → x ≡ y
@@ -231,11 +231,6 @@ module _ (K : BinaryField) where
       go s true h = rw (count-true b n h) (listing-longer b n (count b n) s h)
       go s false h = rw (count-false b n h) (listing-same b n (count b n) s h)
 
-  pub bit-square : (x : Bool) → bit K x ⊗ bit K x ≡ bit K x
-  unfolding bit
-  bit-square true = simp ring
-  bit-square false = simp ring
-
   pub bit-differ : (x y : Bool) → bit K (differ x y) ≡ bit K x ⊕ bit K y
   unfolding bit differ flip
   bit-differ true true = sym (K .add-self 𝟙)
@@ -264,16 +259,6 @@ module _ (K : BinaryField) (a : K .carrier) where
     where
       index : (p : ℕ) → p < n → p ≡ n - suc (n - suc p)
       index p l = omega arith
-
-  -- The power sum of twice an exponent is the square: a sum of bits is a sum of squares.
-  pub power-sum-square : (b : ℕ → Bool) (n j : ℕ) → power-sum K a b n (suc (j + j)) ≡ power-sum K a b n j ⊗ power-sum K a b n j
-  power-sum-square b n j =
-      power-sum-word b n (suc (j + j))
-      ∙ rw (twice, pow-add K a (suc j) (suc j), horner-square K (λ i. bit K (b (n - suc i))) (λ i. bit-square K (b (n - suc i))) (pow K a (suc j)) n)
-      (sym (ap₂ _⊗_ (power-sum-word b n j) (power-sum-word b n j)))
-    where
-      twice : suc (suc (j + j)) ≡ suc j + suc j
-      twice = omega arith
 
   pub power-sum-both : (r c : ℕ → Bool) (n j : ℕ) → power-sum K a (both r c) n j ≡ power-sum K a r n j ⊕ power-sum K a c n j
   unfolding power-sum

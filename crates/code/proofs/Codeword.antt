@@ -87,9 +87,6 @@ module _ (f : Field) where
   pub codeword-odd : (t : ℕ) (w : Word) → ((i : ℕ) → i < t → horner (gf f) (elements w) (pow (gf f) (a f) (suc (i + i))) (length w) ≡ gf f .nil) → Codeword f t w
   codeword-odd t w h = record { zeros = λ j l m. element-value w j (horner-odd-zeros (gf f) (elements w) (elements-square w) (a f) (length w) t h j l (omega arith)) }
 
-  pub codeword-values : (t : ℕ) (w : Word) → ((i : ℕ) → i < t → value f w (a^ f (suc (i + i))) ≡ 0) → Codeword f t w
-  codeword-values t w h = codeword-odd t w (λ i l. value-element w (suc (i + i)) (h i l))
-
   -- The word of zeros is a codeword of every level.
   zeros-valueOf : (n y k : ℕ) → valueOf f (replicate n false) y k ≡ 0
   unfolding valueOf digit

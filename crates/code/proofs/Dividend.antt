@@ -7,22 +7,20 @@ use mathlib.Core.Bool.{Bool, true, false, cond}
 use mathlib.Core.List.{_++_}
 use Prim.Native.Nat.{ℕ, zero, suc, _+_, _-_, _*_, _/_, _^_, _≤_, _<_}
 use native.Mathlib.Omega.{arith}
-use native.Mathlib.Decide.{decLt}
 use native.Mathlib.Nat.{add-zero, add-suc, div-eq-of-lt, div-one, sub-self, sub-zero, lt-of-le-of-lt, div-le-self}
 use lib.Pow.{pow-pos, shr-shr}
-use lib.ListN.{length, getD, replicate, replicate-append-replicate, length-append, length-replicate, getD-replicate, List·getD-append}
+use lib.ListN.{length, getD, replicate, replicate-append-replicate, length-replicate, getD-replicate, List·getD-append}
 use lib.Seq.{getD-append-add}
 use lib.Dec.{eqb}
 use lib.Bits.{bitXor, xor-self, xor-zero-l, xor-comm, xor-block}
-use Rattle.bits.specs.Bits.{bit, digit, digits, number}
-use Rattle.bits.proofs.Numbers.{digit-lt, bit-digit, bit-lt, digits-length, digits-at, digits-number, number-lt}
+use Rattle.bits.specs.Bits.{bit, digit, digits}
+use Rattle.bits.proofs.Numbers.{digit-lt, bit-digit, bit-lt, digits-length, digits-at}
 use Rattle.field.specs.declared.Field.{Field}
 use Rattle.field.specs.Field.{degree}
 use Rattle.field.proofs.Xor.{xor-assoc, xor-swap}
 use Rattle.algebra.specs.Word.{flip, differ}
 use Rattle.code.specs.Word.{Word}
 use Rattle.code.specs.Generator.{generator, remainderStep, remainderOf, remainder, parity}
-use Rattle.code.proofs.Codeword.{zeros-at}
 use Rattle.code.proofs.Polynomial.{oneAt, oneAt-xor, oneAt-high}
 
 -- ---- additive
@@ -95,14 +93,6 @@ unfolding remainderOf
 remainderOf-zeros d g k zero l = refl
 remainderOf-zeros d g k (suc n) l = rw (remainderOf-zeros d g k n (omega arith), getD-replicate k n false false l) (step-zero d g)
 
--- Zeros in front.
-pub remainder-zeros : (f : Field) (t k : ℕ) (w : Word) → remainder f t (replicate k false ++ w) ≡ remainder f t w
-unfolding remainder
-remainder-zeros f t k w =
-    ap (remainderOf (degree f * t) (generator f t) (replicate k false ++ w)) (length-append (replicate k false) w)
-    ∙ remainderOf-append (degree f * t) (generator f t) (replicate k false) w (length w)
-    ∙ rw (length-replicate k false, remainderOf-zeros (degree f * t) (generator f t) k k (omega arith)) (sym (remainderOf-from (degree f * t) (generator f t) w (length w)))
-
 -- ---- a dividend of degree below that of the divisor
 
 -- The first i digits of a number below 2^d.
@@ -129,40 +119,6 @@ digits-zero zero = refl
 digits-zero (suc n) = rw (oneAt-high 0 n (pow-pos n), digits-zero n)
 
 -- ---- a message and a stored parity
-
-pub remainder-stored : (f : Field) (t : ℕ) (m p : Word) → length p ≡ degree f * t
-    → remainder f t (m ++ p) ≡ bitXor (remainder f t (m ++ replicate (degree f * t) false)) (number p)
-remainder-stored f t m p l =
-    remainder-xor f t (m ++ zeros) (replicate (length m) false ++ p) (m ++ p) (sizes m zeros m p refl same) (sizes (replicate (length m) false) p m p (length-replicate (length m) false) refl) each
-    ∙ ap (bitXor (remainder f t (m ++ zeros))) (remainder-zeros f t (length m) p ∙ alone)
-  where
-    zeros : Word
-    zeros = replicate (degree f * t) false
-
-    same : length zeros ≡ length p
-    same = length-replicate (degree f * t) false ∙ sym l
-
-    sizes : (u v u' v' : Word) → length u ≡ length u' → length v ≡ length v' → length (u ++ v) ≡ length (u' ++ v')
-    sizes u v u' v' h k = rw (length-append u v, length-append u' v', h, k)
-
-    alone : remainder f t p ≡ number p
-    alone = let b : number p < 2 ^ (degree f * t) = rw (← l) (number-lt p) in
-        sym (ap (remainder f t) (digits-number p)) ∙ remainder-digits f t (length p) (number p) b (number-lt p)
-
-    left : (b : Bool) → b ≡ differ b false
-    left true = unfold differ flip in refl
-    left false = unfold differ flip in refl
-
-    each : (i : ℕ) → i < length (m ++ p) → getD (m ++ p) i false ≡ differ (getD (m ++ zeros) i false) (getD (replicate (length m) false ++ p) i false)
-    each i h = elim (decLt i (length m)) [
-      | yes k ↦ (let k' : i < length (replicate (length m) false) = rw (length-replicate (length m) false) k in
-          rw (List·getD-append m p false i k, List·getD-append m zeros false i k, List·getD-append (replicate (length m) false) p false i k', zeros-at (length m) i) (left (getD m i false)))
-      | no k ↦ (let e : i ≡ length m + (i - length m) = omega arith in
-          let second : getD (replicate (length m) false ++ p) (length m + (i - length m)) false ≡ getD p (i - length m) false =
-          ap (λ k. getD (replicate (length m) false ++ p) (k + (i - length m)) false) (sym (length-replicate (length m) false))
-          ∙ getD-append-add (replicate (length m) false) p (i - length m) false in
-          rw e (rw (second, getD-append-add m p (i - length m) false, getD-append-add m zeros (i - length m) false, zeros-at (degree f * t) (i - length m)) (unfold differ in refl)))
-    ]
 
 -- The parity of zeros is zeros.
 pub parity-zeros : (f : Field) (t k : ℕ) → parity f t (replicate k false) ≡ replicate (degree f * t) false

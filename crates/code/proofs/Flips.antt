@@ -1,24 +1,19 @@
 -- Flipping a list of exponents.
 --
 -- marks ps p       p stands in the list an odd number of times
--- Below n ps       each exponent of the list is below n
 use mathlib.Core.Path.{_≡_, refl, sym, ap, ap₂, _∙_}
 use mathlib.Core.Bool.{Bool, true, false, cond}
 use mathlib.Core.List.{List, [], _∷_, _++_}
 use Prim.Native.Nat.{ℕ, zero, suc, _+_, _*_, _≤_, _<_}
 use native.Mathlib.Omega.{arith}
 use native.Mathlib.Decide.{decLt}
-use native.Mathlib.Nat.{one-mul}
 use borrow.Author.Tests.{eqb-true, eqb-false, eq-eqb, ne-eqb}
-use lib.ListN.{length, getD, replicate, length-append, length-replicate}
+use lib.ListN.{length, getD, length-append}
 use lib.Dec.{eqb}
-use lib.Bits.{bitXor, xor-self, xor-zero-r}
+use lib.Bits.{bitXor}
 use Rattle.bits.specs.Bits.{digit}
 use Rattle.field.specs.declared.Field.{Field}
 use Rattle.field.specs.Field.{a^}
-use Rattle.field.proofs.Xor.{xor-eq}
-use Rattle.field.proofs.Order.{a^-positive}
-use Rattle.field.proofs.Primitive.{primitive}
 use Rattle.field.proofs.Instance.{gf, a, el, el-nil, el-add, el-pow}
 use Rattle.algebra.specs.Field.{BinaryField}
 use Rattle.algebra.specs.Sum.{sum}
@@ -28,21 +23,18 @@ use Rattle.algebra.specs.Word as word
 use Rattle.algebra.proofs.Field.{ring, nil-mul}
 use Rattle.algebra.proofs.Sum.{sum-suc, sum-nil}
 use Rattle.algebra.proofs.Polynomial.{pow-pow}
-use Rattle.algebra.proofs.Word.{power-sum-cong, power-sum-both}
+use Rattle.algebra.proofs.Word.{power-sum-both}
 use Rattle.code.specs.Word.{Word, ones, turned, flipped, ascending}
-use Rattle.code.specs.Code.{value, Codeword}
+pub use Rattle.code.specs.Word.{Below, none, one}
+use Rattle.code.specs.Code.{value}
 use Rattle.code.specs.Locations.{powerSum}
 use Rattle.code.proofs.Distance.{coefficient, coefficient-ext, coefficient-tail, coefficient-head}
-use Rattle.code.proofs.Codeword.{value-el, power-sum-value, codeword-values, zeros-codeword}
+use Rattle.code.proofs.Codeword.{value-el, power-sum-value}
 use Rattle.code.proofs.Repair.{repaired, repaired-length, repaired-coefficient}
 
 unfoldable pub marks : List ℕ → ℕ → Bool
 marks [] p = false
 marks (q ∷ ps) p = differ (eqb p q) (marks ps p)
-
-pub data Below (n : ℕ) : List ℕ → Type 0 where
-  none : Below n []
-  one : {p : ℕ} {ps : List ℕ} → p < n → Below n ps → Below n (p ∷ ps)
 
 differ-right : (x : Bool) → differ x false ≡ x
 unfolding differ flip
@@ -208,32 +200,3 @@ module _ (f : Field) where
 
   pub value-power-sum : (w : Word) (j : ℕ) → value f w (a^ f (suc j)) ≡ el f (power-sum (gf f) (a f) (coefficient w) (length w) j)
   value-power-sum w j = value-el f w (suc j) ∙ ap (el f) (sym (power-sum-value f w j))
-
-  -- Flipping a list of exponents adds its power sum to the value of a word.
-  pub flipped-value : (w : Word) (ps : List ℕ) (j : ℕ) → Below (length w) ps → 0 < j
-      → value f (flipped w ps) (a^ f j) ≡ bitXor (value f w (a^ f j)) (powerSum f ps j)
-  flipped-value w ps zero b l = absurd (omega arith)
-  flipped-value w ps (suc j) b l =
-      value-power-sum (flipped w ps) j
-      ∙ ap (el f) (rw (flipped-length w ps) (power-sum-cong (gf f) (a f) _ _ (length w) j (flipped-coefficient w ps)) ∙ power-sum-both (gf f) (a f) (coefficient w) (marks ps) (length w) j)
-      ∙ el-add f _ _ ∙ ap₂ bitXor (sym (value-power-sum w j)) (marks-power-sum (length w) ps j b)
-
-  -- The recheck of a list of exponents: its power sums are the odd syndromes of the word.
-  pub recheck-flipped : (t : ℕ) (w : Word) (ps : List ℕ) → Below (length w) ps
-      → ((i : ℕ) → i < t → value f w (a^ f (suc (i + i))) ≡ powerSum f ps (suc (i + i))) → Codeword f t (flipped w ps)
-  recheck-flipped t w ps b h = codeword-values f t (flipped w ps) (λ i l. flipped-value w ps (suc (i + i)) b (omega arith) ∙ rw (h i l) (xor-self (powerSum f ps (suc (i + i)))))
-
-  pub flipped-recheck : (t : ℕ) (w : Word) (ps : List ℕ) → Below (length w) ps → Codeword f t (flipped w ps) → (j : ℕ) → 0 < j → j ≤ 2 * t
-      → value f w (a^ f j) ≡ powerSum f ps j
-  flipped-recheck t w ps b c j l m = xor-eq _ _ (sym (flipped-value w ps j b l) ∙ c .zeros j l m)
-
-  -- A word with a single one is no codeword.
-  pub single-no-codeword : (t n p : ℕ) → 0 < t → p < n → Codeword f t (flipped (replicate n false) (p ∷ [])) → ⊥
-  unfolding powerSum
-  single-no-codeword t n p h l c =
-      let k : p < length (replicate n false) = rw (length-replicate n false) l in
-      let b : Below (length (replicate n false)) (p ∷ []) = one k none in
-      let z : value f (replicate n false) (a^ f 1) ≡ bitXor (a^ f (1 * p)) 0 = flipped-recheck t (replicate n false) (p ∷ []) b c 1 (omega arith) (omega arith) in
-      let e : value f (replicate n false) (a^ f 1) ≡ 0 = zeros-codeword f 1 n .zeros 1 (omega arith) (omega arith) in
-      let q : a^ f p ≡ 0 = sym (rw (xor-zero-r (a^ f (1 * p)), one-mul p) at z) ∙ e in
-      omega (arith, a^-positive (primitive f) p)

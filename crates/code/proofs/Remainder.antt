@@ -14,8 +14,8 @@ use Rattle.bits.specs.Bits.{bit, digit, digits}
 use Rattle.bits.proofs.Numbers.{digit-lt, digits-length}
 use Rattle.field.specs.declared.Field.{Field}
 use Rattle.field.specs.declared.Field.the-variants.{Thirteen, Fourteen}
-use Rattle.field.specs.Field.{degree, a^}
-use Rattle.field.proofs.Instance.{gf, a, el}
+use Rattle.field.specs.Field.{degree}
+use Rattle.field.proofs.Instance.{gf, a}
 use Rattle.algebra.specs.Field.{BinaryField}
 use Rattle.algebra.specs.Series.{cons}
 use Rattle.algebra.specs.Polynomial.{pow, horner, low}
@@ -25,9 +25,9 @@ use Rattle.algebra.proofs.Field.{ring, add-nil-eq, one-mul as one-mul-of}
 use Rattle.algebra.proofs.Polynomial.{horner-zero, horner-suc, low-suc}
 use Rattle.algebra.proofs.Remainder.{run-value, zeros-run-nil}
 use Rattle.code.specs.Word.{Word}
-use Rattle.code.specs.Code.{Codeword, value}
+use Rattle.code.specs.Code.{Codeword}
 use Rattle.code.specs.Generator.{generator, remainderStep, remainderOf, remainder, parity}
-use Rattle.code.proofs.Codeword.{elements, value-el, value-element, value-append, codeword-odd}
+use Rattle.code.proofs.Codeword.{elements, value-element, value-append, codeword-odd}
 use Rattle.code.proofs.Polynomial.{oneAt, oneAt-next, oneAt-none, terms, terms-next, terms-xor, terms-high, low-cong, valueAt, valueAt-zero, digits-value}
 use Rattle.code.proofs.Conjugates.{exponent}
 use Rattle.code.proofs.Generator.{bit-off, generator-monic, generator-zero, generator-codeword, conjugate-zero, conjugates-distinct}
@@ -216,12 +216,3 @@ remainder-value f t w j h l m = go (degree f * t) refl
         → valueAt (gf f) (degree f * t) (remainderOf (degree f * t) (generator f t) w (length w)) (pow (gf f) (a f) j) ≡ horner (gf f) (elements f w) (pow (gf f) (a f) j) (length w)
     go zero e = absurd (omega (arith, level-positive f t 0 (omega arith)))
     go (suc e) d = rw d (same-value f t h e d w j l m)
-
--- The same of numbers.
-pub remainder-syndrome : (f : Field) (t : ℕ) (w : Word) (j : ℕ) → t ≤ 62 → 0 < j → j ≤ 2 * t
-    → value f (digits (remainder f t w) (degree f * t)) (a^ f j) ≡ value f w (a^ f j)
-unfolding elements
-remainder-syndrome f t w j h l m =
-    value-el f (digits (remainder f t w) (degree f * t)) j
-    ∙ ap (el f) (rw (digits-length (remainder f t w) (degree f * t)) (digits-value (gf f) (degree f * t) (remainder f t w) _ ∙ remainder-value f t w j h l m))
-    ∙ sym (value-el f w j)

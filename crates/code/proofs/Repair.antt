@@ -6,7 +6,7 @@ use mathlib.Core.Path.{_≡_, sym, ap, _∙_}
 use mathlib.Core.Bool.{Bool, true, false}
 use Prim.Native.Nat.{ℕ, suc, _+_, _-_, _*_, _≤_, _<_}
 use native.Mathlib.Omega.{arith}
-use lib.ListN.{length, getD, take}
+use lib.ListN.{length, getD}
 use Rattle.bits.specs.Bits.{run}
 use Rattle.bits.proofs.Runs.{run-length, run-at}
 use Rattle.field.specs.declared.Field.{Field}
@@ -18,11 +18,9 @@ use Rattle.algebra.specs.Word.{differ, both, count, power-sum}
 use Rattle.algebra.proofs.Field.{add-nil-eq}
 use Rattle.algebra.proofs.Word.{differ-differ, count-cong, power-sum-cong, power-sum-both, near-corrected}
 use Rattle.code.specs.Word.{Word, distance}
-use Rattle.code.specs.Code.{Codeword, Near, Ruined, Fits}
-use Rattle.code.specs.Outcome.{good, judge}
+use Rattle.code.specs.Code.{Codeword, Near}
 use Rattle.code.proofs.Distance.{coefficient, coefficient-ext, count-distance}
 use Rattle.code.proofs.Codeword.{codeword-odd, power-sum-value, codeword-power-sums}
-use Rattle.code.proofs.Outcome.{judge-gives, near-gives}
 
 unfoldable pub repaired : Word → (ℕ → Bool) → Word
 repaired w e = run (λ i. differ (getD w i false) (e (length w - suc i))) 0 (length w)
@@ -48,12 +46,6 @@ repaired-distance w e =
 
 pub repaired-near : (f : Field) (t : ℕ) (w : Word) (e : ℕ → Bool) → Codeword f t (repaired w e) → count e (length w) ≤ t → Near f t w (repaired w e)
 repaired-near f t w e c l = record { same = repaired-length w e; code = c; close = rw (repaired-distance w e) l }
-
--- A repair at few enough places that gives a codeword is the outcome.
-pub judge-repaired : (f : Field) (t k : ℕ) (w : Word) (e : ℕ → Bool) → Fits f t (length w) → Codeword f t (repaired w e) → count e (length w) ≤ t
-    → judge f t k w ≡ good (take k (repaired w e)) (count e (length w))
-judge-repaired f t k w e h c l =
-    judge-gives f t k w _ _ h (near-gives f t k w (repaired w e) (repaired-near f t w e c l)) ∙ ap (good (take k (repaired w e))) (repaired-distance w e)
 
 -- The recheck: the repaired word is a codeword exactly if the power sums of the places are those of the word; the odd ones are enough.
 module _ (f : Field) (t : ℕ) (w : Word) (e : ℕ → Bool) where
@@ -84,6 +76,3 @@ module _ (f : Field) (t : ℕ) (w : Word) (h : length w ≤ longest f)
       (let n : count (both (coefficient w) (coefficient c)) (length w) ≡ distance w c = count-distance w c (sym (x .same)) in omega (arith, x .close))
       L b C T s e at-roots elsewhere p k)
       ∙ sym (repaired-coefficient w e p k))
-
-  pub ruined-repaired : (Near f t w (repaired w e) → ⊥) → Ruined f t w
-  ruined-repaired n = record { none = λ c x. n (rw (near-repaired c x) at x) }

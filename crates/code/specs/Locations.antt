@@ -7,7 +7,7 @@
 -- Locations            what locating answers: the listed exponents, or that there are none
 -- locate f t n r       the answer for a remainder r and a length n
 -- powerSum f ps j      the sum of a^(jp) over the exponents p of a list: what flipping them adds to the value of a word at a^j
-use mathlib.Core.Path.{_≡_, refl, sym, ap, _∙_}
+use mathlib.Core.Path.{_≡_, sym, ap, _∙_}
 use mathlib.Core.Bool.{true, false}
 use mathlib.Core.List.{List, [], _∷_}
 use Prim.Native.Nat.{ℕ, zero, suc, _+_, _*_, _≤_}

@@ -7,10 +7,11 @@
 -- ones w            the number of ones of a word
 -- turned w p        the word with the coefficient of x^p turned over
 -- flipped w ps      the word with the coefficient of x^p turned over for each p of a list
+-- Below n ps        each exponent of a list is below n
 -- ascending w       the exponents at which a word has a one, the lowest first
 use mathlib.Core.Bool.{Bool, true, false, cond}
 use mathlib.Core.List.{List, [], _∷_, _++_}
-use Prim.Native.Nat.{ℕ, _+_}
+use Prim.Native.Nat.{ℕ, _+_, _<_}
 use lib.ListN.{length}
 use lib.Dec.{eqb}
 use Rattle.algebra.specs.Word.{flip}
@@ -44,6 +45,11 @@ turned (b ∷ w) p = cond (eqb p (length w)) (flip b ∷ w) (b ∷ turned w p)
 unfoldable pub flipped : Word → List ℕ → Word
 flipped w [] = w
 flipped w (p ∷ ps) = flipped (turned w p) ps
+
+-- Exponents that a word of n bits has.
+pub data Below (n : ℕ) : List ℕ → Type 0 where
+  none : Below n []
+  one : {p : ℕ} {ps : List ℕ} → p < n → Below n ps → Below n (p ∷ ps)
 
 -- The first bit of b ∷ w, with the highest exponent, comes last.
 unfoldable pub ascending : Word → List ℕ

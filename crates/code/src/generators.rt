@@ -406,16 +406,16 @@ fn widened(row: [u64; 9]) -> [u64; 14]
     ]
 }
 
-// Internal. The generator of the level t = 2 level, in room enough for t = 62 and m = 14. At t = 0 it is 1.
+// The generator of the level t that is twice the level field, in room enough for t = 62 and m = 14. At t = 0 it is 1.
 // The table is put on the stack at each call: call this once for each kind of block of a page.
-pub fn generator_row(f: Field, level: usize) -> [u64; 14]
-    requires { ⌜ level ≤ 20 ⌝ }
-    ensures { λ r. ⌜ register r ≡ generator f (2 * level) ⌝ }
+pub fn generator_row(f: Field, ecc: usize) -> [u64; 14]
+    requires { ⌜ ecc ≤ 20 ⌝ }
+    ensures { λ r. ⌜ register r ≡ generator f (2 * ecc) ⌝ }
 {
-    if level == 0 {
+    if ecc == 0 {
         return [1, 0, 0, 0, 0, 0, 0, 0, 0, 0, 0, 0, 0, 0];
     }
     let table = rows(f);
-    let k = level - 1;
+    let k = ecc - 1;
     widened(table[k])
 }

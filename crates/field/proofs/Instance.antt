@@ -18,7 +18,6 @@ use Rattle.field.specs.declared.Field.{Field}
 use Rattle.field.specs.Field.{degree, modulus, longest, mul, pow, product, a^, Elem}
 use Rattle.field.proofs.Xor.{xor-assoc}
 use Rattle.field.proofs.Multiply.{one-below, two-below, mul-below, mul-assoc, mul-comm, mul-one-right, mul-add-right}
-use Rattle.field.proofs.Exponents.{pow-below}
 use Rattle.field.proofs.Order.{no-divisors, a^-below, a^-differ}
 use Rattle.field.proofs.Primitive.{primitive, usable}
 
@@ -59,10 +58,6 @@ module _ (f : Field) where
   pub el-same : (x y : gf .carrier) → el x ≡ el y → x ≡ y
   unfolding el gf field
   el-same x y e = elem-same e
-
-  pub el-below : (x : gf .carrier) → el x < 2 ^ degree f
-  unfolding el gf field
-  el-below x = x .1
 
   pub el-nil : el (gf .nil) ≡ 0
   unfolding el gf field
@@ -116,9 +111,6 @@ module _ (f : Field) where
   unfolding el num numbers gf field
   el-num x l = el-is below x l
 
-  pub num-el : (x : gf .carrier) → num .el (el x) ≡ x
-  num-el x = el-same (num .el (el x)) x (el-num (el x) (el-below x))
-
   pub num-add : (x y : ℕ) → x < 2 ^ degree f → y < 2 ^ degree f → num .el (bitXor x y) ≡ gf .add (num .el x) (num .el y)
   unfolding num gf
   num-add x y l m = number-laws.el-add below x y l m
@@ -127,11 +119,6 @@ module _ (f : Field) where
   unfolding num gf
   num-mul x y l m = number-laws.el-mul below x y l m
 
-  pub num-power : (x n : ℕ) → x < 2 ^ degree f → num .el (pow (degree f) (modulus f) x n) ≡ Polynomial.pow gf (num .el x) n
-  num-power x n l =
-      el-same _ _
-      (el-num _ (pow-below (usable f) x n l) ∙ sym (el-power (num .el x) n ∙ ap (λ z. pow (degree f) (modulus f) z n) (el-num x l)))
-
   pub num-pow : (n : ℕ) → num .el (a^ f n) ≡ Polynomial.pow gf a n
   num-pow n = el-same _ _ (el-num _ (a^-below (primitive f) n) ∙ sym (el-pow n))
 
@@ -139,7 +126,3 @@ module _ (f : Field) where
 
   pub num-product : (x y r : ℕ) → x < 2 ^ degree f → y < 2 ^ degree f → Elem (degree f) (product f x y) r → num .el r ≡ gf .mul (num .el x) (num .el y)
   num-product x y r l m e = ap (num .el) (e .value) ∙ num-mul x y l m
-
-  pub product-num : (x y r : ℕ) → x < 2 ^ degree f → y < 2 ^ degree f → r < 2 ^ degree f → num .el r ≡ gf .mul (num .el x) (num .el y) → r ≡ product f x y
-  product-num x y r l m k e =
-      num .el-same r _ (num-below k) (num-below (mul-below (usable f) x y l)) (e ∙ sym (num-mul x y l m))

@@ -6,7 +6,7 @@ use native.Mathlib.Nat.{zero-lt-suc, mod-eq-of-lt, zero-div, zero-mul, one-mul, 
 use native.Mathlib.Omega.{arith}
 use lib.Arith.{lt-one}
 use lib.Pow.{pow-pos, pow-lt, pow-mono}
-use lib.Bits.{bitXor, xor-comm, xor-zero-r, xor-self, xor-shr, xor-lt, xor-shifted}
+use lib.Bits.{bitXor, xor-zero-r, xor-self, xor-shr, xor-lt, xor-shifted}
 use Rattle.field.specs.Field.{mulX, mulBits, mul, Usable}
 use Rattle.field.proofs.Xor.{Bit, mod2, xor-double, scale-xor, xor-swap, xor-half, digit-xor, digit-through, digit-le}
 use Rattle.field.proofs.Additive.{additive-agree}
@@ -235,12 +235,3 @@ module _ {m P : ℕ} (u : Usable m P) where
   unfolding shifted
   mul-two x h =
       ap (λ (n : ℕ). mul m P n x) (sym (shifted-one m P 1 (u .two))) ∙ mul-shifted-left 1 1 x ∙ ap (mulX m P) (mul-one-left x h)
-
-  -- squares add
-  pub square-add : (x y : ℕ) → x < 2 ^ m → y < 2 ^ m → mul m P (bitXor x y) (bitXor x y) ≡ bitXor (mul m P x x) (mul m P y y)
-  square-add x y hx hy =
-      mul-add-left x y (bitXor x y)
-      ∙ ap₂ bitXor (mul-add-right x x y ∙ xor-comm (mul m P x x) (mul m P x y)) (mul-add-right y x y)
-      ∙ xor-swap (mul m P x y) (mul m P x x) (mul m P y x) (mul m P y y)
-      ∙ ap (λ (z : ℕ). bitXor z (bitXor (mul m P x x) (mul m P y y)))
-      (ap (bitXor (mul m P x y)) (mul-comm y x hy hx) ∙ xor-self (mul m P x y))

@@ -4,7 +4,7 @@ use mathlib.Core.Path.{_≡_, sym, ap, _∙_, subst}
 use mathlib.Core.Bool.{Bool, not}
 use mathlib.Core.Logic.{_≢_}
 use Prim.Native.Nat.{ℕ, zero, suc, pred, _+_, _-_, _*_, _/_, _^_, _<_}
-use native.Mathlib.Nat.{add-comm, suc-mul, pos-of-ne-zero, suc-pred-eq-of-pos, one-mul, mul-comm as times-comm}
+use native.Mathlib.Nat.{add-comm, suc-mul, pos-of-ne-zero, suc-pred-eq-of-pos, one-mul}
 use native.Mathlib.Decide.{decLt}
 use native.Mathlib.Omega.{arith}
 use lib.Arith.{digits-div}
@@ -164,11 +164,3 @@ module _ {m P N : ℕ} (F : Primitive m P N) where
       ∙ mul-assoc (F .usable) (r .0) x y (r .1) hx hy
       ∙ ap (mul m P (r .0)) e
       ∙ mul-zero-right (F .usable) (r .0)
-
-  pub order-divides : (x : ℕ) → zero < x → x < 2 ^ m → pow m P x N ≡ 1
-  order-divides x h0 h =
-      let r : (k : ℕ) × (k < N) × (pow m P 2 k ≡ x) = logarithm x h0 h in
-      ap (λ (z : ℕ). pow m P z N) (sym (r .2))
-      ∙ sym (pow-of-power (F .usable) 2 (r .0) N (two-below (F .usable)))
-      ∙ ap (pow m P 2) (times-comm (r .0) N)
-      ∙ a^-round (r .0)

@@ -1,14 +1,13 @@
 -- Laws of Bits: each position lies in one block or in the tail, and position and exponent are inverse to each other.
 use mathlib.Core.Path.{_≡_, refl, sym, ap, _∙_}
 use mathlib.Core.Logic.{_⊎_, inl, inr, ⊎-elim}
-use mathlib.Core.Bool.{Bool, true, false, cond}
+use mathlib.Core.Bool.{true, false}
 use Prim.Native.Nat.{ℕ, zero, suc, _+_, _-_, _*_, _/_, _≤_, _<_}
 use native.Mathlib.Numerals.{add-one}
 use native.Mathlib.Omega.{arith}
 use native.Mathlib.Decide.{decLt}
 use native.Mathlib.Nat.{eq-or-lt-of-le, eq-zero-or-pos, div-add-mod', mod-lt}
-use lib.Dec.{leb, ltb}
-use borrow.Author.Tests.{ltb-true, leb-true, lt-ltb, le-ltb, le-leb, lt-leb}
+use borrow.Author.Tests.{lt-ltb, le-ltb, le-leb, lt-leb}
 use Rattle.layout.specs.declared.Plan.{Plan}
 use Rattle.layout.specs.Plan.{coveredOf, covered, start, used}
 use Rattle.layout.specs.Bits.{within, blockBelow, blockOf, exponentAt, located}
@@ -39,14 +38,6 @@ module _ (q : Plan) where
   pub after-within : (b p : ℕ) → start q b + covered q b ≤ p → within q b p ≡ false
   unfolding within
   after-within b p h = simp (le-leb (start q b) p (omega arith), le-ltb p (start q b + covered q b) h)
-
-  pub within-lies : (b p : ℕ) → within q b p ≡ true → Lies q b p
-  unfolding within
-  within-lies b p h = go (leb (start q b) p) refl h
-    where
-      go : (t : Bool) → leb (start q b) p ≡ t → cond t (ltb p (start q b + covered q b)) false ≡ true → Lies q b p
-      go true e k = record { from = leb-true _ _ e; to = ltb-true _ _ k }
-      go false e k = let z : _≡_ {A = ℕ} 0 1 = cc in absurd (omega arith)
 
   -- no position lies in two blocks
   pub lies-once : {b c p : ℕ} → Lies q b p → Lies q c p → b ≡ c

@@ -7,7 +7,6 @@ use native.Mathlib.Nat.{suc-mul, zero-mul, mul-le-mul, eq-or-lt-of-le}
 use Rattle.field.specs.Field.{degree}
 use Rattle.field.specs.declared.Field.{Field}
 use Rattle.field.specs.declared.Field.the-variants.{Thirteen, Fourteen}
-use Rattle.layout.specs.declared.Shape.{Shape}
 use Rattle.layout.specs.declared.Plan.{Plan}
 use Rattle.layout.specs.Plan.{coveredOf, shape, covered, start, from}
 
@@ -19,12 +18,6 @@ degree-small Fourteen = omega arith
 -- a product of two bounded numbers
 pub product-le : (A B : ℕ) {a b : ℕ} → a ≤ A → b ≤ B → a * b ≤ A * B
 product-le A B h k = mul-le-mul h k
-
-pub covered-small : (s : Shape) → s .message < 4294967296 → s .level < 65536 → coveredOf s < 8589934592
-unfolding coveredOf
-covered-small s h k =
-    let d = product-le 14 65535 {a = degree (s .field)} {b = s .level} (degree-small (s .field)) (omega arith) in
-    omega arith
 
 module _ (q : Plan) where
   -- the block after b starts where b ends

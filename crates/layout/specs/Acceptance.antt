@@ -11,7 +11,7 @@
 -- ruleNumber, refusalReply   its number there
 use Prim.Native.Nat.{ℕ, _*_}
 use mathlib.Core.List.{List}
-use mathlib.Core.Bool.{Bool, true, false, cond}
+use mathlib.Core.Bool.{Bool, false, cond}
 use lib.ListN.{length}
 use lib.Dec.{eqb, ltb}
 use Rattle.field.specs.Field.{longest}

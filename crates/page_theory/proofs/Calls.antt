@@ -15,12 +15,11 @@ use Rattle.bits.proofs.Pages.{bytes-bytes, bytes-bit, bytes-ext}
 use Rattle.layout.specs.declared.Plan.{Plan}
 use Rattle.layout.specs.Plan.{payload, Valid}
 use Rattle.code.specs.Word.{Word}
-use Rattle.code.specs.Outcome.{good}
 use Rattle.page_theory.specs.Page.{message, pageOf}
-use Rattle.page_theory.specs.Reading.{GivesAt, Lowest, outcome, reading, done}
+use Rattle.page_theory.specs.Reading.{GivesAt, Lowest, reading, done}
 use Rattle.page_theory.specs.Damage.{Payload, Outputs}
 use Rattle.page_theory.specs.Calls.{writeEnded, writeReply, writeIn, readEnded, readReply, bytesAt, readBy, readIn}
-use Rattle.page_theory.proofs.Reading.{gives-outcome, gives-reading, lowest-refused}
+use Rattle.page_theory.proofs.Reading.{gives-reading, lowest-refused}
 
 -- bits of metadata followed by data
 
@@ -69,10 +68,6 @@ bytesAt-join w k n p h = let c = bytesAt-bytes w 0 k .count in elim (decLt p (8 
 ]
 
 module _ (q : Plan) where
-  pub payload-bytes : (m d : List ℕ) → Payload q m d → Bytes (payload q) (m ++ d)
-  unfolding payload
-  payload-bytes m d h = bytes-append (h .metadata) (h .«data»)
-
   -- Writing.
 
   pub writeReply-right : (m d page : List ℕ) → length page ≡ q .size → length m ≡ q .metadata → length d ≡ q .«data»
@@ -130,12 +125,6 @@ module _ (q : Plan) where
       ∙ ap (λ r. readBy q r old-m old-d old-c) (gives-reading q v (m ++ d) page (λ b. getD c b 0) g)
       ∙ readBy-payload m d h _ old-m old-d old-c
       ∙ ap (readEnded 0 0 m d) (run-ext (λ b. getD c b 0) 0 c (q .blocks) 0 n (λ b k. rw (zero-add b)))
-
-  -- the same, of a reader that shows each block's outcome
-  pub read-outcomes : Valid q → (page m d c : List ℕ) → length page ≡ q .size → Payload q m d → length c ≡ q .blocks
-      → ((b : ℕ) → b < q .blocks → outcome q page b ≡ good (message q (m ++ d) b) (getD c b 0))
-      → (old-m old-d old-c : List ℕ) → Outputs q old-m old-d old-c → readIn q page old-m old-d old-c ≡ readEnded 0 0 m d c
-  read-outcomes v page m d c a h n g = read-gives v page m d c a h n (λ b l. gives-outcome q page b _ _ (g b l))
 
   -- A reader that shows the lowest ruined block has refused the page.
   pub read-refuses : (page m d c : List ℕ) (b : ℕ) → length page ≡ q .size → Outputs q m d c → Lowest q page b

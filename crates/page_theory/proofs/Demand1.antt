@@ -19,15 +19,13 @@ use Rattle.layout.proofs.Numbers.{acceptance-refused-reply}
 use Rattle.page_theory.specs.Page.{pageOf, blockWord}
 use Rattle.page_theory.specs.Reading.{Reading, done, refused, outcome, reading}
 use Rattle.page_theory.specs.Claim.{Right, right?}
+use Rattle.page_theory.specs.Demands.{among, WriteEnds, ReadEnds, JudgeEnds, ClaimEnds}
 use Rattle.page_theory.specs.Calls.{
-  among,
-  Written,
   writeEnded,
   writeReply,
   writeIn,
   writeFor,
   writeOf,
-  Read,
   readEnded,
   readReply,
   readBy,
@@ -35,43 +33,17 @@ use Rattle.page_theory.specs.Calls.{
   readFor,
   readOf,
   blockReply,
-  Judged,
   judgeEnded,
   judgeBy,
   judgeIn,
   judgeFor,
   judgeOf,
-  Claimed,
   claimEnded,
   claimBy,
   claimIn,
   claimFor,
   claimOf,
 }
-
--- How writing ends: with a reply of the table, about block 0, and after a refusal the page is as it was lent.
-pub record WriteEnds (page : List ℕ) (r : Written) : Type 0 where
-  pub table : among (r .reply) (0 ∷ 1 ∷ 2 ∷ 3 ∷ 4 ∷ 5 ∷ 6 ∷ []) ≡ true
-  pub kept : (r .reply ≡ 0 → ⊥) → r ≡ writeEnded (r .reply) 0 page
-  pub block : r .block ≡ 0
-
--- How reading ends. Only reply 9 names a block.
-pub record ReadEnds (metadata body counts : List ℕ) (r : Read) : Type 0 where
-  pub table : among (r .reply) (0 ∷ 1 ∷ 2 ∷ 3 ∷ 4 ∷ 5 ∷ 6 ∷ 9 ∷ []) ≡ true
-  pub kept : (r .reply ≡ 0 → ⊥) → r ≡ readEnded (r .reply) (r .block) metadata body counts
-  pub block : (r .reply ≡ 9 → ⊥) → r .block ≡ 0
-
--- How judging one block ends. It is lent nothing to write to; a refusal has no flip count.
-pub record JudgeEnds (b : ℕ) (r : Judged) : Type 0 where
-  pub table : among (r .reply) (0 ∷ 1 ∷ 2 ∷ 3 ∷ 4 ∷ 5 ∷ 6 ∷ 7 ∷ 9 ∷ []) ≡ true
-  pub kept : (r .reply ≡ 0 → ⊥) → r .flips ≡ 0
-  pub block : (r .reply ≡ 9 → ⊥) → r .block ≡ 0
-  pub named : r .reply ≡ 9 → r .block ≡ b
-
--- How a claim ends. It is lent nothing to write to.
-pub record ClaimEnds (r : Claimed) : Type 0 where
-  pub table : among (r .reply) (0 ∷ 1 ∷ 2 ∷ 3 ∷ 4 ∷ 5 ∷ 6 ∷ 7 ∷ 10 ∷ []) ≡ true
-  pub block : r .block ≡ 0
 
 -- the numbers 0 to 6 come first in each list
 among-small : (x : ℕ) (more : List ℕ) → x < 7 → among x (0 ∷ 1 ∷ 2 ∷ 3 ∷ 4 ∷ 5 ∷ 6 ∷ more) ≡ true

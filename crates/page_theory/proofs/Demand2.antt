@@ -18,9 +18,10 @@ use Rattle.code.specs.Generator.{parity}
 use Rattle.page_theory.specs.Page.{message, written, pageOf, blockWord}
 use Rattle.page_theory.specs.Reading.{GivesAt, Reading, done, refused, reading}
 use Rattle.page_theory.specs.Damage.{Accepts, Payload}
+use Rattle.page_theory.specs.Demands.{Stands, Reads}
 use Rattle.page_theory.specs.Calls.{writeEnded, writeOf, Read, readEnded, readReply, bytesAt, readBy, readIn, readOf}
 use Rattle.page_theory.proofs.Blocks.{written-code, page-block, page-tail}
-use Rattle.page_theory.proofs.Writing.{Stands, stands-page}
+use Rattle.page_theory.proofs.Writing.{stands-page}
 use Rattle.page_theory.proofs.Reading.{from-order, reading-parts}
 use Rattle.page_theory.proofs.Calls.{bytesAt-bytes, bytesAt-join, write-right}
 use Rattle.page_theory.proofs.Accepted.{accepts-valid, write-accepted, read-accepted}
@@ -49,12 +50,6 @@ module _ (rec : List ℕ) (q : Plan) (accepted : Accepts rec q) where
     -- No other page has these blocks and this tail.
     pub write-only : (other : List ℕ) → Stands q (m ++ d) other → other ≡ writeOf rec m d page .page
     write-only other h = rw write-done (stands-page q (accepts-valid rec q accepted) (m ++ d) other h)
-
--- What a page that was read gives.
-pub record Reads (q : Plan) (page : List ℕ) (r : Read) : Type 0 where
-  pub payload : Payload q (r .metadata) (r .«data»)
-  pub counts : length (r .counts) ≡ q .blocks
-  pub blocks : (b : ℕ) → b < q .blocks → GivesAt q page b (message q (r .metadata ++ r .«data») b) (getD (r .counts) b 0)
 
 module _ (q : Plan) (v : Valid q) (page m d c : List ℕ) where
   by-reads : (r : Reading) → reading q page ≡ r → readBy q r m d c .reply ≡ 0 → Reads q page (readBy q r m d c)

@@ -5,7 +5,6 @@ pub mod Writing
 pub mod Reading
 pub mod Damage
 pub mod Calls
-pub mod Messages
 pub mod Accepted
 pub mod Demand1
 pub mod Demand2

@@ -39,10 +39,6 @@ module _ (q : Plan) (page : List ℕ) where
   unfolding outcome
   ruined-outcome b e = refused-judge _ _ _ _ e
 
-  -- a block that gives a message is not ruined
-  pub gives-sound : (b : ℕ) (m : Word) (n : ℕ) → GivesAt q page b m n → RefusedAt q page b → ⊥
-  gives-sound b m n g h = h .none .none (g .word) (g .near)
-
   -- one block more
 
   pub reading-start : readingOf q page 0 ≡ done [] []

@@ -8,7 +8,7 @@ use native.Mathlib.Omega.{arith}
 use native.Mathlib.Decide.{decLt}
 use lib.ListN.{length, getD, replicate, length-append, length-replicate, getD-replicate, List·getD-append}
 use lib.Seq.{getD-append-add}
-use Rattle.bits.specs.Bits.{bitOf, bytes, Bytes, placed}
+use Rattle.bits.specs.Bits.{bitOf, bytes, placed}
 use Rattle.bits.proofs.Runs.{run-at, run-ext}
 use Rattle.bits.proofs.Pages.{bits-ext, bytes-bytes, bytes-bit}
 use Rattle.bits.proofs.Placed.{placed-whole}
@@ -18,13 +18,8 @@ use Rattle.layout.proofs.Plans.{start-order}
 use Rattle.layout.proofs.Placing.{Lies, block-or-tail}
 use Rattle.code.specs.Word.{Word}
 use Rattle.page_theory.specs.Page.{written, pageOf, blockWord}
+use Rattle.page_theory.specs.Demands.{Stands}
 use Rattle.page_theory.proofs.Blocks.{written-length, page-block, page-tail}
-
--- The written blocks stand in their places, and ones stand in the tail.
-pub record Stands (q : Plan) (d page : List ℕ) : Type 0 where
-  pub bytes : Bytes (q .size) page
-  pub blocks : (b : ℕ) → b < q .blocks → blockWord q page b ≡ written q d b
-  pub tail : (p : ℕ) → used q ≤ p → p < 8 * q .size → bitOf page p ≡ true
 
 blockWord-at : (q : Plan) (page : List ℕ) (b p : ℕ) → Lies q b p
     → getD (blockWord q page b) (p - start q b) false ≡ bitOf page p

@@ -4,8 +4,6 @@
 -- 4, 5, 6, 7, 9, 10 is given. Numbers that are handed in have no bound. The block is 0 except in reply 9; beside a refusal
 -- every other value is 0.
 --
--- among x xs                  x is one of the numbers of a list
--- unless ok reply rest        the reply, unless ok; then the rest decides
 -- bytesAt w s n               the n bytes whose bits are those of a word from its bit s on
 -- Written, writeEnded, writeReply, writeIn, writeFor, writeOf             writing a page
 -- Read, readEnded, readReply, readBy, readIn, readFor, readOf             reading a page
@@ -16,13 +14,14 @@
 -- Of each call: `..Ended` is what it ends with; `..Reply` the reply about lengths and numbers under a plan, 0 where they are
 -- right; `..By` how it ends by what the page, the block or the claim turns out to be; `..In` the call under a plan, `..For`
 -- with the answer to a layout record, `..Of` with the record itself.
-use mathlib.Core.Bool.{Bool, true, false, cond}
-use mathlib.Core.List.{List, [], _∷_, _++_}
+use mathlib.Core.Bool.{false, cond}
+use mathlib.Core.List.{List, _++_}
 use Prim.Native.Nat.{ℕ, _+_, _*_}
 use lib.ListN.{length, getD}
 use lib.Dec.{eqb, ltb}
 use Rattle.field.specs.declared.Field.{Field}
 use Rattle.bits.specs.Bits.{bytes}
+use Rattle.replies.specs.Replies.{unless}
 use Rattle.layout.specs.declared.Plan.{Plan}
 use Rattle.layout.specs.declared.Acceptance.{Acceptance}
 use Rattle.layout.specs.declared.Acceptance.the-variants.{Accepted, Refused}
@@ -33,13 +32,6 @@ use Rattle.code.specs.Outcome.{Outcome, good, ruined}
 use Rattle.page_theory.specs.Page.{pageOf, blockWord}
 use Rattle.page_theory.specs.Reading.{Reading, done, refused, outcome, reading}
 use Rattle.page_theory.specs.Claim.{Right, right?}
-
-unfoldable pub among : ℕ → List ℕ → Bool
-among x [] = false
-among x (y ∷ ys) = cond (eqb x y) true (among x ys)
-
-abbrev pub unless : Bool → ℕ → ℕ → ℕ
-unless ok reply rest = cond ok rest reply
 
 -- Writing a page from metadata and data.
 

@@ -5,13 +5,13 @@
 -- right? f t w claims     whether it is right; its type says what it decides, and its lines need not be read
 use mathlib.Core.Path.{_≡_}
 use mathlib.Core.List.{List}
-use Prim.Native.Nat.{ℕ, zero, suc, _≤_, _<_}
-use native.Mathlib.Omega.{arith}
+use Prim.Native.Nat.{ℕ, _≤_, _<_}
 use native.Mathlib.Decide.{decLt, decLe, ℕ-discrete}
 use lib.ListN.{length, getD}
 use Rattle.field.specs.declared.Field.{Field}
 use Rattle.code.specs.Word.{Word, flipped}
 use Rattle.code.specs.Code.{Codeword}
+use Rattle.code.specs.Search.{all-below}
 use Rattle.code.specs.Outcome.{codeword?}
 
 pub record Right (f : Field) (t : ℕ) (w : Word) (claims : List ℕ) : Type 0 where
@@ -20,27 +20,17 @@ pub record Right (f : Field) (t : ℕ) (w : Word) (claims : List ℕ) : Type 0 w
   pub few : length claims ≤ t
   pub code : Codeword f t (flipped w claims)
 
-all? : (P : ℕ → Type 0) → ((i : ℕ) → Dec (P i)) → (n : ℕ) → Dec ((i : ℕ) → i < n → P i)
-all? P d zero = yes (λ i l. absurd (omega arith))
-all? P d (suc n) = elim (all? P d n) [
-  | no h ↦ no (λ k. h (λ i l. k i (omega arith)))
-  | yes h ↦ elim (d n) [
-    | no q ↦ no (λ k. q (k n (omega arith)))
-    | yes q ↦ yes (λ i l. elim (decLt i n) [ yes m ↦ h i m | no m ↦ (let e : i ≡ n = omega arith in rw e q) ])
-  ]
-]
-
 not? : {P : Type 0} → Dec P → Dec (P → ⊥)
 not? (yes h) = no (λ k. k h)
 not? (no h) = yes h
 
 pub right? : (f : Field) (t : ℕ) (w : Word) (claims : List ℕ) → Dec (Right f t w claims)
 right? f t w claims =
-    elim (all? (λ j. (i : ℕ) → i < j → getD claims i 0 ≡ getD claims j 0 → ⊥)
-    (λ j. all? (λ i. getD claims i 0 ≡ getD claims j 0 → ⊥) (λ i. not? (ℕ-discrete (getD claims i 0) (getD claims j 0))) j)
+    elim (all-below (λ j. (i : ℕ) → i < j → getD claims i 0 ≡ getD claims j 0 → ⊥)
+    (λ j. all-below (λ i. getD claims i 0 ≡ getD claims j 0 → ⊥) (λ i. not? (ℕ-discrete (getD claims i 0) (getD claims j 0))) j)
     (length claims)) [
       | no h ↦ no (λ r. h (λ j l i k. r .distinct i j k l))
-      | yes a ↦ elim (all? (λ i. getD claims i 0 < length w) (λ i. decLt (getD claims i 0) (length w)) (length claims)) [
+      | yes a ↦ elim (all-below (λ i. getD claims i 0 < length w) (λ i. decLt (getD claims i 0) (length w)) (length claims)) [
         | no h ↦ no (λ r. h (r .below))
         | yes b ↦ elim (decLe (length claims) t) [
           | no h ↦ no (λ r. h (r .few))

@@ -4,3 +4,4 @@ pub mod Reading
 pub mod Claim
 pub mod Calls
 pub mod Damage
+pub mod Demands

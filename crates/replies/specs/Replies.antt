@@ -6,6 +6,7 @@
 -- Rule                 one reply of a call: the refusal, and whether it applies
 -- verdict rules        the verdict by a list of rules in the order in which they are looked at: the first that applies decides
 -- reply rules          its number
+-- unless ok reply rest     the same, a rule at a time: the reply, unless ok; then the rest decides
 use mathlib.Core.Bool.{Bool, cond}
 use mathlib.Core.List.{List, [], _∷_}
 use Prim.Native.Nat.{ℕ}
@@ -56,3 +57,6 @@ verdict (r ∷ rs) = cond (r .applies) (Refused (r .why)) (verdict rs)
 
 unfoldable pub reply : List Rule → ℕ
 reply rules = verdictNumber (verdict rules)
+
+abbrev pub unless : Bool → ℕ → ℕ → ℕ
+unless ok reply rest = cond ok rest reply

@@ -29,9 +29,9 @@ widened-requires c κs = search needs
 
 returns-2 : tie.Need-returns-2
 returns-2 c =
-    let level : ℕ = c .before .before .before .before .args .level in
-    let e : 2 * (level - 1 + 1) ≡ 2 * level = omega arith in
-    c .widened .ensures ∙ c .before .before .rows .ensures .row (level - 1) (omega arith) ∙ rw e
+    let ecc : ℕ = c .before .before .before .before .args .ecc in
+    let e : 2 * (ecc - 1 + 1) ≡ 2 * ecc = omega arith in
+    c .widened .ensures ∙ c .before .before .rows .ensures .row (ecc - 1) (omega arith) ∙ rw e
 
 pub generator-row-spec : {M : Type 1} → statement M
 generator-row-spec = tie.close (tie.spec returns rows-requires sub-k mul-widened array-copy-out-widened widened-requires returns-2)
