@@ -1,4 +1,4 @@
--- Arrays of 128 numbers as series: how the code of the key equation states what it computes.
+-- Inner promises: arrays of 128 numbers as series, how the code of the key equation states what it computes.
 --   Small l                    l has 128 entries, each a number that stands for an element
 --   coef l                     l as a series
 --   dot c s k n                c_0 s_k + c_1 s_(k - 1) + .., n terms: a discrepancy

@@ -1,4 +1,4 @@
--- The key equation of a word of bits, whose power sums at even exponents are squares: every second discrepancy is zero.
+-- Inner promises: the key equation of a word of bits, whose power sums at even exponents are squares: every second discrepancy is zero.
 --   slope f                     the formal derivative of f
 --   Squares S n                 S_(2 i + 1) is the square of S_i, below n
 --   BinaryState S k L b C T     `State` before an even term k, and that the products with S are derivatives as far as k

@@ -1,4 +1,4 @@
--- Fields of characteristic 2.
+-- Inner promises: fields of characteristic 2.
 --   BinaryField   the operations and their laws, as far as the decoder needs them: no inverses, but no divisors of zero
 use mathlib.Core.Path.{_≡_}
 

@@ -1,4 +1,4 @@
--- Numbers as elements of a field, as code computes with them.
+-- Inner promises: numbers as elements of a field, as code computes with them.
 --   Numbers K        numbers below `size` stand for elements of K, 0 for the zero and 1 for the unit
 --   Below q add mul  what is to be shown of operations on the numbers below q for these to be a field
 --   Elem q           the numbers below q

@@ -1,4 +1,4 @@
--- Powers of an element, and polynomials at an element.
+-- Inner promises: powers of an element, and polynomials at an element.
 --   pow x n        x^n
 --   horner f x n   the word f 0, .., f (n - 1) at x, the highest power first: f 0 x^(n - 1) + .. + f (n - 1)
 --   value f x n    the polynomial of degree n at x, the highest power first: f 0 x^n + .. + f n

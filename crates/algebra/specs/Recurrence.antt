@@ -1,4 +1,4 @@
--- Linear recurrences of a sequence S, as the algorithm of Berlekamp and Massey builds them.
+-- Inner promises: linear recurrences of a sequence S, as the algorithm of Berlekamp and Massey builds them.
 --   Generates S C L k     the recurrence C of length L holds for the terms of S below k
 --   State S k L b C T     what the algorithm knows before it looks at term k
 --   unit-series           the polynomial 1

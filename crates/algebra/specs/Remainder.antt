@@ -1,3 +1,4 @@
+-- Inner promises: remainders over a field.
 -- The remainder of a word by a monic polynomial of degree e + 1, x^(e + 1) + g e x^e + .. + g 0, one coefficient at a time.
 -- A remainder is the function from power to coefficient, of which the powers 0, .., e count.
 --   Zero y        y is a zero of the polynomial

@@ -1,4 +1,4 @@
--- The search for roots a^p of a polynomial, whose coefficients an array holds.
+-- Inner promises: the search for roots a^p of a polynomial, whose coefficients an array holds.
 --   Root p         a^p is a root of the polynomial of degree len with the coefficients c, the highest power first
 --   Found l n w    the first w entries of l are the p below n for which a^p is a root, in ascending order
 use mathlib.Core.List.{List}

@@ -1,4 +1,4 @@
--- Power series over a field of characteristic 2. A series is the function from index to coefficient; a polynomial is a series
+-- Inner promises: power series over a field of characteristic 2. A series is the function from index to coefficient; a polynomial is a series
 -- that is zero from some index on.
 --   cons a f   the series a, f 0, f 1, ..: a + x f
 --   shift g f  the series f with g zeros before it: x^g f

@@ -1,4 +1,4 @@
--- Finite sums over a field of characteristic 2.
+-- Inner promises: finite sums over a field of characteristic 2.
 --   sum n f   f 0 + .. + f (n - 1)
 use Prim.Native.Nat.{ℕ, zero, suc}
 use Rattle.algebra.specs.Field.{BinaryField}

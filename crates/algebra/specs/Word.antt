@@ -1,4 +1,4 @@
--- Words of bits as functions from place to bit, and their power sums.
+-- Words of bits as functions from place to bit, and their power sums. The statements use `flip` alone; the rest serves proofs.
 --   flip, differ     not; exclusive or
 --   both r c         the places where two words differ
 --   count b n        the number of ones among the first n bits

@@ -1,4 +1,4 @@
--- What the code that writes, reads and checks pages asks of a plan. Every accepted layout has such a plan (proofs/Plans.antt).
+-- Inner promises: what the code that writes, reads and checks pages asks of a plan. Every accepted layout has such a plan (proofs/Plans.antt).
 --
 -- Stored s      the generator of a block of the shape s is one of the stored ones
 -- Planned q     what the plan of an accepted layout has

@@ -1,4 +1,4 @@
--- The tables by which products are made.
+-- Inner promises: the tables by which products are made.
 --
 -- Tables f powers logs   the list powers holds the powers of a in the field f, the list logs the logarithms of its elements
 use mathlib.Core.Path.{_≡_}

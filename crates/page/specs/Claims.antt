@@ -1,4 +1,4 @@
--- Parts of a right claim (document 01, "Claim"); the whole is `Right` of the crate `page_theory`.
+-- Inner promises: parts of a right claim (document 01, "Claim"); the whole is `Right` of the crate `page_theory`.
 --
 -- Decides r P          r says whether P holds
 -- Distinct claims      no two places of a list hold the same exponent

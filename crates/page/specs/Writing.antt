@@ -1,4 +1,4 @@
--- What the writer's parts speak of: the lengths it may count on, and what is written for one block (document 01, "Layout words").
+-- Inner promises: what the writer's parts speak of, the lengths it may count on, and what is written for one block (document 01, "Layout words").
 --
 -- Lent q m d page     the metadata, the data and the page have the lengths of the plan
 -- encoded s w         the message w of a block of the shape s, followed by its parity

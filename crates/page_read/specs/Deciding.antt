@@ -1,4 +1,5 @@
--- What deciding the blocks of a page promises. `places` is the table of exponents, 64 for each block, and `flips` has the number
+-- Inner promises: what deciding the blocks of a page promises.
+-- `places` is the table of exponents, 64 for each block, and `flips` has the number
 -- of those that are kept for each.
 --
 -- kept places b n                     the first n exponents for block b

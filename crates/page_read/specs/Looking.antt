@@ -1,4 +1,4 @@
--- What looking over the blocks of a page promises.
+-- Inner promises: what looking over the blocks of a page promises.
 --
 -- Ready q page               q is the plan of an accepted layout, and the page has its size
 -- remainderAt q page b       the remainder of block b

@@ -1,4 +1,5 @@
--- What taking messages out of a page promises. m and d are metadata and data before, m' and d' after; the payload is the one
+-- Inner promises: what taking messages out of a page promises.
+-- m and d are metadata and data before, m' and d' after; the payload is the one
 -- followed by the other.
 --
 -- texts q page n                the messages of the first n blocks as they stand in the page, one after the other

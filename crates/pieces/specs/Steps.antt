@@ -1,4 +1,4 @@
--- What a step of the division asks of its divisor.
+-- Inner promises: what a step of the division asks of its divisor.
 --
 -- Aligned used row     the words hold a monic polynomial of degree 64 used
 use mathlib.Core.Path.{_≡_}

@@ -1,4 +1,4 @@
--- Tables of powers.
+-- Inner promises: tables of powers.
 --
 -- Begun f k table   the k first entries of the table are 1, a, .., a^(k - 1) in the field f
 -- Powers f table    its 2^m - 1 first entries are all powers of a

@@ -1,3 +1,4 @@
+-- Inner promises: the table of the division.
 -- The table by which the parity of a message is worked out 64 coefficients at a time: 400 remainders. A number of 64 binary digits is cut
 -- into 13 digits of five, the last of four; the table has a row for each value of each of them, in its place.
 -- A polynomial over GF(2) is a number: its binary digit p is the coefficient of x^p.

@@ -1,4 +1,4 @@
--- What is worked out over small buffers.
+-- Inner promises: what is worked out over small buffers.
 --
 -- recordOf v w        the layout record of two words (document 01, "Layout words"): word 0 first, most significant byte first
 -- totalOf counts n    the sum of the first n counts

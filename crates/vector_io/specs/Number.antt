@@ -1,3 +1,5 @@
+-- Inner promises: numbers in the bytes of a vector.
+--
 -- numberAt bytes at n    the number in n bytes from place `at` on, most significant first; of more than eight bytes the last eight
 use Prim.Native.Nat.{ℕ, zero, suc, _+_, _*_, _%_, _^_}
 use mathlib.Core.List.{List}
