@@ -15,31 +15,30 @@ use lib.Seq.{take-suc, getD-take}
 use Rattle.algebra.specs.Series.{shift}
 use Rattle.algebra.specs.Recurrence.{State}
 use Rattle.algebra.specs.Word.{Listing, flip, differ, count, among, power-sum}
-use Rattle.algebra.specs.Array.{coef}
-use Rattle.algebra.specs.Search.{Root}
+use Rattle.algebra.specs.Array.{coef, Holds}
+use Rattle.algebra.specs.Search.{Root, Found as Roots}
 use Rattle.algebra.proofs.Number.{el-zero}
 use Rattle.algebra.proofs.Word.{listing, among-true, lists-count, lists-among, lists-not-among, count-cong, errors-length, errors-root, errors-no-root}
+use Rattle.bits.specs.Bits.{digits}
 use Rattle.field.specs.declared.Field.{Field}
 use Rattle.field.specs.Field.{degree, longest}
 use Rattle.field.proofs.Instance.{gf, num, a, el, el-same, el-num, unit, order}
 use Rattle.code.specs.Word.{Word, ones, flipped, ascending}
 use Rattle.code.specs.Code.{Fits}
-use Rattle.code.specs.Generator.{remainder}
-use Rattle.code.specs.Outcome.{good, ruined, judge}
 use Rattle.code.specs.Locations.{Locates, listed, exponents, nowhere, locate}
 use Rattle.code.proofs.Distance.{coefficient}
-use Rattle.code.proofs.Codeword.{zeros-codeword}
-use Rattle.code.proofs.Flips.{marks, Below, none, below-each, each-below, marks-ascending, marks-past}
+use Rattle.code.proofs.Codeword.{zeros-codeword, value-square}
+use Rattle.code.proofs.Flips.{marks, Below, none, below-each, marks-ascending, marks-past}
 use Rattle.code.proofs.Ascending.{Rising, end, each-rising, rising-ext, ascending-rising}
-use Rattle.code.proofs.Locations.{ones-count, listed-length, listed-flips, listed-power-sum, set-recheck, locate-list, locate-exponents, locate-nowhere, exponents-locate, listed-below, judge-exponents, judge-nowhere}
-use Rattle.code.proofs.Outcome.{judge-codeword}
-use Rattle.code.proofs.Remainder.{codeword-remainder, remainder-codeword, remainder-below}
-use Rattle.bch.specs.KeyEquation.{series, Recurs, Locates as Roots}
-use Rattle.bch.specs.Splitting.{Divisor, Splits}
+use Rattle.code.proofs.Locations.{ones-count, listed-length, listed-flips, listed-power-sum, set-recheck, locate-list, locate-exponents, locate-nowhere}
+use Rattle.code.proofs.Remainder.{codeword-remainder}
+use Rattle.key_equation.specs.KeyEquation.{PowerSums}
+use Rattle.root_search.specs.Splitting.{Divisor, Splits}
 use Rattle.bch.specs.declared.Found.{Found}
-use Rattle.bch.specs.PowerSums.{Decides, Agrees, Syndromes}
+use Rattle.bits.specs.Decides.{Decides}
+use Rattle.syndromes.specs.PowerSums.{Agrees, Syndromes}
 use Rattle.bch.specs.Locating.{Locatable, Ascending, answer, Finds}
-use Rattle.bch.proofs.Element.{entry-below}
+use Rattle.series.proofs.Element.{series, small-elements}
 
 -- ---- a list that ascends, as a set
 
@@ -150,12 +149,20 @@ module _ (n : ℕ) {k least : ℕ} {l : List ℕ} (h : Ordered n k least l) wher
 
 -- ---- the decoder
 
+pub syndromes-power-sums : (f : Field) {s : List ℕ} (t x : ℕ) → Syndromes f t x s → PowerSums f s t
+syndromes-power-sums f {s} t x h = record {
+  elements = h .elements;
+  squares = λ i l.
+      let d : suc (suc (i + i)) ≡ suc i + suc i = omega arith in
+      h .values (suc (i + i)) (omega arith) ∙ rw (d, value-square f (digits x (degree f * t)) (suc i), h .values i (omega arith));
+}
+
 module _ (f : Field) (t n x : ℕ) (h : Locatable f t n x) (short : n ≤ longest f) {s : List ℕ} (syndromes : Syndromes f t x s) where
   -- The syndromes are the power sums of a set that leaves the remainder.
   set-sums : (v : Word) → Locates f t n x v → (j : ℕ) → j < 2 * t → series f s j ≡ power-sum (gf f) (a f) (coefficient v) n j
   unfolding coef
   set-sums v y j l = el-same f _ _
-      (el-num f (getD s j 0) (entry-below f (syndromes .elements) j) ∙ syndromes .values j l
+      (el-num f (getD s j 0) (syndromes .elements .small j) ∙ syndromes .values j l
       ∙ set-recheck f t n x (h .fits) (h .low) (h .room) v y j l ∙ sym (listed-power-sum f v j) ∙ ap (λ n. el f (power-sum (gf f) (a f) (coefficient v) n j)) (y .below))
 
   set-count : (v : Word) → Locates f t n x v → count (coefficient v) n ≡ ones v
@@ -166,7 +173,7 @@ module _ (f : Field) (t n x : ℕ) (h : Locatable f t n x) (short : n ≤ longes
   list-located {l} {w} room a g k = locate-list f t n x (h .fits) (h .low) (h .room) (take w l) (list-rising n room a) (list-below n room a)
       (omega (arith, list-size n room a)) (λ i m. sym (syndromes .values (i + i) (omega arith)) ∙ g .sums i m)
 
-  module _ {len b : ℕ} {c u : List ℕ} {gap : ℕ} (recurs : Recurs f s t len b c u gap) where
+  module _ {len b : ℕ} {c u : List ℕ} {gap : ℕ} (recurs : Holds (gf f) (num f) s t len b c u gap) where
     state : State (gf f) (series f s) (2 * t) len (num f .el b) (series f c) (shift (gf f) gap (series f u))
     state = let e : 2 * t ≡ t + t = omega arith in rw e (recurs .state .state)
 
@@ -181,13 +188,13 @@ module _ (f : Field) (t n x : ℕ) (h : Locatable f t n x) (short : n ≤ longes
     pub recurs-divisor : Divisor f c len
     unfolding coef
     recurs-divisor = record {
-      elements = recurs .small-c;
+      elements = small-elements f (recurs .small-c);
       start = recurs-leading;
       ends = λ i l. el-zero (gf f) (num f) (getD c i 0) (recurs .small-c .small i) (recurs .state .state .generates .short i l);
     }
 
     -- The exponents of a set that leaves the remainder are as many roots as the degree.
-    set-splits : (v : Word) → Locates f t n x v → Splits f c len
+    set-splits : (v : Word) → Locates f t n x v → Splits (gf f) (num f) (a f) c len
     set-splits v y = record {
       place = places .place;
       apart = λ i j k m. order f (places .place i) (places .place j) (places .lists .rising i j k (omega (arith, same))) (omega (arith, places .lists .below j (omega (arith, same))));
@@ -201,13 +208,13 @@ module _ (f : Field) (t n x : ℕ) (h : Locatable f t n x) (short : n ≤ longes
         same : count (coefficient v) n ≡ len
         same = set-count v y ∙ sym (set-length v y)
 
-    pub unsplit-nowhere : (Splits f c len → ⊥) → locate f t n x ≡ nowhere
+    pub unsplit-nowhere : (Splits (gf f) (num f) (a f) c len → ⊥) → locate f t n x ≡ nowhere
     unsplit-nowhere e = locate-nowhere f t n x (λ v y. e (set-splits v y))
 
     pub long-nowhere : t < len → locate f t n x ≡ nowhere
     long-nowhere l = locate-nowhere f t n x (λ v y. omega (arith, y .few, set-length v y))
 
-    module _ {l : List ℕ} {w : ℕ} (room : w ≤ length l) (roots : Roots f c len n l w) where
+    module _ {l : List ℕ} {w : ℕ} (room : w ≤ length l) (roots : Roots (gf f) (num f) c len (a f) l n w) where
       abbrev place : ℕ → ℕ
       place i = getD l i 0
 
@@ -309,39 +316,3 @@ module _ (f : Field) (t n x : ℕ) where
       go : (b : Bool) → r .located ≡ b → cond (r .located) (exponents (take (r .count) (r .exponents))) nowhere ≡ locate f t n x
       go true e = rw e (sym (right (d .holds e)))
       go false e = rw e (sym (wrong (d .fails e)))
-
--- ---- from the remainder of a block to what the block gives
-
-pub word-locatable : (f : Field) (t : ℕ) (w : Word) → Fits f t (length w) → degree f * t ≤ length w → Locatable f t (length w) (remainder f t w)
-word-locatable f t w h l = record { fits = h; room = l; low = remainder-below f t w (h .level) }
-
-pub zero-judge : (f : Field) (t k : ℕ) (w : Word) → Fits f t (length w) → remainder f t w ≡ 0 → judge f t k w ≡ good (take k w) 0
-zero-judge f t k w h e = judge-codeword f t k w h (remainder-codeword f t w (h .level) e)
-
-module _ (f : Field) (t n x : ℕ) (r : Found) (h : Finds f t n x r) where
-  finds-located : r .located ≡ true → locate f t n x ≡ exponents (take (r .count) (r .exponents))
-  unfolding answer
-  finds-located e = sym (h .is) ∙ rw e
-
-  finds-nowhere : r .located ≡ false → locate f t n x ≡ nowhere
-  unfolding answer
-  finds-nowhere e = sym (h .is) ∙ rw e
-
-  finds-length : t ≤ 62 → length (take (r .count) (r .exponents)) ≡ r .count
-  finds-length l = simp length-take (omega (arith, h .few, h .size))
-
-  -- No exponent at or above n is reported.
-  pub finds-below : t ≤ 62 → r .located ≡ true → (i : ℕ) → i < r .count → getD (r .exponents) i 0 < n
-  finds-below l e i k =
-      let y = exponents-locate f t n x _ (finds-located e) in
-      let b : Below n (take (r .count) (r .exponents)) = rw (y .list) (rw (y .locates .below) at (listed-below (y .set))) in
-      rw (getD-take (r .count) (r .exponents) i 0 k) at (each-below n (take (r .count) (r .exponents)) b i (rw (finds-length l) k))
-
-pub finds-judge : (f : Field) (t k : ℕ) (w : Word) (r : Found) → Fits f t (length w) → Finds f t (length w) (remainder f t w) r → r .located ≡ true
-    → judge f t k w ≡ good (take k (flipped w (take (r .count) (r .exponents)))) (r .count)
-finds-judge f t k w r fits h e =
-    judge-exponents f t k w _ fits (finds-located f t (length w) (remainder f t w) r h e)
-    ∙ ap (good (take k (flipped w (take (r .count) (r .exponents))))) (finds-length f t (length w) (remainder f t w) r h (fits .level))
-
-pub finds-ruined : (f : Field) (t k : ℕ) (w : Word) (r : Found) → t ≤ 62 → Finds f t (length w) (remainder f t w) r → r .located ≡ false → judge f t k w ≡ ruined
-finds-ruined f t k w r l h e = judge-nowhere f t k w l (finds-nowhere f t (length w) (remainder f t w) r h e)

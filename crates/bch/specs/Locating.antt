@@ -1,4 +1,4 @@
--- Locating the errors behind a remainder (document 01, "Remainder").
+-- Inner promises: locating the errors behind a remainder (document 01, "Remainder").
 --
 -- Locatable f t n x    x is a remainder of the level t, and n a length that the level allows
 -- Ascending n w l      the first w entries of l ascend and are below n

@@ -4,24 +4,18 @@
 //
 // It asks nothing of its caller. The steps:
 // 1. request.rt looks at the numbers and lengths, and makes the tables of powers and logarithms where the remainder is not zero.
-// 2. power_sums.rt works out the syndromes, the values of the remainder at a, a^2, .., a^(2t): lanes.rt those at odd powers, side by
-//    side, and each of the others is a square.
-// 3. key_equation.rt finds the shortest recurrence of the syndromes by the algorithm of Berlekamp and Massey, whose coefficients are
-//    those of the error locator.
-// 4. locate.rt refuses a locator that is too long, and lets crate `root_finder` propose its roots. Where the proposal fails,
-//    split_test.rt refuses a locator that has not as many roots as its degree, and else the powers of a below a^n are searched for
-//    them. All roots are rechecked over the code: their power sums must be the syndromes. So neither locator nor proposal is trusted,
-//    and no exponent at or above n is reported.
+// 2. Crate `syndromes` works out the values of the remainder at a, a^2, .., a^(2t).
+// 3. Crate `key_equation` finds the shortest recurrence of the syndromes, whose coefficients are those of the error locator.
+// 4. locate.rt refuses a locator that is too long, and lets crate `root_finder` propose its roots. Where the proposal fails, crate
+//    `root_search` refuses a locator that has not as many roots as its degree, and else searches the powers of a below a^n for them.
+//    All roots are rechecked over the code: their power sums must be the syndromes. So neither locator nor proposal is trusted, and
+//    no exponent at or above n is reported.
 // 5. request.rt lists the exponents. A refusal writes nothing.
 // What is right is said by specs/Answers.antt over the code alone; proofs/Locating.antt shows that the decoder finds it, and
 // proofs/Remainder.antt that reply 9 is given exactly if there is no set, and that a refusal changes no place.
 pub mod answers;
-pub mod key_equation;
-pub mod lanes;
 pub mod locate;
-pub mod power_sums;
 mod request;
-mod split_test;
 
 use field::Choice;
 use field::Field;

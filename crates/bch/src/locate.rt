@@ -10,19 +10,20 @@ ghost use Rattle.field.specs.Field.{longest};
 ghost use Rattle.field.specs.Tables.{Tables};
 ghost use Rattle.powers.specs.Powers.{Powers};
 ghost use Rattle.code.specs.Register.{register};
-ghost use Rattle.bch.specs.KeyEquation.{Elements};
-ghost use Rattle.bch.specs.PowerSums.{Decides, Agrees};
+ghost use Rattle.series.specs.Series.{Elements};
+ghost use Rattle.bits.specs.Decides.{Decides};
+ghost use Rattle.syndromes.specs.PowerSums.{Agrees};
 ghost use Rattle.bch.specs.Locating.{Locatable, Ascending, Finds};
 use crate::Found;
-use crate::key_equation::locate;
-use crate::key_equation::shortest;
-use crate::power_sums::sums_agree;
-use crate::power_sums::syndromes;
-use crate::split_test::cannot_split;
 use field::Field;
+use key_equation::shortest;
 use remainder::Register;
 use remainder::coefficients::is_zero;
 use root_finder::find_roots;
+use root_search::locate;
+use root_search::split_test::cannot_split;
+use syndromes::power_sums::sums_agree;
+use syndromes::power_sums::syndromes;
 
 // A finding with no exponents: the empty set, or none at all.
 fn no_exponents(located: bool) -> Found
@@ -82,7 +83,7 @@ fn passes(
     false
 }
 
-// Internal. The set of at most t exponents below n whose sum of powers leaves the remainder, if there is one.
+// The set of at most t exponents below n whose sum of powers leaves the remainder, if there is one.
 pub fn find_errors(
     f: Field,
     powers: &[u16; 16384],

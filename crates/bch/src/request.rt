@@ -79,7 +79,7 @@ fn locate_remainder(
     locate_by_tables(f, state, t, n, places)
 }
 
-// Internal. The answer in a field.
+// The answer in a field.
 pub fn locate_in(
     f: Field,
     level_field: u64,

@@ -1,3 +1,4 @@
+pub mod Decides
 pub mod Numbers
 pub mod Runs
 pub mod Pages

@@ -93,7 +93,7 @@ impl Field {
     }
 }
 
-// Internal. The product of two elements.
+// The product of two elements.
 pub fn product(f: Field, x: u16, y: u16) -> u16
     requires { ⌜ x < 2 ^ degree f ⌝ }
     ensures { λ r. ⌜ Elem (degree f) (product f x y) r ⌝ }
@@ -121,7 +121,7 @@ fn shift_and_add(m: u32, modulus: u32, x: u32, y: u32) -> u32
     r
 }
 
-// Internal. The power n of an element, by the power of half the exponent.
+// The power n of an element, by the power of half the exponent.
 pub fn power(f: Field, x: u16, n: u64) -> u16
     requires { ⌜ x < 2 ^ degree f ⌝ }
     ensures { λ r. ⌜ Elem (degree f) (power f x n) r ⌝ }

@@ -7,7 +7,7 @@ ghost use Rattle.field.specs.declared.Field.the-variants.{Fourteen};
 ghost use Rattle.field.specs.Field.{product, a^};
 ghost use Rattle.powers.specs.Powers.{Powers, Begun};
 
-// Internal. Computes the table of powers for m = 14.
+// Computes the table of powers for m = 14.
 pub fn compute_powers(powers: &mut [u16; 16384])
     requires { ⌜ length (now powers) ≡ 16384 ⌝ }
     ensures { λ r. ⌜ Powers Fourteen (now (powers .exit)) ⌝ }

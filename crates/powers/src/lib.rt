@@ -15,7 +15,7 @@ use field::Field;
 mod computed;
 mod stored;
 
-// Internal. Fills the table of powers and the table of logarithms of a field.
+// Fills the table of powers and the table of logarithms of a field.
 pub fn fill_tables(f: Field, powers: &mut [u16; 16384], logs: &mut [u16; 16384])
     requires { ⌜ (length (now powers) ≡ 16384) × (length (now logs) ≡ 16384) ⌝ }
     ensures { λ r. ⌜ Tables f (now (powers .exit)) (now (logs .exit)) ⌝ }
@@ -24,7 +24,7 @@ pub fn fill_tables(f: Field, powers: &mut [u16; 16384], logs: &mut [u16; 16384])
     fill_logs(f, powers, logs);
 }
 
-// Internal. Fills the table of powers of a field.
+// Fills the table of powers of a field.
 pub fn fill_powers(f: Field, powers: &mut [u16; 16384])
     requires { ⌜ length (now powers) ≡ 16384 ⌝ }
     ensures { λ r. ⌜ Powers f (now (powers .exit)) ⌝ }
@@ -35,7 +35,7 @@ pub fn fill_powers(f: Field, powers: &mut [u16; 16384])
     }
 }
 
-// Internal. Fills the table of logarithms: that of each power of a is its exponent; the entry at 0 is 0.
+// Fills the table of logarithms: that of each power of a is its exponent; the entry at 0 is 0.
 pub fn fill_logs(f: Field, powers: &[u16; 16384], logs: &mut [u16; 16384])
     requires { ⌜ Powers f (now powers) ⌝ }
     requires { ⌜ length (now logs) ≡ 16384 ⌝ }

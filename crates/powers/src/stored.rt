@@ -4,7 +4,7 @@ ghost use lib.ListN.{length};
 ghost use Rattle.field.specs.declared.Field.the-variants.{Thirteen};
 ghost use Rattle.powers.specs.Powers.{Powers};
 
-// Internal. Copies the stored powers to a lent table.
+// Copies the stored powers to a lent table.
 pub fn copy_powers(powers: &mut [u16; 16384])
     requires { ⌜ length (now powers) ≡ 16384 ⌝ }
     ensures { λ r. ⌜ Powers Thirteen (now (powers .exit)) ⌝ }

@@ -140,7 +140,7 @@ fn read_off(
     places
 }
 
-// Internal. Proposes the places p, ascending, for which a^p is a root of c_0 x^len + .. + c_len, where c_0 is 1. Where it finds no
+// Proposes the places p, ascending, for which a^p is a root of c_0 x^len + .. + c_len, where c_0 is 1. Where it finds no
 // `len` roots the places are of no meaning.
 pub fn find_roots(
     f: Field,

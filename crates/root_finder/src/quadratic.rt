@@ -1,5 +1,5 @@
 // A root of x^2 + b x + c with b not 0: b y, where y^2 + y = c / b^2. The map of y to y^2 + y is linear over the bits, so y is a sum
-// of stored solutions, one for each bit.
+// of stored solutions, one for each bit (`scripts/half-solutions.py` prints them).
 //
 //   root    a root of a factor of degree 1 or 2
 ghost use mathlib.Core.Path.{_≡_};
@@ -73,7 +73,7 @@ fn half(f: Field, v: u16) -> u16 {
     y
 }
 
-// Internal. A root of x + c, if the degree is 1, or of x^2 + b x + c.
+// A root of x + c, if the degree is 1, or of x^2 + b x + c.
 pub fn root(
     f: Field,
     powers: &[u16; 16384],

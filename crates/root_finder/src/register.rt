@@ -127,7 +127,7 @@ fn fill(rows: &mut [u64], used: usize, m: usize)
     }
 }
 
-// Internal. The rows of the lowest digit for a monic polynomial with d coefficients below the leading 1.
+// The rows of the lowest digit for a monic polynomial with d coefficients below the leading 1.
 pub fn first_digit(f: &[u16], d: usize, m: usize) -> [u64; 256]
     requires { ⌜ (9 ≤ m) × (m ≤ 16) × (d ≤ 62) × (d ≤ length (now f)) ⌝ }
 {
@@ -151,7 +151,7 @@ fn put_unit(before: &[u64; 256], rows: &mut [u64], used: usize, m: usize)
     }
 }
 
-// Internal. The rows of a digit from those of the digit before.
+// The rows of a digit from those of the digit before.
 pub fn next_digit(before: &[u64; 256], d: usize, m: usize) -> [u64; 256]
     requires { ⌜ (9 ≤ m) × (m ≤ 16) × (d ≤ 62) ⌝ }
 {
@@ -201,7 +201,7 @@ fn step(
     }
 }
 
-// Internal. The remainder of a polynomial with `count` coefficients modulo a polynomial of degree d with the given rows; it takes the
+// The remainder of a polynomial with `count` coefficients modulo a polynomial of degree d with the given rows; it takes the
 // first d places.
 pub fn reduce(
     rows0: &[u64; 256],

@@ -59,7 +59,7 @@ pub fn scaled_term(powers: &[u16; 16384], n: usize, log: u16, e: usize) -> u16
     powers[k]
 }
 
-// Internal. The logarithms of `count` terms from `at` on.
+// The logarithms of `count` terms from `at` on.
 pub fn take_logs(
     logs: &[u16; 16384],
     row: &[u16],
@@ -79,7 +79,7 @@ pub fn take_logs(
     }
 }
 
-// Internal. Adds a^e times a row of `count` logarithms from `at` on to the terms from `to` on.
+// Adds a^e times a row of `count` logarithms from `at` on to the terms from `to` on.
 pub fn add_multiple(
     powers: &[u16; 16384],
     n: usize,
@@ -128,7 +128,7 @@ fn divide_step(
     a[top] = powers[e];
 }
 
-// Internal. Divides `count` terms from `at` on by a polynomial with `low` logarithms and one more term, 1 / a^lead. The first `low`
+// Divides `count` terms from `at` on by a polynomial with `low` logarithms and one more term, 1 / a^lead. The first `low`
 // terms become the remainder, those above the quotient.
 pub fn divide(
     powers: &[u16; 16384],
@@ -152,7 +152,7 @@ pub fn divide(
     }
 }
 
-// Internal. The number of terms up to the last that is not 0, of `count` terms from `at` on.
+// The number of terms up to the last that is not 0, of `count` terms from `at` on.
 pub fn terms(row: &[u16], at: usize, count: usize) -> usize
     requires { ⌜ at + count ≤ length (now row) ⌝ }
     ensures { λ r. ⌜ r ≤ count ⌝ }
@@ -168,7 +168,7 @@ pub fn terms(row: &[u16], at: usize, count: usize) -> usize
     0
 }
 
-// Internal. Copies `count` terms.
+// Copies `count` terms.
 pub fn copy(row: &[u16], at: usize, out: &mut [u16], to: usize, count: usize)
     requires { ⌜ (at + count ≤ length (now row)) × (to + count ≤ length (now out)) ⌝ }
     ensures { λ r. ⌜ length (now (out .exit)) ≡ length (now (out .entry)) ⌝ }
@@ -180,7 +180,7 @@ pub fn copy(row: &[u16], at: usize, out: &mut [u16], to: usize, count: usize)
     }
 }
 
-// Internal. Copies a monic polynomial of degree d, which stands as its d terms below the leading 1, with that.
+// Copies a monic polynomial of degree d, which stands as its d terms below the leading 1, with that.
 pub fn copy_monic(row: &[u16], at: usize, out: &mut [u16], d: usize)
     requires { ⌜ (at + d ≤ length (now row)) × (d < length (now out)) ⌝ }
     ensures { λ r. ⌜ length (now (out .exit)) ≡ length (now (out .entry)) ⌝ }

@@ -234,7 +234,7 @@ fn larger(x: usize, y: usize) -> usize {
     if x < y { y } else { x }
 }
 
-// Internal. Splits each factor by a trace modulo f, whose degree is d. The largest degree that is left.
+// Splits each factor by a trace modulo f, whose degree is d. The largest degree that is left.
 pub fn split_all(
     powers: &[u16; 16384],
     logs: &[u16; 16384],

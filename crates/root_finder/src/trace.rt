@@ -86,7 +86,7 @@ fn raise(
     is_x(&power, d)
 }
 
-// Internal. Row k of 64 places becomes the logarithms of x^(2^k) modulo f, for k < m, where f has the d coefficients `factor` below
+// Row k of 64 places becomes the logarithms of x^(2^k) modulo f, for k < m, where f has the d coefficients `factor` below
 // its leading 1. Whether x^(2^m) modulo f is x: so it is where all roots of f lie in the field and are distinct.
 pub fn conjugates(
     powers: &[u16; 16384],
@@ -107,7 +107,7 @@ pub fn conjugates(
     raise(powers, logs, n, m, &rows0, &rows1, &rows2, &rows3, d, rows)
 }
 
-// Internal. The trace of a^i x modulo f, by the rows of its conjugates; `out` is 0 before.
+// The trace of a^i x modulo f, by the rows of its conjugates; `out` is 0 before.
 pub fn trace(
     powers: &[u16; 16384],
     n: usize,

@@ -3,7 +3,7 @@ use mathlib.Core.Path.{_≡_}
 use Prim.Native.Nat.{_-_, _≤_}
 use native.Mathlib.Omega.{arith}
 use borrow.Author.Needs.{needs}
-use Rattle.bch.proofs.PowerSums.{decides-true, decides-false}
+use Rattle.bits.proofs.Decides.{decides-true, decides-false}
 use Rattle.bch.proofs.Locating.{Ordered, ordered-start, ordered-next, ordered-low, ordered-high}
 use Rattle.bch.proofs.locate.ascend_below.Statement.{statement}
 use Rattle.bch.proofs.locate.ascend_below.Tie as tie

@@ -6,8 +6,8 @@ use borrow.Author.Tests.{eqb-true}
 use borrow.Author.Needs.{needs}
 use lib.ListN.{length}
 use Rattle.code.specs.Locations.{locate}
-use Rattle.bch.proofs.PowerSums.{syndromes-power-sums}
-use Rattle.bch.proofs.Locating.{zero-located, nonzero-short, recurs-leading, recurs-divisor, unsplit-nowhere, long-nowhere, few-nowhere, wrong-nowhere, list-located, agreed-located, finds-none, finds-zero, finds-listed, finds-list}
+use Rattle.series.proofs.Element.{small-elements}
+use Rattle.bch.proofs.Locating.{syndromes-power-sums, zero-located, nonzero-short, recurs-leading, recurs-divisor, unsplit-nowhere, long-nowhere, few-nowhere, wrong-nowhere, list-located, agreed-located, finds-none, finds-zero, finds-listed, finds-list}
 use Rattle.bch.proofs.locate.find_errors.Statement.{statement}
 use Rattle.bch.proofs.locate.find_errors.Tie as tie
 
@@ -92,7 +92,7 @@ locate-requires c κs =
     let short = nonzero-short (s .pre .1) (c .before .before .before .before .before .before .before .before .before .before .before .before .before .before .is-zero .ensures) (c .before .before .before .before .before .before .before .before .before .before .before .before .before .if1 .left) in
     let sums = c .before .before .before .before .before .before .before .before .before .before .before .before .syndromes .ensures in
     let recurs = c .before .before .before .before .before .before .before .before .before .before .shortest .ensures in
-    (s .pre .0, (omega (arith, s .pre .1 .fits .level, c .before .before .before .before .before .before .before .before .if2 .left), short, recurs .small-c, recurs-leading _ _ _ _ (s .pre .1) short sums recurs))
+    (s .pre .0, (omega (arith, s .pre .1 .fits .level, c .before .before .before .before .before .before .before .before .if2 .left), short, small-elements _ (recurs .small-c), recurs-leading _ _ _ _ (s .pre .1) short sums recurs))
 
 no-exponents-requires-4 : tie.Need-no-exponents-requires-4
 no-exponents-requires-4 c κs = search needs

@@ -1,7 +1,7 @@
 -- `bch::locate::passes` meets its contract.
 use native.Mathlib.Omega.{arith}
 use borrow.Author.Needs.{needs}
-use Rattle.bch.proofs.PowerSums.{decides-false, decides-as}
+use Rattle.bits.proofs.Decides.{decides-false, decides-as}
 use Rattle.bch.proofs.locate.passes.Statement.{statement}
 use Rattle.bch.proofs.locate.passes.Tie as tie
 
