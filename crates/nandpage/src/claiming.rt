@@ -6,7 +6,7 @@ use crate::layouts;
 use crate::layouts::Planned;
 use crate::say;
 use layout::Plan;
-use page::ClaimAnswer;
+use page_claim::ClaimAnswer;
 use text::Number;
 
 // Puts argument i to place `at` of the claims, and says whether it is an exponent.
@@ -46,7 +46,7 @@ fn right(claims: usize) {
 }
 
 fn answer(record: &[u8], plan: Plan, page: &[u8], block: u64, claims: &[u16]) {
-    match page::check_claim(record, page, block, claims) {
+    match page_claim::check_claim(record, page, block, claims) {
         ClaimAnswer::Accepted => right(claims.len()),
         ClaimAnswer::Refused(reply) => say::page_refused(reply, plan, page.len()),
     }

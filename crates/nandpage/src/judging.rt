@@ -6,7 +6,7 @@ use crate::layouts;
 use crate::layouts::Planned;
 use crate::say;
 use layout::Plan;
-use page_read::JudgeAnswer;
+use page_judge::JudgeAnswer;
 use text::Number;
 
 // One block in a list: its corrected bits, or that it is ruined. Says how many ruined blocks that is.
@@ -33,7 +33,7 @@ pub fn list(record: &[u8], plan: Plan, page: &[u8]) -> u64 {
     let mut ruined = 0;
     let mut b = 0;
     while b < n {
-        ruined = text::plus(ruined, entry(page_read::judge_block(record, page, b)));
+        ruined = text::plus(ruined, entry(page_judge::judge_block(record, page, b)));
         b += 1;
     }
     ruined
@@ -46,7 +46,7 @@ fn flips(block: u64, n: u8) {
 }
 
 fn answer(record: &[u8], plan: Plan, page: &[u8], block: u64) {
-    match page_read::judge_block(record, page, block) {
+    match page_judge::judge_block(record, page, block) {
         JudgeAnswer::Flips(n) => flips(block, n),
         JudgeAnswer::Refused(reply) => say::page_refused(reply, plan, page.len()),
         JudgeAnswer::Ruined(b) => {

@@ -6,7 +6,7 @@ use crate::layouts;
 use crate::layouts::Planned;
 use crate::say;
 use layout::Plan;
-use page::WriteAnswer;
+use page_write::WriteAnswer;
 
 // A page was written into the buffer: it goes to the file that argument 6 names.
 fn written(page: &[u8]) {
@@ -31,7 +31,7 @@ fn refused(reply: u8, plan: Plan, metadata: usize, data: usize) {
 fn write_from(record: &[u8], plan: Plan, metadata: &[u8], data: &[u8]) {
     let mut page = io::large_buffer();
     let size = plan.size as usize;
-    let answer = page::write_page(record, metadata, data, text::front_mut(&mut page, size));
+    let answer = page_write::write_page(record, metadata, data, text::front_mut(&mut page, size));
     match answer {
         WriteAnswer::Done => written(text::front(&page, size)),
         WriteAnswer::Refused(reply) => refused(reply, plan, metadata.len(), data.len()),

@@ -1,8 +1,2 @@
--- The laws behind the reader and the judge.
-pub mod Remainders
-pub mod Scanning
-pub mod Deciding
-pub mod Payload
-pub mod Messages
-pub mod Turning
+-- The laws behind the reader.
 pub mod Ends

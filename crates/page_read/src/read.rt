@@ -1,28 +1,25 @@
 // Reading a page: every block is decided before any byte is written.
 ghost use mathlib.Core.Path.{_≡_};
-ghost use Prim.Native.Nat.{ℕ, _<_};
 ghost use Rattle.remainder.specs.Table.{Table};
 ghost use Rattle.page_theory.specs.Damage.{Outputs};
 ghost use Rattle.page_theory.specs.Calls.{readEnded, readReply, readIn, readOf};
 ghost use Rattle.page_read.specs.Answers.{readNumber, readBlock};
-ghost use Rattle.blocks.specs.Plans.{Planned};
-ghost use Rattle.page_read.specs.Looking.{Ready, remainderAt, Scanned};
-ghost use Rattle.page_read.specs.Deciding.{Decided};
-use crate::Decision;
+ghost use Rattle.page_plan.specs.Plans.{Planned, Ready};
+ghost use Rattle.page_decide.specs.Looking.{Scanned};
 use crate::ReadAnswer;
-use crate::Scan;
-use crate::decide::decide;
-use crate::look::block_remainder;
-use crate::look::first_damaged;
-use crate::take::copy_messages;
-use crate::take::turn_blocks;
-use crate::take::write_counts;
-use blocks::later_table;
 use layout::Acceptance;
 use layout::Plan;
 use layout::check_layout;
 use layout::plan_of;
 use layout::refusal_reply;
+use page_decide::Decision;
+use page_decide::Scan;
+use page_decide::decide::decide;
+use page_decide::look::block_remainder;
+use page_decide::look::first_damaged;
+use page_plan::later_table;
+use page_take::take_clean;
+use page_take::take_decided;
 use remainder::table::make_table;
 
 // The reply to the lengths that a reader is lent.
@@ -42,38 +39,6 @@ fn read_reply(plan: Plan, page: usize, metadata: usize, data: usize, counts: usi
         return 6;
     }
     0
-}
-
-// Takes everything out of a page of which no block is damaged.
-fn take_clean(plan: Plan, page: &[u8], metadata: &mut [u8], data: &mut [u8], counts: &mut [u8])
-    requires { ⌜ (Ready plan (now page)) × (Outputs plan (now metadata) (now «data») (now counts)) ⌝ }
-    requires { ⌜ ((b : ℕ) → b < plan .blocks → remainderAt plan (now page) b ≡ 0) ⌝ }
-    ensures { λ r. ⌜ readEnded 0 0 (now (metadata .exit)) (now («data» .exit)) (now (counts .exit))
-        ≡ readIn plan (now (page .entry)) (now (metadata .entry)) (now («data» .entry)) (now (counts .entry)) ⌝ }
-{
-    let flips = [0u8; 256];
-    copy_messages(plan, page, metadata, data);
-    write_counts(counts, &flips);
-}
-
-// Takes everything out of a page of which every block is decided.
-fn take_decided(
-    plan: Plan,
-    page: &[u8],
-    places: &[u16; 16384],
-    flips: &[u8; 256],
-    metadata: &mut [u8],
-    data: &mut [u8],
-    counts: &mut [u8],
-)
-    requires { ⌜ (Ready plan (now page)) × (Outputs plan (now metadata) (now «data») (now counts)) ⌝ }
-    requires { ⌜ Decided plan (now page) (plan .blocks) (now places) (now flips) ⌝ }
-    ensures { λ r. ⌜ readEnded 0 0 (now (metadata .exit)) (now («data» .exit)) (now (counts .exit))
-        ≡ readIn plan (now (page .entry)) (now (metadata .entry)) (now («data» .entry)) (now (counts .entry)) ⌝ }
-{
-    copy_messages(plan, page, metadata, data);
-    turn_blocks(plan, places, flips, metadata, data);
-    write_counts(counts, flips);
 }
 
 // Reads a page of which `scan` is the first damaged block; `table` is that of the later blocks' generator. The places are here, since
@@ -144,9 +109,9 @@ fn read_lent(
     let t = first.level as usize;
     let mut table = [0u64; 3600];
     make_table(f, t, &mut table);
-    let state = block_remainder(plan, page, &table, 0);
+    let remainder = block_remainder(plan, page, &table, 0);
     later_table(plan, &mut table);
-    let scan = first_damaged(plan, page, state, &table);
+    let scan = first_damaged(plan, page, remainder, &table);
     read_scanned(plan, page, scan, &table, metadata, data, counts)
 }
 

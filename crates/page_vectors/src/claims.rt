@@ -19,8 +19,8 @@ fn exponents(bytes: &[u8]) -> [u16; 64] {
 
 fn claim_answer(head: &[u8], words: &[u8], page: &[u8], claims: &[u16], line: &mut [u8]) -> usize {
     let block = vector_io::number(head, 24, 8);
-    let answer = page::check_claim(words, page, block, claims);
-    lines::put_reply(line, page::claim_number(answer), 0)
+    let answer = page_claim::check_claim(words, page, block, claims);
+    lines::put_reply(line, page_claim::claim_number(answer), 0)
 }
 
 // Reads the page and the claim into buffers of their lengths, and checks the claim.

@@ -1,6 +1,6 @@
 // Vectors that judge one block of a page.
 use crate::lines;
-use page_read::JudgeAnswer;
+use page_judge::JudgeAnswer;
 
 fn put_flips(line: &mut [u8], flips: u8) -> usize {
     let at = lines::put_reply(line, 0, 0);
@@ -21,7 +21,7 @@ fn judge_body(head: &[u8], words: &[u8], page: &mut [u8], line: &mut [u8]) -> us
         return 0;
     }
     let block = vector_io::number(head, 24, 8);
-    let answer = page_read::judge_block(words, page, block);
+    let answer = page_judge::judge_block(words, page, block);
     put_answer(line, answer)
 }
 

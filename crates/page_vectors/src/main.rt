@@ -1,4 +1,4 @@
-// Runs test vectors of the crates page and page_read: each vector on standard input is one call, and its answer is one line.
+// Runs test vectors of the page calls (write, read, judge, claim): each vector on standard input is one call, and its answer is one line.
 //
 // A vector is a head of 32 bytes and then a body. The head: the kind of call, the length of the layout record, its bytes in twelve places,
 // two bytes not used, the length of the page in four bytes, and twelve bytes that depend on the kind:

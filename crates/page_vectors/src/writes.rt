@@ -8,8 +8,8 @@ fn write_answer(
     page: &mut [u8],
     line: &mut [u8],
 ) -> usize {
-    let answer = page::write_page(words, metadata, data, page);
-    let at = lines::put_reply(line, page::write_number(answer), 0);
+    let answer = page_write::write_page(words, metadata, data, page);
+    let at = lines::put_reply(line, page_write::write_number(answer), 0);
     lines::put_buffer(line, at, page)
 }
 

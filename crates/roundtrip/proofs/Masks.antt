@@ -1,4 +1,4 @@
--- Laws of masks: counting the bits that they name, and turning them over byte by byte.
+-- Laws of masks: counting the bits that they name, and flipping them byte by byte.
 use mathlib.Core.Path.{_≡_, refl, sym, ap, _∙_}
 use mathlib.Core.Bool.{Bool, true, false, cond}
 use mathlib.Core.List.{List}
@@ -80,7 +80,7 @@ allowed-each q mask h = go (eqb (length mask) (q .size)) refl h
     go false e h = let z : _≡_ {A = ℕ} 0 1 = cc in absurd (omega arith)
     go true e h = record { size = eqb-true _ _ e; few = few-each q mask (q .blocks) h }
 
--- turning over
+-- flipping
 
 differ-turn : (x y : Bool) → differ x y ≡ turn y x
 unfolding differ turn flip
@@ -89,20 +89,20 @@ differ-turn true false = refl
 differ-turn false true = refl
 differ-turn false false = refl
 
--- the first i bytes of a page are turned over
-pub record Turned (mask before : List ℕ) (i : ℕ) (after : List ℕ) : Type 0 where
+-- the first i bytes of a page are flipped
+pub record Flipped (mask before : List ℕ) (i : ℕ) (after : List ℕ) : Type 0 where
   pub same : length after ≡ length before
   pub own : (k : ℕ) → k < i → getD after k 0 ≡ bitXor (getD before k 0) (getD mask k 0)
   pub others : (k : ℕ) → i ≤ k → getD after k 0 ≡ getD before k 0
   pub small : (k : ℕ) → k < i → getD after k 0 < 256
 
-pub turned-start : (mask page : List ℕ) → Turned mask page 0 page
-turned-start mask page = record { same = refl; own = λ k l. absurd (omega arith); others = λ k l. refl; small = λ k l. absurd (omega arith) }
+pub flipped-start : (mask page : List ℕ) → Flipped mask page 0 page
+flipped-start mask page = record { same = refl; own = λ k l. absurd (omega arith); others = λ k l. refl; small = λ k l. absurd (omega arith) }
 
-pub turned-next : (mask before : List ℕ) (i : ℕ) (after : List ℕ) → Turned mask before i after → i < length before
+pub flipped-next : (mask before : List ℕ) (i : ℕ) (after : List ℕ) → Flipped mask before i after → i < length before
     → getD after i 0 < 256 → getD mask i 0 < 256
-    → Turned mask before (i + 1) (set after i (bitXor (getD after i 0) (getD mask i 0)))
-turned-next mask before i after h l x y = record {
+    → Flipped mask before (i + 1) (set after i (bitXor (getD after i 0) (getD mask i 0)))
+flipped-next mask before i after h l x y = record {
   same = length-set after i _ ∙ h .same;
   own = λ k m. elim (decLt k i) [
     | yes z ↦ getD-set-other after i k _ 0 (λ e. omega arith) ∙ h .own k z
@@ -117,10 +117,10 @@ turned-next mask before i after h l x y = record {
   ];
 }
 
-pub turned-end : (mask before after : List ℕ) → Turned mask before (length before) after
+pub flipped-end : (mask before after : List ℕ) → Flipped mask before (length before) after
     → after ≡ overlaid mask before
 unfolding overlaid bitOf bitAt
-turned-end mask before after h = sym (bytes-ext _ (length before) after bytes-after bit-after)
+flipped-end mask before after h = sym (bytes-ext _ (length before) after bytes-after bit-after)
   where
     bytes-after : Bytes (length before) after
     bytes-after = record {

@@ -24,8 +24,8 @@ use Rattle.page_theory.proofs.Accepted.{accepted-accepts, accepts-layout, accep
 use Rattle.page_theory.proofs.Damage.{maskSets, mask-flips, mask-damaged}
 use Rattle.page_theory.proofs.Demand2.{write-done}
 use Rattle.page_theory.proofs.Demand3.{reads-back}
-use Rattle.page.specs.declared.WriteAnswer.{WriteAnswer}
-use Rattle.page.specs.Answers.{writeNumber, writeBlock}
+use Rattle.page_write.specs.declared.WriteAnswer.{WriteAnswer}
+use Rattle.page_write.specs.Answers.{writeNumber, writeBlock}
 use Rattle.page_read.specs.declared.ReadAnswer.{ReadAnswer}
 use Rattle.page_read.specs.Answers.{readNumber, readBlock}
 use Rattle.roundtrip.specs.declared.RoundTrip.the-variants.{Done, Refused, Mask}

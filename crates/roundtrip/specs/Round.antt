@@ -1,4 +1,4 @@
--- Writing a page, turning over the bits that a mask names, and reading the page back (document 01, "Damage").
+-- Writing a page, flipping the bits that a mask names, and reading the page back (document 01, "Damage").
 -- Given by what must come of it: nothing here looks for errors.
 --
 -- Round, roundEnded      how a round trip ends: its answer, and what page, metadata, data and counts hold afterwards

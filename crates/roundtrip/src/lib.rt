@@ -1,13 +1,13 @@
 // Demand 3 of the running code (document 01, "Damage"): a page that is written and then damaged within its levels reads back.
 //
-//   round_trip     writes a page, turns over the bits that a lent mask names, and reads the page back
+//   round_trip     writes a page, flips the bits that a lent mask names, and reads the page back
 //
 // It calls the public writer and reader, nothing of their insides, and asks nothing of its caller. Its contract, specs/Round.antt,
-// promises the payload and each block's number of turned bits. The steps:
+// promises the payload and each block's number of flipped bits. The steps:
 // 1. round.rt has the page written.
 // 2. mask.rt counts the covered bits that the mask names in each block. More than t in one, or a mask of another length than the
 //    page, ends the call.
-// 3. mask.rt turns over every bit that the mask names, those of the tail included.
+// 3. mask.rt flips every bit that the mask names, those of the tail included.
 // 4. round.rt has the page read.
 mod mask;
 mod round;

@@ -1,4 +1,4 @@
-// Masks: how many bits of each block they name, and turning those bits over.
+// Masks: how many bits of each block they name, and flipping those bits.
 use bits::read::bit_at;
 use layout::Plan;
 use layout::block_covered;
@@ -54,7 +54,7 @@ fn blocks_allowed(plan: Plan, mask: &[u8]) -> bool
     true
 }
 
-// Internal: whether a mask may be laid over a page.
+// Whether a mask may be laid over a page.
 pub fn mask_allowed(plan: Plan, mask: &[u8]) -> bool
     ensures { λ r. ⌜ r ≡ allowed plan (now (mask .entry)) ⌝ }
 {
@@ -64,8 +64,8 @@ pub fn mask_allowed(plan: Plan, mask: &[u8]) -> bool
     blocks_allowed(plan, mask)
 }
 
-// Internal: turns over every bit of a page that the mask names.
-pub fn turn_over(mask: &[u8], page: &mut [u8])
+// Flips every bit of a page that the mask names.
+pub fn flip_by(mask: &[u8], page: &mut [u8])
     requires { ⌜ length (now mask) ≡ length (now page) ⌝ }
     ensures { λ r. ⌜ now (page .exit) ≡ overlaid (now (mask .entry)) (now (page .entry)) ⌝ }
 {

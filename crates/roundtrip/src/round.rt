@@ -1,16 +1,16 @@
 // The round trip of a page: written, damaged by a mask, read back.
 use crate::RoundTrip;
+use crate::mask::flip_by;
 use crate::mask::mask_allowed;
-use crate::mask::turn_over;
 use layout::Acceptance;
 use layout::Plan;
 use layout::check_layout;
 use layout::plan_of;
 use layout::refusal_reply;
-use page::WriteAnswer;
-use page::write_page;
 use page_read::ReadAnswer;
 use page_read::read_page;
+use page_write::WriteAnswer;
+use page_write::write_page;
 ghost use mathlib.Core.Path.{_≡_};
 ghost use Rattle.page_theory.specs.Damage.{Accepts};
 ghost use Rattle.page_theory.specs.Calls.{writeEnded, writeOf, readOf};
@@ -63,7 +63,7 @@ fn round_in(
     if !mask_allowed(plan, mask) {
         return RoundTrip::Mask;
     }
-    turn_over(mask, page);
+    flip_by(mask, page);
     let reply = read(words, page, metadata_out, data_out, counts);
     if reply != 0 {
         return RoundTrip::Refused(reply);
@@ -71,7 +71,7 @@ fn round_in(
     RoundTrip::Done
 }
 
-// Writes a page, turns over the bits that a mask names, and reads the page back.
+// Writes a page, flips the bits that a mask names, and reads the page back.
 pub fn round_trip(
     words: &[u8],
     metadata: &[u8],

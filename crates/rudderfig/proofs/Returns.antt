@@ -2,16 +2,18 @@
 use mathlib.Core.Path.{_≡_, sym, ap, _∙_}
 use mathlib.Core.List.{List}
 use Prim.Native.Nat.{ℕ}
-use Rattle.page.specs.declared.WriteAnswer.{WriteAnswer}
-use Rattle.page.specs.declared.WriteAnswer.the-variants as write
-use Rattle.page.specs.declared.ClaimAnswer.{ClaimAnswer}
-use Rattle.page.specs.declared.ClaimAnswer.the-variants as claim
-use Rattle.page.specs.Answers.{writeNumber, writeBlock, claimNumber}
+use Rattle.page_write.specs.declared.WriteAnswer.{WriteAnswer}
+use Rattle.page_write.specs.declared.WriteAnswer.the-variants as write
+use Rattle.page_claim.specs.declared.ClaimAnswer.{ClaimAnswer}
+use Rattle.page_claim.specs.declared.ClaimAnswer.the-variants as claim
+use Rattle.page_write.specs.Answers.{writeNumber, writeBlock}
+use Rattle.page_claim.specs.Answers.{claimNumber}
 use Rattle.page_read.specs.declared.ReadAnswer.{ReadAnswer}
 use Rattle.page_read.specs.declared.ReadAnswer.the-variants as read
-use Rattle.page_read.specs.declared.JudgeAnswer.{JudgeAnswer}
-use Rattle.page_read.specs.declared.JudgeAnswer.the-variants as judge
-use Rattle.page_read.specs.Answers.{readNumber, readBlock, judgeNumber, judgeBlock, judgeFlips}
+use Rattle.page_judge.specs.declared.JudgeAnswer.{JudgeAnswer}
+use Rattle.page_judge.specs.declared.JudgeAnswer.the-variants as judge
+use Rattle.page_read.specs.Answers.{readNumber, readBlock}
+use Rattle.page_judge.specs.Answers.{judgeNumber, judgeBlock, judgeFlips}
 use Rattle.page_theory.specs.Calls.{Written, writeEnded, Read, readEnded, Judged, judgeEnded, Claimed, claimEnded}
 use Rattle.rudderfig.specs.Answer.{answerWord, doneWord, refusedWord}
 use Rattle.rudderfig.specs.Pages.{WriteReturns, ReadReturns, judgeWord, claimWord}

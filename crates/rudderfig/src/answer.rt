@@ -2,21 +2,21 @@
 ghost use mathlib.Core.Path.{_≡_};
 ghost use Rattle.rudderfig.specs.Answer.{answerWord, doneWord, refusedWord};
 
-// Internal: reply in bits 0 to 7, its block in bits 8 to 23, kind in bits 24 to 31, value in bits 32 to 63.
+// Reply in bits 0 to 7, its block in bits 8 to 23, kind in bits 24 to 31, value in bits 32 to 63.
 pub fn answer_word(reply: u8, block: u16, kind: u8, value: u32) -> u64
     ensures { λ r. ⌜ r ≡ answerWord reply block kind value ⌝ }
 {
     reply as u64 + 0x100 * block as u64 + 0x1000000 * kind as u64 + 0x100000000 * value as u64
 }
 
-// Internal: the word of reply 0.
+// The word of reply 0.
 pub fn done(kind: u8, value: u32) -> u64
     ensures { λ r. ⌜ r ≡ doneWord kind value ⌝ }
 {
     answer_word(0, 0, kind, value)
 }
 
-// Internal: the word of a refusal.
+// The word of a refusal.
 pub fn refused(reply: u8, block: u16) -> u64
     ensures { λ r. ⌜ r ≡ refusedWord reply block ⌝ }
 {

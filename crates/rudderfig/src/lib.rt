@@ -24,10 +24,10 @@ use bch::LocateAnswer;
 use layout::Acceptance;
 use layout::BitAnswer;
 use layout::PositionAnswer;
-use page::ClaimAnswer;
-use page::WriteAnswer;
-use page_read::JudgeAnswer;
+use page_claim::ClaimAnswer;
+use page_judge::JudgeAnswer;
 use page_read::ReadAnswer;
+use page_write::WriteAnswer;
 ghost use mathlib.Core.Path.{_≡_};
 ghost use Rattle.bch.specs.Answers.{locateOf};
 ghost use Rattle.layout.specs.Acceptance.{acceptance};
@@ -82,7 +82,7 @@ pub extern "C" fn rudderfig_write_page(
     ensures { λ r. ⌜ WriteReturns (writeOf (now (words .entry)) (now (metadata .entry)) (now («data» .entry)) (now (page .entry)))
         r (now (page .exit)) ⌝ }
 {
-    match page::write_page(words, metadata, data, page) {
+    match page_write::write_page(words, metadata, data, page) {
         WriteAnswer::Done => done(0, 0),
         WriteAnswer::Refused(reply) => refused(reply, 0),
     }
@@ -113,7 +113,7 @@ pub extern "C" fn rudderfig_read_page(
 pub extern "C" fn rudderfig_judge_block(words: &[u8], page: &[u8], block: u64) -> u64
     ensures { λ r. ⌜ r ≡ judgeWord (judgeOf (now (words .entry)) (now (page .entry)) block) ⌝ }
 {
-    match page_read::judge_block(words, page, block) {
+    match page_judge::judge_block(words, page, block) {
         JudgeAnswer::Flips(flips) => done(0, flips as u32),
         JudgeAnswer::Refused(reply) => refused(reply, 0),
         JudgeAnswer::Ruined(ruined) => refused(9, ruined),
@@ -130,7 +130,7 @@ pub extern "C" fn rudderfig_check_claim(
 ) -> u64
     ensures { λ r. ⌜ r ≡ claimWord (claimOf (now (words .entry)) (now (page .entry)) block (now (claims .entry))) ⌝ }
 {
-    match page::check_claim(words, page, block, claims) {
+    match page_claim::check_claim(words, page, block, claims) {
         ClaimAnswer::Accepted => done(0, 0),
         ClaimAnswer::Refused(reply) => refused(reply, 0),
     }

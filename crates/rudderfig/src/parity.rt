@@ -10,7 +10,7 @@ pub struct Worded {
     pub state: State,
 }
 
-// Internal: starts a block, by value.
+// Starts a block, by value.
 pub fn started(state: State, level_field: u64, field_choice: u64, length: u64) -> Worded
     ensures { λ r. ⌜ StateReturns (startOf state «level_field» «field_choice» length) (r .word) (r .state) ⌝ }
 {
@@ -23,7 +23,7 @@ pub fn started(state: State, level_field: u64, field_choice: u64, length: u64) -
     }
 }
 
-// Internal: feeds a piece, by value.
+// Feeds a piece, by value.
 pub fn fed(state: State, piece: &[u8]) -> Worded
     ensures { λ r. ⌜ StateReturns (feedOf state (now (piece .entry))) (r .word) (r .state) ⌝ }
 {
@@ -36,7 +36,7 @@ pub fn fed(state: State, piece: &[u8]) -> Worded
     }
 }
 
-// Internal: finishes, by value.
+// Finishes, by value.
 pub fn finished(state: State, parity: &mut [u8]) -> Worded
     ensures { λ r. ⌜ ParityReturns (finishOf state (now (parity .entry))) (r .word) (r .state) (now (parity .exit)) ⌝ }
 {

@@ -3,8 +3,8 @@ use Prim.Native.Nat.{ℕ}
 use borrow.Author.Needs.{needs}
 use lib.ListN.{length-replicate}
 use Rattle.page_read.specs.Answers.{readNumber, readBlock}
-use Rattle.page_read.specs.Deciding.{Decides}
-use Rattle.page_read.proofs.Deciding.{underway-start, zeros-at}
+use Rattle.page_decide.specs.Deciding.{Settles}
+use Rattle.page_decide.proofs.Deciding.{underway-start, zeros-at}
 use Rattle.page_read.proofs.Ends.{read-ruined}
 use Rattle.page_read.proofs.read.read_damaged.Statement.{statement}
 use Rattle.page_read.proofs.read.read_damaged.Tie as tie
@@ -25,7 +25,7 @@ enum-told : tie.Need-enum-told
 enum-told c = search needs
 
 take-decided-requires : tie.Need-take-decided-requires
-unfolding Decides
+unfolding Settles
 take-decided-requires c κs =
     let told = c .before .before .before .before .before in
     let d = told .before .before in
@@ -33,7 +33,7 @@ take-decided-requires c κs =
     (p .0, rw (told .enum-told .given .1) at (d .decide .ensures))
 
 returns : tie.Need-returns
-unfolding Decides readNumber readBlock
+unfolding Settles readNumber readBlock
 returns c =
     let d = c .before .before .before in
     let p = d .before .before .before .before .before .before .before .before .pre in

@@ -3,7 +3,7 @@ use mathlib.Core.Path.{sym, _∙_}
 use borrow.Author.Needs.{needs}
 use Rattle.page_theory.specs.Calls.{readFor, readOf}
 use Rattle.page_read.specs.Answers.{readNumber, readBlock}
-use Rattle.blocks.proofs.Plans.{accepted-planned}
+use Rattle.page_plan.proofs.Plans.{accepted-planned}
 use Rattle.page_read.proofs.read.read_page.Statement.{statement}
 use Rattle.page_read.proofs.read.read_page.Tie as tie
 

@@ -32,8 +32,8 @@ returns-2 c =
     (trip-written (a .args .words .now) (a .args .plan) (a .pre) (a .args .metadata .now) (a .args .«data» .now) (a .args .mask .now) (a .args .page .now) (a .args .metadata-out .now) (a .args .data-out .now) (a .args .counts .now) (w .write .ensures) (c .before .before .if1 .left))
     (sym (not-true _ (c .if2 .taken)) ∙ c .before .mask-allowed .ensures)
 
-turn-over-requires : tie.Need-turn-over-requires
-turn-over-requires c κs =
+flip-by-requires : tie.Need-flip-by-requires
+flip-by-requires c κs =
     let w = c .before .before .before .before .before .before in
     let a = w .before .before .before .before .before .before .before .before .before .before in
     trip-sizes (a .args .words .now) (a .args .plan) (a .pre) (a .args .metadata .now) (a .args .«data» .now) (a .args .mask .now) (a .args .page .now) (a .args .metadata-out .now) (a .args .data-out .now) (a .args .counts .now)
@@ -64,7 +64,7 @@ returns-3 c =
     (λ i. w .before .before .before .before .before .before .before .before .shared-slice-known2 .given i .fits) (λ i. w .before .before .before .before .before .before .before .shared-slice-known3 .given i .fits)
     (trip-written (a .args .words .now) (a .args .plan) (a .pre) (a .args .metadata .now) (a .args .«data» .now) (a .args .mask .now) (a .args .page .now) (a .args .metadata-out .now) (a .args .data-out .now) (a .args .counts .now) (w .write .ensures) (t .before .before .before .before .if1 .left))
     (sym (not-false _ (t .before .before .if2 .left)) ∙ t .before .before .before .mask-allowed .ensures)
-    (t .turn-over .ensures) (c .before .before .before .before .before .before .before .read .ensures) (c .if3 .taken)
+    (t .flip-by .ensures) (c .before .before .before .before .before .before .before .read .ensures) (c .if3 .taken)
 
 same-length-7 : tie.Need-same-length-7
 same-length-7 c = search needs
@@ -87,7 +87,7 @@ returns-4 c =
     (λ i. w .before .before .before .before .before .before .before .before .shared-slice-known2 .given i .fits) (λ i. w .before .before .before .before .before .before .before .shared-slice-known3 .given i .fits)
     (trip-written (a .args .words .now) (a .args .plan) (a .pre) (a .args .metadata .now) (a .args .«data» .now) (a .args .mask .now) (a .args .page .now) (a .args .metadata-out .now) (a .args .data-out .now) (a .args .counts .now) (w .write .ensures) (t .before .before .before .before .if1 .left))
     (sym (not-false _ (t .before .before .if2 .left)) ∙ t .before .before .before .mask-allowed .ensures)
-    (t .turn-over .ensures) (c .before .before .before .before .before .before .before .read .ensures) (c .if3 .left)
+    (t .flip-by .ensures) (c .before .before .before .before .before .before .before .read .ensures) (c .if3 .left)
 
 pub round-in-spec : {M : Type 1} → statement M
 round-in-spec =
@@ -99,7 +99,7 @@ round-in-spec =
     mask-allowed-requires
     same-length-2
     returns-2
-    turn-over-requires
+    flip-by-requires
     read-requires
     same-length-3
     same-length-4

@@ -1,5 +1,5 @@
 -- `roundtrip::round::write` meets its contract.
-use Rattle.page.specs.Answers.{writeNumber, writeBlock}
+use Rattle.page_write.specs.Answers.{writeNumber, writeBlock}
 use Rattle.roundtrip.proofs.Trips.{write-told}
 use borrow.Author.Needs.{needs}
 use Rattle.roundtrip.proofs.round.write.Statement.{statement}

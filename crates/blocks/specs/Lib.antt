@@ -1,2 +1,0 @@
--- What the code that writes, reads and checks pages asks of a plan.
-pub mod Plans

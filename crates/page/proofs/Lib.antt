@@ -1,4 +1,0 @@
--- Laws behind the page calls.
-pub mod Plans
-pub mod Writing
-pub mod Claims

@@ -1,0 +1,3 @@
+-- The answer to a claim, and the parts of a right one.
+pub mod Answers
+pub mod Claims

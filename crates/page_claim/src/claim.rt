@@ -1,0 +1,165 @@
+// Claimed error locations of one block (document 01, "Claim"): a list of exponents in any order, whoever proposed them.
+use crate::ClaimAnswer;
+use bits::copy::copy_bits;
+use bits::write::flip_bit;
+use layout::Acceptance;
+use layout::Plan;
+use layout::Shape;
+use layout::block_shape;
+use layout::block_start;
+use layout::check_layout;
+use layout::covered;
+use layout::plan_of;
+use layout::refusal_reply;
+use page_plan::block_reply;
+use remainder::coefficients::is_zero;
+use remainder::runs::remainder_of;
+use remainder::table::make_table;
+ghost use mathlib.Core.Path.{_≡_};
+ghost use Prim.Native.Nat.{_+_, _*_, _≤_, _<_};
+ghost use lib.ListN.{length};
+ghost use Rattle.bits.specs.Bits.{bitOf, run, Inside};
+ghost use Rattle.layout.specs.Plan.{coveredOf};
+ghost use Rattle.code.specs.Word.{flipped};
+ghost use Rattle.code.specs.Code.{Codeword, Fits};
+ghost use Rattle.page_theory.specs.Claim.{Right};
+ghost use Rattle.page_theory.specs.Calls.{claimEnded, claimIn, claimOf};
+ghost use Rattle.page_plan.specs.Plans.{Stored, Planned};
+ghost use Rattle.page_claim.specs.Answers.{claimNumber};
+ghost use Rattle.page_claim.specs.Claims.{Decides, Distinct, Within};
+
+// Whether no two places of the list hold the same exponent.
+fn distinct(claims: &[u16]) -> bool
+    ensures { λ r. ⌜ Decides r (Distinct (now (claims .entry))) ⌝ }
+{
+    let mut ok = true;
+    let mut i = 0;
+    'pairs: while i < claims.len() {
+        let mut j = i + 1;
+        while j < claims.len() {
+            if claims[i] == claims[j] {
+                ok = false;
+                break 'pairs;
+            }
+            j += 1;
+        }
+        i += 1;
+    }
+    ok
+}
+
+// Whether each exponent of the list is below n.
+fn within(claims: &[u16], n: usize) -> bool
+    ensures { λ r. ⌜ Decides r (Within n (now (claims .entry))) ⌝ }
+{
+    let mut i = 0;
+    while i < claims.len() {
+        if n <= claims[i] as usize {
+            return false;
+        }
+        i += 1;
+    }
+    true
+}
+
+// Flips the bits at the claimed exponents of the word of n bits at the start of the bytes.
+fn flip_claims(claims: &[u16], bytes: &mut [u8], n: usize)
+    requires { ⌜ Within n (now claims) × (n ≤ 8 * length (now bytes)) ⌝ }
+    ensures { λ r. ⌜ run (bitOf (now (bytes .exit))) 0 n ≡ flipped (run (bitOf (now (bytes .entry))) 0 n) (now (claims .entry)) ⌝ }
+{
+    let mut i = 0;
+    while i < claims.len() {
+        let exponent = claims[i] as usize;
+        flip_bit(bytes, n - 1 - exponent);
+        i += 1;
+    }
+}
+
+// Whether the block at a position is a codeword once the claimed bits are flipped, by its remainder. The block is copied to the
+// start of `word`, and its bits are flipped there.
+fn is_code_flipped(
+    shape: Shape,
+    page: &[u8],
+    position: usize,
+    claims: &[u16],
+    word: &mut [u8],
+) -> bool
+    requires { ⌜ Stored shape × Inside (now page) position (coveredOf shape) × Within (coveredOf shape) (now claims)
+        × Inside (now word) 0 (coveredOf shape) ⌝ }
+    ensures { λ r. ⌜ Decides r
+        (Codeword (shape .field) (shape .level)
+        (flipped (run (bitOf (now (page .entry))) position (coveredOf shape)) (now (claims .entry)))) ⌝ }
+{
+    let field = shape.field;
+    let level = shape.level as usize;
+    let n = covered(shape);
+    copy_bits(page, position, word, 0, n);
+    flip_claims(claims, word, n);
+    let mut table = [0u64; 3600];
+    make_table(field, level, &mut table);
+    let remainder = remainder_of(field, level, &table, word, 0, n);
+    is_zero(remainder)
+}
+
+// The same with bytes to copy the block to: a block with t > 0 has at most 16,383 bits. At t = 0 every word is a codeword.
+fn leads_to_code(shape: Shape, page: &[u8], position: usize, claims: &[u16]) -> bool
+    requires { ⌜ Stored shape × Fits (shape .field) (shape .level) (coveredOf shape) × Inside (now page) position (coveredOf shape)
+        × Within (coveredOf shape) (now claims) ⌝ }
+    ensures { λ r. ⌜ Decides r
+        (Codeword (shape .field) (shape .level)
+        (flipped (run (bitOf (now (page .entry))) position (coveredOf shape)) (now (claims .entry)))) ⌝ }
+{
+    if shape.level == 0 {
+        return true;
+    }
+    let mut word = [0u8; 2048];
+    is_code_flipped(shape, page, position, claims, &mut word)
+}
+
+// Whether a claim about the block at a position is right.
+fn is_right(shape: Shape, page: &[u8], position: usize, claims: &[u16]) -> bool
+    requires { ⌜ Stored shape × Fits (shape .field) (shape .level) (coveredOf shape) × Inside (now page) position (coveredOf shape) ⌝ }
+    ensures { λ r. ⌜ Decides r
+        (Right (shape .field) (shape .level) (run (bitOf (now (page .entry))) position (coveredOf shape)) (now (claims .entry))) ⌝ }
+{
+    let level = shape.level as usize;
+    if level < claims.len() {
+        return false;
+    }
+    let n = covered(shape);
+    if !within(claims, n) {
+        return false;
+    }
+    if !distinct(claims) {
+        return false;
+    }
+    leads_to_code(shape, page, position, claims)
+}
+
+// Answers to a claim under a plan, where the page's length and the block number are right.
+fn claim_in(plan: Plan, page: &[u8], block: u64, claims: &[u16]) -> ClaimAnswer
+    requires { ⌜ Planned plan ⌝ }
+    ensures { λ r. ⌜ claimEnded (claimNumber r) ≡ claimIn plan (now (page .entry)) block (now (claims .entry)) ⌝ }
+{
+    let reply = block_reply(plan, page.len(), block);
+    if reply != 0 {
+        return ClaimAnswer::Refused(reply);
+    }
+    let number = block as u16;
+    let shape = block_shape(plan, number);
+    let position = block_start(plan, number);
+    if is_right(shape, page, position, claims) {
+        return ClaimAnswer::Accepted;
+    }
+    ClaimAnswer::Refused(10)
+}
+
+// Are these error locations, reported by a hardware locator, right?
+pub fn check_claim(words: &[u8], page: &[u8], block: u64, claims: &[u16]) -> ClaimAnswer
+    ensures { λ r. ⌜ claimEnded (claimNumber r) ≡ claimOf (now (words .entry)) (now (page .entry)) block (now (claims .entry)) ⌝ }
+{
+    match check_layout(words) {
+        Acceptance::Accepted(layout) => claim_in(plan_of(layout), page, block, claims),
+        Acceptance::Refused(refusal) => ClaimAnswer::Refused(refusal_reply(refusal)),
+    }
+}

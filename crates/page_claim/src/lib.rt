@@ -1,0 +1,20 @@
+// Claimed error locations of one block of a page (document 01, "Claim").
+//
+//   check_claim     are these error locations, reported by a hardware locator, right?
+//   claim_number    document 01's reply of its answer
+//
+// The call takes the layout record, the page and the list as they are, of any length, and asks nothing of its caller. What it answers
+// is one definition, `claimOf` of the crate `page_theory`, specs/Calls.antt. claim.rt looks at the record, the page's length and the
+// block number, then at the list: few enough, below n, no two alike; then it flips the claimed bits of a copy of the block and divides
+// that by the generator. No decoder is asked.
+mod answers;
+mod claim;
+
+pub use answers::claim_number;
+pub use claim::check_claim;
+
+// The answer to claimed locations: they are right, or this is the reply; 10 where they are wrong.
+pub enum ClaimAnswer {
+    Accepted,
+    Refused(u8),
+}

@@ -1,0 +1,3 @@
+-- What looking over the blocks of a page and deciding them promise.
+pub mod Looking
+pub mod Deciding

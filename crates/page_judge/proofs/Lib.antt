@@ -1,0 +1,2 @@
+-- The laws behind the judge.
+pub mod Ends

@@ -1,0 +1,2 @@
+-- The answer to one block.
+pub mod Answers

@@ -1,0 +1,18 @@
+// Judging one block of a page (document 01, "One block").
+//
+//   judge_block    the flip count of one block
+//
+// The call takes the layout record and the page as bytes of any length and asks nothing of its caller. What it answers is one
+// definition, `judgeOf` of the crate `page_theory`, specs/Calls.antt: it depends on the block number, the layout words, the page's length
+// and that block's own bits. judge.rt works out the remainder of the block by a table of its own; zero is no flip, and else `page_decide`
+// says what becomes of the block.
+mod judge;
+
+pub use judge::judge_block;
+
+// The answer to one block: how many of its covered bits are flipped, a reply, or that block where it has no codeword within t flips.
+pub enum JudgeAnswer {
+    Flips(u8),
+    Refused(u8),
+    Ruined(u16),
+}

@@ -1,0 +1,39 @@
+-- Tables of the blocks' generators.
+--
+-- degree-field    fields of one degree are one field
+-- table-same      where the test for the same generator holds, a table of the one block's generator is one of the other's
+-- table-later     the later blocks have one generator
+use mathlib.Core.Path.{_≡_, refl, sym, _∙_}
+use mathlib.Core.Bool.{Bool, true, false, cond}
+use mathlib.Core.List.{List}
+use Prim.Native.Nat.{ℕ, zero, suc, _<_}
+use native.Mathlib.Omega.{arith}
+use lib.Dec.{eqb}
+use borrow.Author.Tests.{eqb-true}
+use Rattle.field.specs.declared.Field.{Field}
+use Rattle.field.specs.declared.Field.the-variants.{Thirteen, Fourteen}
+use Rattle.field.specs.Field.{degree}
+use Rattle.layout.specs.declared.Shape.{Shape}
+use Rattle.layout.specs.declared.Plan.{Plan}
+use Rattle.layout.specs.Plan.{shape, field, level}
+use Rattle.remainder.specs.Table.{Table}
+
+pub degree-field : (f g : Field) → degree f ≡ degree g → f ≡ g
+unfolding degree
+degree-field Thirteen Thirteen e = refl
+degree-field Thirteen Fourteen e = absurd (omega arith)
+degree-field Fourteen Thirteen e = absurd (omega arith)
+degree-field Fourteen Fourteen e = refl
+
+pub table-same : (a b : Shape) {words : List ℕ} {r : Bool} → r ≡ cond (eqb (degree (a .field)) (degree (b .field))) (eqb (a .level) (b .level)) false
+    → r ≡ true → Table (a .field) (a .level) words → Table (b .field) (b .level) words
+table-same a b {words} e t h = go (eqb (degree (a .field)) (degree (b .field))) refl (sym e ∙ t)
+  where
+    go : (x : Bool) → eqb (degree (a .field)) (degree (b .field)) ≡ x → cond x (eqb (a .level) (b .level)) false ≡ true → Table (b .field) (b .level) words
+    go true ex l = rw (degree-field (a .field) (b .field) (eqb-true _ _ ex), eqb-true (a .level) (b .level) l) at h
+    go false ex l = absurd (let z : _≡_ {A = ℕ} 0 1 = cc in omega arith)
+
+pub table-later : (q : Plan) (b : ℕ) {words : List ℕ} → 0 < b → Table (q .later .field) (q .later .level) words → Table (field q b) (level q b) words
+unfolding shape
+table-later q zero l h = absurd (omega arith)
+table-later q (suc b) l h = h

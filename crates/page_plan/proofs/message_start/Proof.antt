@@ -1,0 +1,42 @@
+-- `page_plan::message_start` meets its contract.
+use Prim.Native.Nat.{_-_}
+use native.Mathlib.Omega.{arith}
+use borrow.Author.Needs.{needs}
+use Rattle.layout.proofs.Plans.{product-le}
+use Rattle.page_plan.proofs.Plans.{from-zero, from-product}
+use Rattle.page_plan.proofs.message_start.Statement.{statement}
+use Rattle.page_plan.proofs.message_start.Tie as tie
+
+returns : tie.Need-returns
+returns c = (from-zero _ _ (search needs), omega arith)
+
+cast-first : tie.Need-cast-first
+cast-first c = search needs
+
+cast-later : tie.Need-cast-later
+cast-later c = search needs
+
+sub-result : tie.Need-sub-result
+sub-result c = search needs
+
+mul-result : tie.Need-mul-result
+mul-result c =
+    let a = c .before .before .before .args in
+    let step = product-le 65534 4294967295 {a = a .block - 1} {b = a .plan .later .message} (omega arith) (omega arith) in
+    omega arith
+
+add-result : tie.Need-add-result
+add-result c =
+    let a = c .before .before .before .args in
+    let step = product-le 65534 4294967295 {a = a .block - 1} {b = a .plan .later .message} (omega arith) (omega arith) in
+    omega arith
+
+returns-2 : tie.Need-returns-2
+returns-2 c =
+    let a = c .before .before .before .args in
+    let step = product-le 65534 4294967295 {a = a .block - 1} {b = a .plan .later .message} (omega arith) (omega arith) in
+    (from-product _ _ (omega arith), omega arith)
+
+pub message-start-spec : {M : Type 1} → statement M
+message-start-spec =
+    tie.close (tie.spec returns cast-first cast-later sub-result mul-result add-result returns-2)

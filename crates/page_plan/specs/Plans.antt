@@ -1,0 +1,32 @@
+-- Inner promises: what the code that writes, reads, judges and checks pages asks of a plan. Every accepted layout has such a plan
+-- (proofs/Plans.antt).
+--
+-- Stored s         the generator of a block of the shape s is one of the stored ones
+-- Planned q        what the plan of an accepted layout has
+-- Ready q page     q is such a plan, and the page has its size
+use mathlib.Core.Path.{_≡_}
+use mathlib.Core.List.{List}
+use Prim.Native.Nat.{ℕ, _%_, _≤_, _<_}
+use lib.ListN.{length}
+use Rattle.layout.specs.declared.Shape.{Shape}
+use Rattle.layout.specs.declared.Plan.{Plan}
+use Rattle.layout.specs.Plan.{Valid}
+
+-- The stored generators are those of t = 0, 2, 4, .., 40 (document 01, "Layout words": t is twice the level field).
+pub record Stored (s : Shape) : Type 0 where
+  pub even : s .level % 2 ≡ 0
+  pub small : s .level ≤ 40
+
+-- A valid plan of at least one block, whose blocks have stored generators, and whose numbers are as small as those of a layout record.
+pub record Planned (q : Plan) : Type 0 where
+  pub valid : Valid q
+  pub first : Stored (q .first)
+  pub later : Stored (q .later)
+  pub some : 0 < q .blocks
+  pub few : q .blocks ≤ 256
+  pub metadata : q .metadata < 256
+  pub «data» : q .«data» < 4294967296
+
+pub record Ready (q : Plan) (page : List ℕ) : Type 0 where
+  pub plan : Planned q
+  pub size : length page ≡ q .size

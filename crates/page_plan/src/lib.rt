@@ -1,0 +1,75 @@
+// What the calls that write, read, judge and check pages ask of a plan, and what they have in common under one.
+//
+//   block_reply      the reply to a page's length and a block number
+//   message_start    where the message of a block starts in the payload
+//   later_table      the table of the later blocks' generator, made where that of block 0 stands
+//
+// specs/Plans.antt says what the plan of an accepted layout has, and proofs/Plans.antt shows it; that is all the code asks of a plan.
+ghost use mathlib.Core.Path.{_≡_};
+ghost use mathlib.Core.Bool.{cond, false};
+ghost use Prim.Native.Nat.{_≤_, _<_};
+ghost use lib.ListN.{length};
+ghost use lib.Dec.{eqb};
+ghost use Rattle.field.specs.Field.{degree};
+ghost use Rattle.layout.specs.Plan.{from};
+ghost use Rattle.remainder.specs.Table.{Table};
+ghost use Rattle.page_theory.specs.Calls.{blockReply};
+ghost use Rattle.page_plan.specs.Plans.{Planned};
+use layout::Plan;
+use layout::Shape;
+use remainder::table::make_table;
+
+// The reply to a page's length and a block number (document 01, "Replies"). 0 is given where they are right.
+pub fn block_reply(plan: Plan, page: usize, block: u64) -> u8
+    ensures { λ r. ⌜ r ≡ blockReply plan page block ⌝ }
+{
+    if page != plan.size as usize {
+        return 5;
+    }
+    if plan.blocks as u64 <= block {
+        return 7;
+    }
+    0
+}
+
+// Where the message of a block starts in the payload.
+pub fn message_start(plan: Plan, block: u16) -> usize
+    ensures eq { λ r. ⌜ r ≡ from plan block ⌝ }
+    ensures small { λ r. ⌜ r < 1125899906842624 ⌝ }
+{
+    if block == 0 {
+        return 0;
+    }
+    let first = plan.first.message as usize;
+    let later = plan.later.message as usize;
+    first + (block as usize - 1) * later
+}
+
+// Whether two blocks have the same generator: the same field and the same level.
+fn same_generator(first: Shape, later: Shape) -> bool
+    ensures { λ r. ⌜ r ≡ cond (eqb (degree (first .field)) (degree (later .field))) (eqb (first .level) (later .level)) false ⌝ }
+{
+    let f = first.field;
+    let g = later.field;
+    let m = f.degree();
+    let n = g.degree();
+    if m != n {
+        return false;
+    }
+    first.level == later.level
+}
+
+// The table of block 0's generator becomes that of the later blocks' one. It is not made again where that is the same.
+pub fn later_table(plan: Plan, table: &mut [u64])
+    requires { ⌜ (Planned plan) × (3600 ≤ length (now table)) × (Table (plan .first .field) (plan .first .level) (now table)) ⌝ }
+    ensures { λ r. ⌜ Table (plan .later .field) (plan .later .level) (now (table .exit)) ⌝ }
+{
+    let first = plan.first;
+    let later = plan.later;
+    if same_generator(first, later) {
+        return;
+    }
+    let f = later.field;
+    let t = later.level as usize;
+    make_table(f, t, table);
+}

@@ -1,0 +1,2 @@
+-- What taking messages out of a page promises.
+pub mod Taking

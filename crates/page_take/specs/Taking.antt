@@ -1,0 +1,38 @@
+-- Inner promises: what taking messages out of a page leaves. m and d are metadata and data before, m' and d' after; the payload is the
+-- one followed by the other.
+--
+-- texts q page n                the messages of the first n blocks as they stand in the page, one after the other
+-- FlippedIn q b ps m d m' d'    the message of block b was flipped at the exponents ps, and no other message was
+-- FlippedAll q n places flips m d m' d'    the messages of the first n blocks were flipped at the exponents kept for each, and no others were
+-- Counted old flips counts      the counts are the numbers of kept exponents, in place of what was lent
+use mathlib.Core.Path.{_≡_}
+use mathlib.Core.List.{List, [], _++_}
+use Prim.Native.Nat.{ℕ, zero, suc, _≤_, _<_}
+use lib.ListN.{length, take, getD}
+use Rattle.bits.specs.Bits.{bitOf, run}
+use Rattle.layout.specs.declared.Plan.{Plan}
+use Rattle.layout.specs.Plan.{bits, covered, start}
+use Rattle.code.specs.Word.{Word, flipped}
+use Rattle.page_theory.specs.Page.{message}
+use Rattle.page_decide.specs.Deciding.{kept}
+
+unfoldable pub texts : Plan → List ℕ → ℕ → Word
+texts q page zero = []
+texts q page (suc b) = texts q page b ++ run (bitOf page) (start q b) (bits q b)
+
+pub record FlippedIn (q : Plan) (b : ℕ) (ps m d m' d' : List ℕ) : Type 0 where
+  pub metadata : length m' ≡ length m
+  pub «data» : length d' ≡ length d
+  pub own : (w : Word) → length w ≡ covered q b → message q (m ++ d) b ≡ take (bits q b) w → message q (m' ++ d') b ≡ take (bits q b) (flipped w ps)
+  pub others : (c : ℕ) → (c ≡ b → ⊥) → message q (m' ++ d') c ≡ message q (m ++ d) c
+
+pub record FlippedAll (q : Plan) (n : ℕ) (places flips m d m' d' : List ℕ) : Type 0 where
+  pub metadata : length m' ≡ length m
+  pub «data» : length d' ≡ length d
+  pub own : (b : ℕ) → b < n → (w : Word) → length w ≡ covered q b → message q (m ++ d) b ≡ take (bits q b) w
+      → message q (m' ++ d') b ≡ take (bits q b) (flipped w (kept places b (getD flips b 0)))
+  pub others : (b : ℕ) → n ≤ b → message q (m' ++ d') b ≡ message q (m ++ d) b
+
+pub record Counted (old flips counts : List ℕ) : Type 0 where
+  pub same : length counts ≡ length old
+  pub each : (b : ℕ) → b < length old → getD counts b 0 ≡ getD flips b 0

@@ -1,0 +1,2 @@
+-- The laws behind the writer.
+pub mod Writing

@@ -1,0 +1,119 @@
+-- Laws behind the writer: one block, the lengths, blocks put one after the other, the tail.
+use mathlib.Core.Path.{_≡_, refl, sym, ap, _∙_}
+use mathlib.Core.Bool.{Bool, true, false, cond}
+use mathlib.Core.List.{List, [], _++_}
+use Prim.Native.Nat.{ℕ, zero, suc, _+_, _-_, _*_, _≤_, _<_}
+use native.Mathlib.Omega.{arith}
+use native.Mathlib.Nat.{mul-zero, zero-add}
+use native.Mathlib.Numerals.{add-one}
+use lib.ListN.{length, length-append}
+use lib.Dec.{eqb}
+use borrow.Author.Tests.{eqb-true, ne-eqb}
+use Rattle.bits.specs.Bits.{bitOf, run, ones, digits, Bytes, placed, Inside}
+use Rattle.bits.proofs.Placed.{placed-length, placed-run, placed-empty, placed-append}
+use Rattle.field.specs.declared.Field.{Field}
+use Rattle.field.specs.Field.{degree}
+use Rattle.layout.specs.declared.Shape.{Shape}
+use Rattle.layout.specs.declared.Plan.{Plan}
+use Rattle.layout.specs.Plan.{shape, start, used, from, payload, Valid}
+use Rattle.code.specs.Word.{Word}
+use Rattle.code.specs.Generator.{parity}
+use Rattle.page_theory.specs.Page.{message, written, pageOf}
+use Rattle.page_theory.specs.Calls.{writeEnded, writeReply, writeIn}
+use Rattle.page_theory.proofs.Calls.{writeReply-right}
+use Rattle.page_theory.proofs.Writing.{stream, stream-length, filled, filled-page}
+use Rattle.page_plan.proofs.Plans.{message-inside}
+use Rattle.page_write.specs.Writing.{Lent, encoded}
+
+-- ---- one block
+
+-- without ECC there is no parity
+pub parity-none : (f : Field) (t : ℕ) (w : Word) (page : List ℕ) (s : ℕ) → Bytes (length page) page → t ≡ 0 → page ≡ placed page s (parity f t w)
+unfolding parity digits
+parity-none f t w page s b e = rw (e, mul-zero (degree f)) (sym (placed-empty page s b))
+
+-- the parity of the message that stands in the page follows it
+pub encoded-placed : (s : Shape) (page : List ℕ) (position : ℕ) (w : Word) → length w ≡ s .message → position + s .message ≤ 8 * length page
+    → {one two : List ℕ} → one ≡ placed page position w
+    → two ≡ placed one (position + s .message) (parity (s .field) (s .level) (run (bitOf one) position (s .message)))
+    → two ≡ placed page position (encoded s w)
+unfolding encoded
+encoded-placed s page position w l h e f =
+    let r : run (bitOf (placed page position w)) position (length w) ≡ w = placed-run page position w (omega arith) in
+    f ∙ rw (e, ← l, r) (placed-append page position _ w _ refl)
+
+-- ---- the lengths are right
+
+pub reply-lent : (q : Plan) (m d page : List ℕ) → writeReply q (length m) (length d) (length page) ≡ 0 → Lent q m d page
+unfolding writeReply
+reply-lent q m d page e = go (eqb (length page) (q .size)) refl (eqb (length m) (q .metadata)) refl (eqb (length d) (q .«data»)) refl e
+  where
+    go : (x : Bool) → eqb (length page) (q .size) ≡ x → (y : Bool) → eqb (length m) (q .metadata) ≡ y
+        → (z : Bool) → eqb (length d) (q .«data») ≡ z → cond x (cond y (cond z zero 6) 6) 5 ≡ zero → Lent q m d page
+    go true ex true ey true ez e = record { metadata = eqb-true _ _ ey; «data» = eqb-true _ _ ez; size = eqb-true _ _ ex }
+    go true ex true ey false ez e = absurd (omega arith)
+    go true ex false ey z ez e = absurd (omega arith)
+    go false ex y ey z ez e = absurd (omega arith)
+
+pub write-refused : (q : Plan) (m d page : List ℕ) {r : ℕ} → r ≡ writeReply q (length m) (length d) (length page) → (r ≡ 0 → ⊥)
+    → writeEnded r 0 page ≡ writeIn q m d page
+unfolding writeIn
+write-refused q m d page e n = rw (← e, ne-eqb _ 0 n)
+
+pub write-done : (q : Plan) (m d page : List ℕ) {after : List ℕ} → Lent q m d page → after ≡ pageOf q (m ++ d)
+    → writeEnded 0 0 after ≡ writeIn q m d page
+unfolding writeIn
+write-done q m d page h e = rw (e, writeReply-right q m d page (h .size) (h .metadata) (h .«data»))
+
+module _ (q : Plan) (v : Valid q) (b : ℕ) (l : b < q .blocks) {s : Shape} (es : s ≡ shape q b) where
+  -- a message lies in the payload
+  pub message-lent : {m d page : List ℕ} {at : ℕ} → Lent q m d page → q .metadata < 256 → q .«data» < 4294967296 → at ≡ from q b
+      → Inside (m ++ d) at (s .message)
+  unfolding payload
+  message-lent {m} {d} h x y e =
+      let i = message-inside q v b l in
+      let n = length-append m d in
+      rw (e, es) (record { ends = omega arith; fits = omega arith })
+
+-- ---- block after block
+
+pub from-one : (q : Plan) → q .first .message ≡ from q 1
+unfolding from shape
+from-one q = sym (zero-add (q .first .message))
+
+pub from-next : (q : Plan) (b : ℕ) → 0 < b → from q b + q .later .message ≡ from q (b + 1)
+unfolding from shape
+from-next q zero h = absurd (omega arith)
+from-next q (suc b) h = sym (ap (from q) (add-one (suc b)))
+
+-- A page of the right length on which the first n written blocks were put.
+pub record Streamed (q : Plan) (d : List ℕ) (n : ℕ) (page : List ℕ) : Type 0 where
+  pub before : List ℕ
+  pub size : length before ≡ q .size
+  pub put : page ≡ placed before 0 (stream q d n)
+
+module _ (q : Plan) (d : List ℕ) where
+  pub streamed-start : (page : List ℕ) → Bytes (length page) page → length page ≡ q .size → Streamed q d 0 page
+  unfolding stream
+  streamed-start page b h = record { before = page; size = h; put = sym (placed-empty page 0 b) }
+
+  pub streamed-size : (n : ℕ) {page : List ℕ} → Streamed q d n page → length page ≡ q .size
+  streamed-size n h = ap length (h .put) ∙ placed-length (h .before) 0 (stream q d n) ∙ h .size
+
+  pub streamed-next : (b : ℕ) {s : Shape} {at position : ℕ} {page after : List ℕ} → Streamed q d b page → s ≡ shape q b → at ≡ from q b
+      → position ≡ start q b → after ≡ placed page position (encoded s (run (bitOf d) at (s .message))) → Streamed q d (b + 1) after
+  unfolding stream encoded written message
+  streamed-next b h es ea ep e = record {
+    before = h .before;
+    size = h .size;
+    put = e ∙ rw (es, ea, ep, h .put, add-one b) (placed-append (h .before) 0 (start q b) (stream q d b) _ (sym (zero-add _ ∙ stream-length q d b)));
+  }
+
+  pub streamed-end : Valid q → {page after : List ℕ} {u : ℕ} → Streamed q d (q .blocks) page → u ≡ start q (q .blocks)
+      → after ≡ placed page u (ones (8 * length page - u)) → after ≡ pageOf q d
+  unfolding filled ones used
+  streamed-end v h eu e =
+      let w = stream q d (q .blocks) in
+      e ∙ rw (eu, streamed-size (q .blocks) h, h .put)
+      (placed-append (h .before) 0 (start q (q .blocks)) w _ (sym (zero-add _ ∙ stream-length q d (q .blocks))))
+      ∙ filled-page q v d (h .before) (h .size)

@@ -1,0 +1,175 @@
+-- `page_write::write::write_blocks` meets its contract. Before block b is written, the blocks below it stand in the page.
+use Prim.Native.Nat.{_-_, _≤_, _<_}
+use mathlib.Core.Path.{_≡_, refl, sym, _∙_, ap}
+use mathlib.Core.List.{_++_}
+use native.Mathlib.Omega.{arith}
+use borrow.Author.Needs.{needs}
+use Rattle.layout.specs.Plan.{shape, start, used, from}
+use Rattle.layout.proofs.Plans.{shape-zero, shape-later}
+use Rattle.page_theory.proofs.Writing.{used-room}
+use Rattle.page_plan.proofs.Plans.{block-inside}
+use Rattle.page_write.proofs.Writing.{message-lent, from-one, from-next, Streamed, streamed-start, streamed-size, streamed-next, streamed-end}
+use Rattle.page_write.proofs.write.write_blocks.Statement.{statement}
+use Rattle.page_write.proofs.write.write_blocks.Tie as tie
+
+abbrev Inv-loop : tie.InvT-loop
+Inv-loop plan metadata «data» page₀ blocks later table at₀ block₀ page at block =
+    (0 < block) × (block ≤ blocks) × (at ≡ from plan block) × Streamed plan (metadata ++ «data») block page
+
+abbrev μ-loop : tie.MeasureT-loop
+μ-loop plan metadata «data» page₀ blocks later table at₀ block₀ page at block = blocks - block
+
+slice-aggregate-write-first : tie.Need-slice-aggregate-write-first Inv-loop μ-loop
+slice-aggregate-write-first c = search needs
+
+write-first-requires : tie.Need-write-first-requires Inv-loop μ-loop
+write-first-requires c κs = search needs
+
+cast-at : tie.Need-cast-at Inv-loop μ-loop
+cast-at c = search needs
+
+loop-holds : tie.Need-loop-holds Inv-loop μ-loop
+unfolding from start
+loop-holds c =
+    let known = c .before .before .before .before .before .before .before .before .before in
+    let a = known .before .before .before in
+    let q = a .args .plan in
+    let fresh = streamed-start q _ _ (record { count = refl; small = λ i. known .slice-known .given i .fits }) (a .pre .1 .size) in (
+      omega arith,
+      a .pre .0 .some,
+      from-one q,
+      streamed-next q _ 0 fresh (shape-zero q 0 refl) refl refl (c .before .before .before .before .write-first .ensures .0),
+    )
+
+block-start-requires : tie.Need-block-start-requires Inv-loop μ-loop
+block-start-requires c κs = search needs
+
+slice-aggregate-write-block : tie.Need-slice-aggregate-write-block Inv-loop μ-loop
+slice-aggregate-write-block c = search needs
+
+write-block-requires : tie.Need-write-block-requires Inv-loop μ-loop
+write-block-requires c κs =
+    let turn = c .before .before .before .before in
+    let first = turn .before .before .before .before .before in
+    let a = first .before .before .before .before .before .before .before .before in
+    let q = a .args .plan in
+    let s = turn .loop in
+    let h = a .pre .1 in
+    let x = a .pre .0 .metadata in
+    let e = shape-later q (s .block) (s .inv .0) in
+    let l = c .before .before .before .loop-test .taken in (
+      first .write-first .ensures .1,
+      omega arith,
+      message-lent q (a .pre .0 .valid) (s .block) l e h x (a .pre .0 .«data») (s .inv .2),
+      block-inside q (a .pre .0) (s .block) l e (streamed-size q _ _ (s .inv .3)) (search needs) (c .before .before .block-start .ensures .0),
+    )
+
+cast-at-2 : tie.Need-cast-at-2 Inv-loop μ-loop
+cast-at-2 c = search needs
+
+add-at : tie.Need-add-at Inv-loop μ-loop
+add-at c =
+    let turn = c .before .before .before .before .before .before .before .before in
+    let a = turn .before .before .before .before .before .before .before .before .before .before .before .before .before in
+    let q = a .args .plan in
+    let s = turn .loop in
+    let h = a .pre .1 in
+    let e = shape-later q (s .block) (s .inv .0) in
+    let l = c .before .before .before .before .before .before .before .loop-test .taken in
+    record { fits = message-lent q (a .pre .0 .valid) (s .block) l e h (a .pre .0 .metadata) (a .pre .0 .«data») (s .inv .2) .fits }
+
+add-block : tie.Need-add-block Inv-loop μ-loop
+add-block c =
+    let turn = c .before .before .before .before .before .before .before .before in
+    let a = turn .before .before .before .before .before .before .before .before .before .before .before .before .before in
+    let x : a .args .plan .blocks < 65536 = search needs in
+    let l = c .before .before .before .before .before .before .before .loop-test .taken in
+    record { fits = omega arith }
+
+loop-less : tie.Need-loop-less Inv-loop μ-loop
+loop-less c = search needs
+
+loop-again : tie.Need-loop-again Inv-loop μ-loop
+loop-again c =
+    let turn = c .before .before .before .before .before .before .before .before in
+    let q = turn .before .before .before .before .before .before .before .before .before .before .before .before .before .args .plan in
+    let s = turn .loop in
+    let l = c .before .before .before .before .before .before .before .loop-test .taken in
+    let put = c .before .before .before in (
+      omega arith,
+      omega arith,
+      rw (s .inv .2) (from-next q (s .block) (s .inv .0)),
+      streamed-next q _ (s .block) (s .inv .3) (shape-later q (s .block) (s .inv .0)) (s .inv .2) (put .before .before .before .block-start .ensures .0) (put .write-block .ensures),
+    )
+
+block-start-requires-2 : tie.Need-block-start-requires-2 Inv-loop μ-loop
+block-start-requires-2 c κs = search needs
+
+mul-fill-ones : tie.Need-mul-fill-ones Inv-loop μ-loop
+mul-fill-ones c =
+    let q = c .before .before .before .before .before .before .before .before .before .before .before .before .before .before .before .before .args .plan in
+    let n = streamed-size q _ _ (c .before .before .before .loop .inv .3) in
+    let x : q .size < 65536 = search needs in
+    record { fits = omega arith }
+
+sub-fill-ones : tie.Need-sub-fill-ones Inv-loop μ-loop
+unfolding used
+sub-fill-ones c =
+    let a = c .before .before .before .before .before .before .before .before .before .before .before .before .before .before .before .before in
+    let q = a .args .plan in
+    let n = streamed-size q _ _ (c .before .before .before .loop .inv .3) in
+    let r = used-room q (a .pre .0 .valid) in
+    let e = c .before .block-start2 .ensures .0 in
+    omega arith
+
+fill-ones-requires : tie.Need-fill-ones-requires Inv-loop μ-loop
+unfolding used
+fill-ones-requires c κs =
+    let a = c .before .before .before .before .before .before .before .before .before .before .before .before .before .before .before .before in
+    let q = a .args .plan in
+    let n = streamed-size q _ _ (c .before .before .before .loop .inv .3) in
+    let r = used-room q (a .pre .0 .valid) in
+    let e = c .before .block-start2 .ensures .0 in
+    let x : q .size < 65536 = search needs in
+    record { ends = omega arith; fits = omega arith }
+
+same-length : tie.Need-same-length Inv-loop μ-loop
+same-length c =
+    let done = c .before .before in
+    let a = done .before .before .before .before .before .before .before .before .before .before .before .before .before .before .before .before .before in
+    let n = streamed-size (a .args .plan) _ _ (done .before .before .before .before .loop .inv .3) in
+    let m = a .pre .1 .size in
+    search needs
+
+returns : tie.Need-returns Inv-loop μ-loop
+returns c =
+    let done = c .before .before in
+    let a = done .before .before .before .before .before .before .before .before .before .before .before .before .before .before .before .before .before in
+    let s = done .before .before .before .before .loop in
+    let e : s .block ≡ a .args .plan .blocks = omega arith in
+    streamed-end (a .args .plan) _ (a .pre .0 .valid) (rw e at (s .inv .3)) (done .before .before .block-start2 .ensures .0) (done .fill-ones .ensures)
+
+pub write-blocks-spec : {M : Type 1} → statement M
+write-blocks-spec =
+    tie.close
+    (tie.spec
+    Inv-loop
+    μ-loop
+    slice-aggregate-write-first
+    write-first-requires
+    cast-at
+    loop-holds
+    block-start-requires
+    slice-aggregate-write-block
+    write-block-requires
+    cast-at-2
+    add-at
+    add-block
+    loop-less
+    loop-again
+    block-start-requires-2
+    mul-fill-ones
+    sub-fill-ones
+    fill-ones-requires
+    same-length
+    returns)

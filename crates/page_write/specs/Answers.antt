@@ -1,0 +1,15 @@
+-- The answer of the writer as document 01's numbers (document 01, "Replies"): the reply and the block that goes with it.
+--
+-- writeNumber r    the reply of an answer
+-- writeBlock r     the block of an answer
+use Prim.Native.Nat.{ℕ}
+use Rattle.page_write.specs.declared.WriteAnswer.{WriteAnswer}
+use Rattle.page_write.specs.declared.WriteAnswer.the-variants.{Done, Refused}
+
+unfoldable pub writeNumber : WriteAnswer → ℕ
+writeNumber Done = 0
+writeNumber (Refused n) = n
+
+-- A writer names no block.
+unfoldable pub writeBlock : WriteAnswer → ℕ
+writeBlock r = 0

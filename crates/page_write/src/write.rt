@@ -1,0 +1,131 @@
+// Writing a page: block after block its message and its parity, then ones into the tail.
+use crate::WriteAnswer;
+use crate::replies::write_reply;
+use bits::fill::fill_ones;
+use layout::Acceptance;
+use layout::Plan;
+use layout::Shape;
+use layout::block_start;
+use layout::check_layout;
+use layout::plan_of;
+use layout::refusal_reply;
+use page_plan::later_table;
+use payload::copy_from;
+use remainder::digits::place_parity;
+use remainder::feed::parity_bits;
+use remainder::runs::parity_of;
+use remainder::table::make_table;
+ghost use mathlib.Core.Path.{_≡_};
+ghost use mathlib.Core.List.{_++_};
+ghost use Prim.Native.Nat.{_+_, _≤_, _<_};
+ghost use lib.ListN.{length};
+ghost use Rattle.bits.specs.Bits.{bitOf, run, placed, Inside};
+ghost use Rattle.layout.specs.Plan.{coveredOf};
+ghost use Rattle.code.specs.Generator.{parity};
+ghost use Rattle.remainder.specs.Table.{Table};
+ghost use Rattle.page_theory.specs.Page.{pageOf};
+ghost use Rattle.page_theory.specs.Calls.{writeEnded, writeIn, writeOf};
+ghost use Rattle.page_plan.specs.Plans.{Planned};
+ghost use Rattle.page_write.specs.Answers.{writeNumber, writeBlock};
+ghost use Rattle.page_write.specs.Writing.{Lent, encoded};
+
+// Puts the parity of a block after its message, which stands at the block's position.
+fn put_parity(shape: Shape, table: &[u64], page: &mut [u8], position: usize)
+    requires { ⌜ Table (shape .field) (shape .level) (now table) × Inside (now page) position (coveredOf shape) ⌝ }
+    ensures { λ r. ⌜ now (page .exit)
+        ≡ placed (now (page .entry)) (position + shape .message)
+        (parity (shape .field) (shape .level) (run (bitOf (now (page .entry))) position (shape .message))) ⌝ }
+{
+    let field = shape.field;
+    let level = shape.level as usize;
+    if level == 0 {
+        return;
+    }
+    let n = shape.message as usize;
+    let degree = parity_bits(field, level);
+    let remainder = parity_of(field, level, table, page, position, n);
+    place_parity(remainder, degree, page, position + n);
+}
+
+// Writes a block at a position: the message that starts at position `at` of the payload, and its parity.
+fn write_block(
+    shape: Shape,
+    table: &[u64],
+    metadata: &[u8],
+    data: &[u8],
+    at: usize,
+    page: &mut [u8],
+    position: usize,
+)
+    requires { ⌜ Table (shape .field) (shape .level) (now table) × (length (now metadata) < 256)
+        × Inside (now metadata ++ now «data») at (shape .message) × Inside (now page) position (coveredOf shape) ⌝ }
+    ensures { λ r. ⌜ now (page .exit)
+        ≡ placed (now (page .entry)) position
+        (encoded shape (run (bitOf (now (metadata .entry) ++ now («data» .entry))) at (shape .message))) ⌝ }
+{
+    let n = shape.message as usize;
+    copy_from(metadata, data, at, page, position, n);
+    put_parity(shape, table, page, position);
+}
+
+// Writes block 0, and leaves the table of the later blocks' generator. One table is made after the other in the same place.
+fn write_first(plan: Plan, table: &mut [u64], metadata: &[u8], data: &[u8], page: &mut [u8])
+    requires { ⌜ Planned plan × Lent plan (now metadata) (now «data») (now page) × (3600 ≤ length (now table)) ⌝ }
+    ensures { λ r. ⌜ (now (page .exit)
+        ≡ placed (now (page .entry)) 0 (encoded (plan .first) (run (bitOf (now (metadata .entry) ++ now («data» .entry))) 0 (plan .first .message))))
+        × Table (plan .later .field) (plan .later .level) (now (table .exit)) ⌝ }
+{
+    let first = plan.first;
+    let field = first.field;
+    let level = first.level as usize;
+    make_table(field, level, table);
+    write_block(first, table, metadata, data, 0, page, 0);
+    later_table(plan, table);
+}
+
+// Writes all blocks and the tail.
+fn write_blocks(plan: Plan, metadata: &[u8], data: &[u8], page: &mut [u8])
+    requires { ⌜ Planned plan × Lent plan (now metadata) (now «data») (now page) ⌝ }
+    ensures { λ r. ⌜ now (page .exit) ≡ pageOf plan (now (metadata .entry) ++ now («data» .entry)) ⌝ }
+{
+    let blocks = plan.blocks;
+    let first = plan.first;
+    let later = plan.later;
+    let mut table = [0u64; 3600];
+    write_first(plan, &mut table, metadata, data, page);
+    let mut at = first.message as usize;
+    let mut block = 1;
+    while block < blocks {
+        let position = block_start(plan, block);
+        write_block(later, &table, metadata, data, at, page, position);
+        at += later.message as usize;
+        block += 1;
+    }
+    let used = block_start(plan, blocks);
+    fill_ones(page, used, 8 * page.len() - used);
+}
+
+// Writes a page under a plan, where the lengths are right.
+fn write_in(plan: Plan, metadata: &[u8], data: &[u8], page: &mut [u8]) -> WriteAnswer
+    requires { ⌜ Planned plan ⌝ }
+    ensures { λ r. ⌜ writeEnded (writeNumber r) (writeBlock r) (now (page .exit))
+        ≡ writeIn plan (now (metadata .entry)) (now («data» .entry)) (now (page .entry)) ⌝ }
+{
+    let reply = write_reply(plan, metadata.len(), data.len(), page.len());
+    if reply != 0 {
+        return WriteAnswer::Refused(reply);
+    }
+    write_blocks(plan, metadata, data, page);
+    WriteAnswer::Done
+}
+
+// Writes a page from metadata and data.
+pub fn write_page(words: &[u8], metadata: &[u8], data: &[u8], page: &mut [u8]) -> WriteAnswer
+    ensures { λ r. ⌜ writeEnded (writeNumber r) (writeBlock r) (now (page .exit))
+        ≡ writeOf (now (words .entry)) (now (metadata .entry)) (now («data» .entry)) (now (page .entry)) ⌝ }
+{
+    match check_layout(words) {
+        Acceptance::Accepted(layout) => write_in(plan_of(layout), metadata, data, page),
+        Acceptance::Refused(refusal) => WriteAnswer::Refused(refusal_reply(refusal)),
+    }
+}

@@ -1,0 +1,2 @@
+-- Laws of a payload that is lent as metadata and data apart.
+pub mod Payload

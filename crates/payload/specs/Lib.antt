@@ -1,0 +1,2 @@
+-- A payload that is lent as metadata and data apart.
+pub mod Payload
