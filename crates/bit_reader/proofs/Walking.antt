@@ -1,5 +1,5 @@
--- What a read gives inside a page and at its end, how much is left after it, and what a walk of n reads gives. Assumes nothing.
-use mathlib.Core.Bool.{Bool, true, false, cond}
+-- What a read gives inside a page and at its end, and what a walk of n reads gives. Assumes nothing.
+use mathlib.Core.Bool.{Bool, true, false}
 use mathlib.Core.List.{List, _∷_}
 use mathlib.Core.Path.{_≡_, refl, ap, subst, sym, _∙_}
 use Prim.Native.Nat.{ℕ, zero, suc, _+_, _*_, _/_, _<_, _≤_}
@@ -12,15 +12,15 @@ use Rattle.bits.specs.Bits.{bitAt, run, digit}
 use Rattle.bits.proofs.Pages.{bitOf-digit, bitOf-past}
 use Rattle.bit_reader.specs.declared.Step.{Step}
 use Rattle.bit_reader.specs.declared.Step.the-variants.{Bit, End}
-use Rattle.bit_reader.specs.Reading.{greatest, endOf, stepAt, leftAt, bitIn, before, walk}
+use Rattle.bit_reader.specs.Reading.{greatest, endOf, stepAt, bitIn, before, walk}
 
 module _ (page : List ℕ) where
   -- the end is that of the page, or the greatest position
-  pub endOf-short : 8 * length page < greatest → endOf page ≡ 8 * length page
+  endOf-short : 8 * length page < greatest → endOf page ≡ 8 * length page
   unfolding endOf
   endOf-short h = simp (lt-ltb _ _ h)
 
-  pub endOf-long : greatest ≤ 8 * length page → endOf page ≡ greatest
+  endOf-long : greatest ≤ 8 * length page → endOf page ≡ greatest
   unfolding endOf
   endOf-long h = simp (le-ltb _ _ h)
 
@@ -50,24 +50,6 @@ module _ (page : List ℕ) where
   unfolding stepAt
   stepAt-end p h = simp (le-ltb _ _ h)
 
-  -- what a read that gave a bit, or the end, says of its position
-  pub stepAt-bit : (p b after : ℕ) → stepAt page p ≡ Bit b after → (p < endOf page) × (b ≡ bitAt page p) × (after ≡ p + 1)
-  unfolding stepAt
-  stepAt-bit p b after h = go (ltb p (endOf page)) refl h
-    where
-      go : (t : Bool) → ltb p (endOf page) ≡ t → cond t (Bit (bitAt page p) (p + 1)) End ≡ Bit b after →
-          (p < endOf page) × (b ≡ bitAt page p) × (after ≡ p + 1)
-      go true e x = (ltb-true _ _ e, cc x, cc x)
-      go false e x = let z : _≡_ {A = ℕ} 0 1 = cc x in absurd (omega arith)
-
-  pub stepAt-over : (p : ℕ) → stepAt page p ≡ End → endOf page ≤ p
-  unfolding stepAt
-  stepAt-over p h = go (ltb p (endOf page)) refl h
-    where
-      go : (t : Bool) → ltb p (endOf page) ≡ t → cond t (Bit (bitAt page p) (p + 1)) End ≡ End → endOf page ≤ p
-      go true e x = let z : _≡_ {A = ℕ} 0 1 = cc x in absurd (omega arith)
-      go false e x = ltb-false _ _ e
-
   -- below the greatest position the bit of a read is the bit of the page, past its end too
   pub bitIn-stepAt : (p : ℕ) → p < greatest → bitIn (stepAt page p) ≡ bitAt page p
   unfolding bitIn digit
@@ -84,15 +66,6 @@ module _ (page : List ℕ) where
   pub bitIn-read : (p : ℕ) {step : Step} {b : ℕ} → step ≡ stepAt page p → b ≡ bitIn step → p + 1 < 18446744073709551616 → b ≡ bitAt page p
   unfolding greatest
   bitIn-read p e h k = h ∙ ap bitIn e ∙ bitIn-stepAt p (omega arith)
-
-  -- each read before the end leaves one bit less
-  pub leftAt-step : (p : ℕ) → p < endOf page → leftAt page p ≡ suc (leftAt page (p + 1))
-  unfolding leftAt
-  leftAt-step p h = omega arith
-
-  pub leftAt-end : (p : ℕ) → endOf page ≤ p → leftAt page p ≡ 0
-  unfolding leftAt
-  leftAt-end p h = omega arith
 
   -- n reads from position p on give the run of n bits there, where so many are left
   pub walk-run : (n p : ℕ) → p + n ≤ endOf page → walk page n p ≡ run (bitAt page) p n

@@ -3,13 +3,12 @@
 -- greatest         the greatest position that a reader can stand at
 -- endOf page       the position at which reading ends
 -- stepAt page p    what a read at position p gives: the bit and the position after it, or the end
--- leftAt page p    how many bits are left to read from position p on
 -- bitIn step       the bit that a read gave, 0 at the end
 -- before           the bit of a read, and those that follow it
 -- walk page n p    the bits that n reads give, each read at the position that the one before gave
 use mathlib.Core.Bool.{cond}
 use mathlib.Core.List.{List, [], _∷_}
-use Prim.Native.Nat.{ℕ, zero, suc, _+_, _-_, _*_}
+use Prim.Native.Nat.{ℕ, zero, suc, _+_, _*_}
 use lib.ListN.{length}
 use lib.Dec.{ltb}
 use Rattle.bits.specs.Bits.{bitAt}
@@ -28,10 +27,6 @@ endOf page = cond (ltb (8 * length page) greatest) (8 * length page) greatest
 -- The bit at position p with the position after it; from the end on, the end.
 unfoldable pub stepAt : List ℕ → ℕ → Step
 stepAt page p = cond (ltb p (endOf page)) (Bit (bitAt page p) (p + 1)) End
-
--- How many bits a reader that stands at position p gives before the end.
-unfoldable pub leftAt : List ℕ → ℕ → ℕ
-leftAt page p = endOf page - p
 
 -- The bit that a read gave. Past the end of a page there are zeros.
 unfoldable pub bitIn : Step → ℕ

@@ -1,18 +1,18 @@
 // A page read bit by bit from any position (document 01, "Bits and polynomials").
 //
 // A reader holds a reference to a page and a position. It gives the bit at its position with the position after it, or the end. A reader
-// goes by value; moved to the position after a bit it gives the next one.
+// goes by value; moved to the position after a bit it gives the next one. Document 01 asks for this form ("Where each form goes"): a walk
+// takes `new`, `next`, `position` and `moved`, also where the library itself has no use for one of them.
 //
-//   steps       step_at, left_at, end_of, bit_or_zero: the work, on a page and a position
-//   BitReader   new, position, moved: made, asked where it stands, moved; next, left: taken apart for the function on its page and position
+//   steps       step_at, bit_or_zero: the work, on a page and a position
+//   BitReader   new, position, moved: made, asked where it stands, moved; next: taken apart for the function on its page and position
 //   next_bit    one bit by way of a reader; its parameters are a page and a position, so its callers hold no reader
 //
-// Every function here is internal to the library and asks nothing of its arguments. What a read gives stands in specs/Reading.antt;
-// proofs/ has the laws: Walking (a read inside the page and at its end, what is left after it, what n reads give), and for the proofs by
-// hand of functions over a reader, Reader (what it owns) and Thin (a function that takes it apart and calls one on its page and position).
+// No function asks anything of its arguments. What a read gives stands in specs/Reading.antt; proofs/ has the laws: Walking (a read inside
+// the page and at its end, what n reads give), and for the proofs by hand of functions over a reader, Reader (what it owns) and Thin (a
+// function that takes it apart and calls one on its page and position).
 ghost use mathlib.Core.Path.{_≡_};
-ghost use Rattle.bit_reader.specs.Reading.{stepAt, leftAt};
-use crate::steps::left_at;
+ghost use Rattle.bit_reader.specs.Reading.{stepAt};
 use crate::steps::step_at;
 
 pub mod steps;
@@ -44,13 +44,6 @@ impl<'a> BitReader<'a> {
         self.position
     }
 
-    // How many bits are left.
-    pub fn left(self) -> usize
-        ensures { λ r. ⌜ r ≡ leftAt (now (self .entry .page)) (self .entry .position) ⌝ }
-    {
-        left_at(self.page, self.position)
-    }
-
     // The next bit with the position after it, or the end.
     pub fn next(self) -> Step
         ensures { λ r. ⌜ r ≡ stepAt (now (self .entry .page)) (self .entry .position) ⌝ }
@@ -69,7 +62,7 @@ impl<'a> BitReader<'a> {
     }
 }
 
-// Internal: the bit at a position with the position after it, or the end, by way of a reader.
+// The bit at a position with the position after it, or the end, by way of a reader.
 pub fn next_bit(page: &[u8], position: usize) -> Step
     ensures { λ r. ⌜ r ≡ stepAt (now (page .entry)) position ⌝ }
 {

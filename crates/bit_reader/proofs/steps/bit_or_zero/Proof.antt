@@ -1,4 +1,3 @@
--- `bit_reader::steps::bit_or_zero` meets its contract.
 use mathlib.Core.Path.{sym, ap}
 use borrow.Author.Needs.{needs}
 use Rattle.bit_reader.specs.Reading.{bitIn}

@@ -1,4 +1,3 @@
--- `bit_reader::steps::step_at` meets its contract.
 use mathlib.Core.Path.{ap, sym, _∙_}
 use Prim.Native.Nat.{_+_}
 use native.Mathlib.Omega.{arith}
