@@ -18,8 +18,8 @@ use powers::fill_tables;
 use remainder::Register;
 use remainder::coefficients::is_below;
 use remainder::coefficients::is_zero;
+use remainder::coefficients::parity_bits;
 use remainder::digits::from_bytes;
-use remainder::feed::parity_bits;
 
 // Lists what was found at the start of the places. Where nothing was, no place is written.
 fn report(found: Found, places: &mut [u16]) -> LocateAnswer

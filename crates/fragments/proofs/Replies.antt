@@ -10,7 +10,8 @@ use borrow.Author.Tests.{eq-eqb, ne-eqb, eqb-true, lt-ltb, ltb-true}
 use lib.Dec.{eqb, ltb}
 use Rattle.fragments.specs.declared.Refusal.the-variants.{Level, Buffer, Coefficient}
 use Rattle.fragments.specs.declared.FragmentsAnswer.the-variants.{Done, Refused}
-use Rattle.fragments.specs.Calls.{levelOf, offered, coefficients, bytesFor, fitting, refusalReply, ended, ending, unless, reply}
+use Rattle.remainder.specs.Remainder.{bytesFor}
+use Rattle.fragments.specs.Calls.{levelOf, offered, coefficients, fitting, refusalReply, ended, ending, unless, reply}
 
 -- ---- the level field
 

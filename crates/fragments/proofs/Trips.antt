@@ -15,7 +15,7 @@ use Rattle.fragments.specs.declared.FragmentsAnswer.{FragmentsAnswer}
 use Rattle.fragments.specs.declared.FragmentsAnswer.the-variants.{Done, Refused}
 use Rattle.fragments.specs.Fragments.{joined, Fragments}
 use Rattle.fragments.specs.Calls.{refusalReply, Ended, ended, ending, reply, exportOf, importOf}
-use Rattle.fragments.specs.Circuit.{backReply, remainderBack, fragmentsBack}
+use Rattle.fragments.specs.RoundTrip.{backReply, remainderBack, fragmentsBack}
 use Rattle.fragments.proofs.Numbers.{Small}
 use Rattle.fragments.proofs.Replies.{lengths-bytes, lengths-count, fitting-lengths, right-reply}
 use Rattle.fragments.proofs.Meaning.{export-right, import-right, import-lent, export-lengths, import-lengths}

@@ -5,7 +5,6 @@
 -- levelOf field             the level t of a level field
 -- offered field             whether the locator has the level: the fields 2, 4 and 8, for t = 4, 8 and 16
 -- coefficients field        mt, how many coefficients a remainder has; m is 13
--- bytesFor bits             how many bytes hold so many coefficients
 -- fitting bits bytes count  a remainder of so many bytes and a list of so many fragments have the right lengths
 -- refusalReply r            document 01's number of a refusal
 -- Ended                     a reply, its block, and the lent list afterwards
@@ -16,10 +15,10 @@
 -- exportOf, importOf        the calls
 use mathlib.Core.Bool.{Bool, true, false, cond}
 use mathlib.Core.List.{List}
-use Prim.Native.Nat.{ℕ, _+_, _*_, _/_, _^_}
+use Prim.Native.Nat.{ℕ, _*_, _^_}
 use lib.ListN.{length}
 use lib.Dec.{eqb, ltb}
-use Rattle.remainder.specs.Remainder.{numberOf, bytesOf}
+use Rattle.remainder.specs.Remainder.{bytesFor, numberOf, bytesOf}
 use Rattle.fragments.specs.declared.Refusal.{Refusal}
 use Rattle.fragments.specs.declared.Refusal.the-variants as refusal
 use Rattle.fragments.specs.declared.FragmentsAnswer.{FragmentsAnswer}
@@ -34,10 +33,6 @@ offered field = cond (eqb field 2) true (cond (eqb field 4) true (eqb field 8))
 
 unfoldable pub coefficients : ℕ → ℕ
 coefficients field = 13 * levelOf field
-
--- mt / 8 rounded up
-unfoldable pub bytesFor : ℕ → ℕ
-bytesFor bits = (bits + 7) / 8
 
 unfoldable pub fitting : ℕ → ℕ → ℕ → Bool
 fitting bits bytes count = cond (eqb bytes (bytesFor bits)) (eqb count 7) false

@@ -1,4 +1,4 @@
 -- Remainders in the form that a hardware locator takes: what a reader must believe.
 pub mod Fragments
 pub mod Calls
-pub mod Circuit
+pub mod RoundTrip

@@ -6,9 +6,9 @@ ghost use Rattle.code.specs.Register.{register};
 ghost use Rattle.fragments.specs.Fragments.{fragmentsOf, joined};
 use remainder::Register;
 use remainder::coefficients::zero;
-use remainder::divide::shifted;
+use remainder::shift::shifted;
 
-// Internal: the number in seven fragments. Four words of 64 bits have room for it.
+// The number in seven fragments. Four words of 64 bits have room for it.
 pub fn from_fragments(l: &[u32]) -> Register
     requires { ⌜ length (now l) ≡ 7 ⌝ }
     ensures { λ r. ⌜ register (r .words) ≡ joined (now (l .entry)) ⌝ }
@@ -37,7 +37,7 @@ fn last_fragment(word: u64) -> u32
     (word % 4294967296) as u32
 }
 
-// Internal: the fragments of the number in a register.
+// The fragments of the number in a register.
 pub fn to_fragments(state: Register, l: &mut [u32])
     requires { ⌜ length (now l) ≡ 7 ⌝ }
     ensures { λ r. ⌜ now (l .exit) ≡ fragmentsOf (register (state .words)) ⌝ }

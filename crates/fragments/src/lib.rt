@@ -10,11 +10,11 @@
 // 2. The number is brought into a register of the crate `remainder`, and tested for ones above bit mt - 1.
 // 3. convert.rt writes the fragments of a register, and reads them.
 // What is right is said by specs/Fragments.antt and specs/Calls.antt; proofs/Meaning.antt says it bit by bit, and proofs/Back.antt shows
-// that each call undoes the other. circuit.rt runs one after the other.
+// that each call undoes the other. round_trip.rt runs one after the other.
 pub mod answers;
-pub mod circuit;
 mod convert;
 mod request;
+pub mod round_trip;
 
 use convert::from_fragments;
 use convert::to_fragments;

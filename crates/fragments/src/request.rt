@@ -2,8 +2,9 @@
 ghost use mathlib.Core.Path.{_≡_};
 ghost use Prim.Native.Nat.{_≤_};
 ghost use Rattle.fragments.specs.Calls.{offered, coefficients, fitting};
+use remainder::coefficients::bytes_for;
 
-// Internal: whether the locator has the level.
+// Whether the locator has the level.
 pub fn is_offered(level_field: u64) -> bool
     ensures { λ r. ⌜ r ≡ offered «level_field» ⌝ }
 {
@@ -15,7 +16,7 @@ pub fn is_offered(level_field: u64) -> bool
     }
 }
 
-// Internal: the number of coefficients of a remainder, mt.
+// The number of coefficients of a remainder, mt.
 pub fn parity_bits(level_field: u64) -> usize
     requires { ⌜ «level_field» ≤ 8 ⌝ }
     ensures { λ r. ⌜ r ≡ coefficients «level_field» ⌝ }
@@ -23,12 +24,12 @@ pub fn parity_bits(level_field: u64) -> usize
     13 * (2 * level_field as usize)
 }
 
-// Internal: whether the bytes of a remainder and the number of fragments are right.
+// Whether the bytes of a remainder and the number of fragments are right.
 pub fn has_lengths(bits: usize, bytes: usize, count: usize) -> bool
     requires { ⌜ bits ≤ 208 ⌝ }
     ensures { λ r. ⌜ r ≡ fitting bits bytes count ⌝ }
 {
-    if bytes != (bits + 7) / 8 {
+    if bytes != bytes_for(bits) {
         return false;
     }
     count == 7

@@ -2,6 +2,8 @@
 use crate::ClaimAnswer;
 use bits::copy::copy_bits;
 use bits::write::flip_bit;
+use division::runs::remainder_of;
+use division_table::make_table;
 use layout::Acceptance;
 use layout::Plan;
 use layout::Shape;
@@ -13,8 +15,6 @@ use layout::plan_of;
 use layout::refusal_reply;
 use page_plan::block_reply;
 use remainder::coefficients::is_zero;
-use remainder::runs::remainder_of;
-use remainder::table::make_table;
 ghost use mathlib.Core.Path.{_≡_};
 ghost use Prim.Native.Nat.{_+_, _*_, _≤_, _<_};
 ghost use lib.ListN.{length};

@@ -22,7 +22,7 @@ use Rattle.layout.specs.Plan.{field, level, covered}
 use Rattle.code.specs.Word.{Below}
 use Rattle.code.specs.Locations.{locate, exponents, nowhere}
 use Rattle.code.specs.Register.{register}
-use Rattle.remainder.specs.Table.{Table}
+use Rattle.division_table.specs.Table.{Table}
 use Rattle.page_theory.specs.Reading.{Lowest}
 use Rattle.page_decide.specs.declared.Scan.{Scan}
 use Rattle.page_decide.specs.declared.Decision.{Decision}

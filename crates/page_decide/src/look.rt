@@ -3,10 +3,11 @@ ghost use mathlib.Core.Path.{_≡_};
 ghost use Prim.Native.Nat.{_≤_, _<_};
 ghost use Rattle.layout.specs.Plan.{field, level};
 ghost use Rattle.code.specs.Register.{register};
-ghost use Rattle.remainder.specs.Table.{Table};
+ghost use Rattle.division_table.specs.Table.{Table};
 ghost use Rattle.page_plan.specs.Plans.{Ready};
 ghost use Rattle.page_decide.specs.Looking.{remainderAt, Scanned};
 use crate::Scan;
+use division::runs::remainder_of;
 use layout::Plan;
 use layout::block_covered;
 use layout::block_shape;
@@ -14,7 +15,6 @@ use layout::block_start;
 use remainder::Register;
 use remainder::coefficients::is_zero;
 use remainder::coefficients::zero;
-use remainder::runs::remainder_of;
 
 // The remainder of a block by the table of its generator. At t = 0 no bit is looked at.
 pub fn block_remainder(plan: Plan, page: &[u8], table: &[u64], block: u16) -> Register

@@ -11,6 +11,7 @@ ghost use Rattle.page_plan.specs.Plans.{Planned, Ready};
 ghost use Rattle.page_decide.specs.Looking.{remainderAt};
 use crate::JudgeAnswer;
 use bch::Found;
+use division_table::make_table;
 use layout::Acceptance;
 use layout::Plan;
 use layout::block_shape;
@@ -24,7 +25,6 @@ use page_plan::block_reply;
 use powers::fill_tables;
 use remainder::Register;
 use remainder::coefficients::is_zero;
-use remainder::table::make_table;
 
 // The remainder of one block, by a table that is made for it alone.
 fn own_remainder(plan: Plan, page: &[u8], block: u16) -> Register

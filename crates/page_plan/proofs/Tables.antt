@@ -16,7 +16,7 @@ use Rattle.field.specs.Field.{degree}
 use Rattle.layout.specs.declared.Shape.{Shape}
 use Rattle.layout.specs.declared.Plan.{Plan}
 use Rattle.layout.specs.Plan.{shape, field, level}
-use Rattle.remainder.specs.Table.{Table}
+use Rattle.division_table.specs.Table.{Table}
 
 pub degree-field : (f g : Field) → degree f ≡ degree g → f ≡ g
 unfolding degree

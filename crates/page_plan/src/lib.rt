@@ -12,12 +12,12 @@ ghost use lib.ListN.{length};
 ghost use lib.Dec.{eqb};
 ghost use Rattle.field.specs.Field.{degree};
 ghost use Rattle.layout.specs.Plan.{from};
-ghost use Rattle.remainder.specs.Table.{Table};
+ghost use Rattle.division_table.specs.Table.{Table};
 ghost use Rattle.page_theory.specs.Calls.{blockReply};
 ghost use Rattle.page_plan.specs.Plans.{Planned};
+use division_table::make_table;
 use layout::Plan;
 use layout::Shape;
-use remainder::table::make_table;
 
 // The reply to a page's length and a block number (document 01, "Replies"). 0 is given where they are right.
 pub fn block_reply(plan: Plan, page: usize, block: u64) -> u8

@@ -1,12 +1,13 @@
 // Reading a page: every block is decided before any byte is written.
 ghost use mathlib.Core.Path.{_≡_};
-ghost use Rattle.remainder.specs.Table.{Table};
+ghost use Rattle.division_table.specs.Table.{Table};
 ghost use Rattle.page_theory.specs.Damage.{Outputs};
 ghost use Rattle.page_theory.specs.Calls.{readEnded, readReply, readIn, readOf};
 ghost use Rattle.page_read.specs.Answers.{readNumber, readBlock};
 ghost use Rattle.page_plan.specs.Plans.{Planned, Ready};
 ghost use Rattle.page_decide.specs.Looking.{Scanned};
 use crate::ReadAnswer;
+use division_table::make_table;
 use layout::Acceptance;
 use layout::Plan;
 use layout::check_layout;
@@ -20,7 +21,6 @@ use page_decide::look::first_damaged;
 use page_plan::later_table;
 use page_take::take_clean;
 use page_take::take_decided;
-use remainder::table::make_table;
 
 // The reply to the lengths that a reader is lent.
 fn read_reply(plan: Plan, page: usize, metadata: usize, data: usize, counts: usize) -> u8

@@ -11,17 +11,17 @@ use lib.Bits.{bitXor, xor-zero-l, xor-lt}
 use lib.Pow.{pow-pos}
 use Rattle.bits.specs.Bits.{digit}
 use Rattle.field.specs.declared.Field.{Field}
-use Rattle.field.specs.declared.Field.the-variants.{Thirteen, Fourteen}
 use Rattle.field.specs.Field.{degree}
 use Rattle.code.specs.Word.{Word}
 use Rattle.code.specs.Generator.{generator, remainderStep, remainder}
 use Rattle.code.proofs.Generator.{generator-monic}
 use Rattle.code.proofs.Polynomial.{oneAt-high}
 use Rattle.code.proofs.Remainder.{remainder-below}
-use Rattle.remainder.specs.Remainder.{remainderFrom, parityFrom}
+use Rattle.remainder.specs.Remainder.{remainderFrom}
+use Rattle.remainder.specs.Parity.{parityFrom}
 use Rattle.remainder.proofs.Fold.{remainderFrom-below, remainder-from}
 use Rattle.remainder.proofs.Parity.{parity-sum, parity-append}
-use Rattle.remainder.proofs.Level.{message-parity}
+use Rattle.division.proofs.Level.{degree-some, message-parity}
 use Rattle.pieces.specs.State.{carried}
 
 -- ---- zeros leave nothing
@@ -35,11 +35,6 @@ module _ (d g : ℕ) where
   unfolding remainderFrom
   zeros-zero zero = refl
   zeros-zero (suc k) = ap (λ r. remainderFrom d g r (replicate k false)) step-zero ∙ zeros-zero k
-
-pub degree-some : (f : Field) (t : ℕ) → 0 < t → 0 < degree f * t
-unfolding degree
-degree-some Thirteen t h = omega arith
-degree-some Fourteen t h = omega arith
 
 module _ (f : Field) (t : ℕ) where
   -- Nothing has the parity 0.

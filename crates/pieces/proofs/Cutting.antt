@@ -31,11 +31,11 @@ use Rattle.field.specs.Field.{degree, chosen}
 use Rattle.code.specs.Generator.{remainder, parity}
 use Rattle.code.specs.Register.{register}
 use Rattle.code.proofs.Remainder.{remainder-below}
-use Rattle.remainder.specs.Remainder.{bytesOf}
+use Rattle.remainder.specs.Remainder.{bytesFor, bytesOf}
 use Rattle.remainder.proofs.Fold.{parity-bits-below}
 use Rattle.pieces.specs.declared.State.{State}
 use Rattle.pieces.specs.State.{bitsOf, carried, wordsOf, choiceOf, stateOf, after}
-use Rattle.pieces.specs.Calls.{blockReply, usable, parityBytes, answered, finished, startFor, startOf, feedIn, feedFor, feedOf, finishIn, finishFor, finishOf}
+use Rattle.pieces.specs.Calls.{blockReply, usable, answered, finished, startFor, startOf, feedIn, feedFor, feedOf, finishIn, finishFor, finishOf}
 use Rattle.pieces.specs.Cutting.{joined, feeds, parityIn}
 use Rattle.pieces.proofs.Words.{register-words}
 use Rattle.pieces.proofs.Carrying.{carried-start, carried-append, carried-below}
@@ -223,7 +223,7 @@ module _ (f : Field) (level n : ℕ) (right : blockReply f level n ≡ 0) where
   unfolding parity
   number-parity l = number-digits _ (degree f * (2 * level)) ∙ mod-eq-of-lt (below l)
 
-  pub finish-state : (l b : List ℕ) → length l ≡ n → length b ≡ parityBytes f (2 * level)
+  pub finish-state : (l b : List ℕ) → length l ≡ n → length b ≡ bytesFor (degree f * (2 * level))
       → finishOf (stateOf f level n l) b ≡ finished (answered 0 (stateOf f level n l)) (parityIn f (2 * level) l)
   unfolding parityIn
   finish-state l b e k =
@@ -239,7 +239,7 @@ module _ (f : Field) (level n : ℕ) (right : blockReply f level n ≡ 0) where
       let u = going-usable f s (state-going l (omega arith)) in
       finished-in l b ∙ sym (finish-refused f s b (finish-early f s (length b) u (λ e. let z : length l ≡ n = unfold stateOf in e in omega arith)) (λ z. omega arith))
 
-  pub finish-buffer : (l b : List ℕ) → length l ≡ n → (length b ≡ parityBytes f (2 * level) → ⊥)
+  pub finish-buffer : (l b : List ℕ) → length l ≡ n → (length b ≡ bytesFor (degree f * (2 * level)) → ⊥)
       → finishOf (stateOf f level n l) b ≡ finished (answered 6 (stateOf f level n l)) b
   finish-buffer l b e h =
       let s : State = stateOf f level n l in
@@ -247,14 +247,14 @@ module _ (f : Field) (level n : ℕ) (right : blockReply f level n ≡ 0) where
       finished-in l b ∙ sym (finish-refused f s b (finish-bytes f s (length b) u (unfold stateOf in e) (unfold stateOf in h)) (λ z. omega arith))
 
   -- A message in any pieces: finishing gives the parity of the whole.
-  pub cutting : (s : State) (ps : List (List ℕ)) (b : List ℕ) → length (joined ps) ≡ n → length b ≡ parityBytes f (2 * level)
+  pub cutting : (s : State) (ps : List (List ℕ)) (b : List ℕ) → length (joined ps) ≡ n → length b ≡ bytesFor (degree f * (2 * level))
       → finishOf (feeds (startOf s level (choiceOf f) n .state) ps) b ≡ finished (answered 0 (stateOf f level n (joined ps))) (parityIn f (2 * level) (joined ps))
   cutting s ps b e k = rw (start-state s, feeds-state [] ps (omega arith)) (finish-state (joined ps) b e k)
 
 -- The last mt bits of a parity's bytes are the parity; the bits before them are zeros.
 pub parity-last : (f : Field) (level : ℕ) (l : List ℕ) → level ≤ 20
-    → run (bitOf (parityIn f (2 * level) l)) (8 * parityBytes f (2 * level) - degree f * (2 * level)) (degree f * (2 * level)) ≡ parity f (2 * level) (bitsOf l)
-unfolding parityIn bytesOf parityBytes parity
+    → run (bitOf (parityIn f (2 * level) l)) (8 * bytesFor (degree f * (2 * level)) - degree f * (2 * level)) (degree f * (2 * level)) ≡ parity f (2 * level) (bitsOf l)
+unfolding parityIn bytesOf bytesFor parity
 parity-last f level l h =
     let d : ℕ = degree f * (2 * level) in
     let k : ℕ = (d + 7) / 8 in

@@ -13,9 +13,10 @@ use Rattle.field.specs.declared.Field.{Field}
 use Rattle.field.specs.declared.Choice.{Choice}
 use Rattle.field.specs.declared.Choice.the-variants.{Offered, Unknown}
 use Rattle.field.specs.Field.{chosen, degree, longest}
+use Rattle.remainder.specs.Remainder.{bytesFor}
 use Rattle.pieces.specs.declared.State.{State}
 use Rattle.pieces.specs.declared.Answered.{Answered}
-use Rattle.pieces.specs.Calls.{blockReply, usable, parityBytes, Finished, finished, startIn, startFor, startOf, feedIn, feedFor, feedOf, finishReply, finishIn, finishFor, finishOf}
+use Rattle.pieces.specs.Calls.{blockReply, usable, Finished, finished, startIn, startFor, startOf, feedIn, feedFor, feedOf, finishReply, finishIn, finishFor, finishOf}
 use Rattle.pieces.proofs.Replies.{reply-level, reply-empty, reply-plain, reply-long, reply-right}
 
 -- a reply of the table, by its number
@@ -115,9 +116,9 @@ feed-ends s p = go (chosen (s .choice))
 
 finish-table : (f : Field) (s : State) (n : ℕ) → Piece (finishReply f s n)
 unfolding finishReply
-finish-table f s n = go (usable f s) (eqb (s .fed) (s .size)) (eqb n (parityBytes f (2 * s .level))) refl refl refl
+finish-table f s n = go (usable f s) (eqb (s .fed) (s .size)) (eqb n (bytesFor (degree f * (2 * s .level)))) refl refl refl
   where
-    go : (a b c : Bool) → usable f s ≡ a → eqb (s .fed) (s .size) ≡ b → eqb n (parityBytes f (2 * s .level)) ≡ c → Piece (finishReply f s n)
+    go : (a b c : Bool) → usable f s ≡ a → eqb (s .fed) (s .size) ≡ b → eqb n (bytesFor (degree f * (2 * s .level))) ≡ c → Piece (finishReply f s n)
     go true true true ea eb ec = rw (ea, eb, ec) done
     go true true false ea eb ec = rw (ea, eb, ec) buffer
     go true false c ea eb ec = rw (ea, eb) buffer

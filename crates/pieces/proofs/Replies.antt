@@ -15,11 +15,11 @@ use Rattle.replies.specs.Replies.{number}
 use Rattle.layout.specs.Plan.{coveredOf}
 use Rattle.layout.specs.Acceptance.{test, either, levelRule, messageRule, lengthRule, ruleRefusal, ruleNumber}
 use Rattle.code.specs.Register.{register}
-use Rattle.remainder.specs.Remainder.{bytesOf}
+use Rattle.remainder.specs.Remainder.{bytesFor, bytesOf}
 use Rattle.remainder.proofs.Fold.{parity-bits-below}
 use Rattle.pieces.specs.declared.State.{State}
 use Rattle.pieces.specs.State.{stateOf, after}
-use Rattle.pieces.specs.Calls.{shapeFor, findingReply, blockReply, usable, parityBytes, answered, finished, startIn, feedIn, finishReply, finishIn}
+use Rattle.pieces.specs.Calls.{shapeFor, findingReply, blockReply, usable, answered, finished, startIn, feedIn, finishReply, finishIn}
 
 -- ---- a block
 
@@ -141,32 +141,32 @@ module _ (f : Field) (s : State) (n : ℕ) where
     unfolding finishReply
     finish-early h = rw (going, ne-eqb (s .fed) (s .size) h)
 
-    pub finish-bytes : s .fed ≡ s .size → (n ≡ parityBytes f (2 * s .level) → ⊥) → 6 ≡ finishReply f s n
+    pub finish-bytes : s .fed ≡ s .size → (n ≡ bytesFor (degree f * (2 * s .level)) → ⊥) → 6 ≡ finishReply f s n
     unfolding finishReply
-    finish-bytes e h = rw (going, eq-eqb (s .fed) (s .size) e, ne-eqb n (parityBytes f (2 * s .level)) h)
+    finish-bytes e h = rw (going, eq-eqb (s .fed) (s .size) e, ne-eqb n (bytesFor (degree f * (2 * s .level))) h)
 
-    pub finish-right : s .fed ≡ s .size → n ≡ parityBytes f (2 * s .level) → 0 ≡ finishReply f s n
+    pub finish-right : s .fed ≡ s .size → n ≡ bytesFor (degree f * (2 * s .level)) → 0 ≡ finishReply f s n
     unfolding finishReply
-    finish-right e h = rw (going, eq-eqb (s .fed) (s .size) e, eq-eqb n (parityBytes f (2 * s .level)) h)
+    finish-right e h = rw (going, eq-eqb (s .fed) (s .size) e, eq-eqb n (bytesFor (degree f * (2 * s .level))) h)
 
   -- what holds where there is no reply
   pub record Whole : Type 0 where
     pub going : usable f s ≡ true
     pub all : s .fed ≡ s .size
-    pub bytes : n ≡ parityBytes f (2 * s .level)
+    pub bytes : n ≡ bytesFor (degree f * (2 * s .level))
 
   pub finish-whole : finishReply f s n ≡ 0 → Whole
   unfolding finishReply
-  finish-whole = go (usable f s) (eqb (s .fed) (s .size)) (eqb n (parityBytes f (2 * s .level))) refl refl refl
+  finish-whole = go (usable f s) (eqb (s .fed) (s .size)) (eqb n (bytesFor (degree f * (2 * s .level)))) refl refl refl
     where
-      go : (a b c : Bool) → usable f s ≡ a → eqb (s .fed) (s .size) ≡ b → eqb n (parityBytes f (2 * s .level)) ≡ c → finishReply f s n ≡ 0 → Whole
-      go true true true ea eb ec h = record { going = ea; all = eqb-true (s .fed) (s .size) eb; bytes = eqb-true n (parityBytes f (2 * s .level)) ec }
+      go : (a b c : Bool) → usable f s ≡ a → eqb (s .fed) (s .size) ≡ b → eqb n (bytesFor (degree f * (2 * s .level))) ≡ c → finishReply f s n ≡ 0 → Whole
+      go true true true ea eb ec h = record { going = ea; all = eqb-true (s .fed) (s .size) eb; bytes = eqb-true n (bytesFor (degree f * (2 * s .level))) ec }
       go true true false ea eb ec h = let z : _≡_ {A = ℕ} 6 0 = rw (ea, eb, ec) at h in absurd (omega arith)
       go true false c ea eb ec h = let z : _≡_ {A = ℕ} 6 0 = rw (ea, eb) at h in absurd (omega arith)
       go false b c ea eb ec h = let z : _≡_ {A = ℕ} 7 0 = rw ea at h in absurd (omega arith)
 
   pub finish-room : finishReply f s n ≡ 0 → n ≤ 112
-  unfolding parityBytes
+  unfolding bytesFor
   finish-room h =
       let w = finish-whole h in
       let l = usable-level f s (w .going) in

@@ -5,7 +5,6 @@
 -- shapeFor f level n        the shape of a block with a message of n bytes (layout/Plan)
 -- blockReply f level n      1, 2 or 3 where a block of a page would get it (layout/Acceptance), else 0
 -- usable f s                a start in the field f accepts the numbers of the state, no more is fed than the message has, and what is carried is below 2^(mt)
--- parityBytes f t           the bytes of a parity: mt / 8 rounded up
 -- answered reply s          an answer; Finished: a reply, the state and the lent parity buffer afterwards
 -- startIn, feedIn, finishIn     the calls in a field; startFor, feedFor, finishFor: with the answer to a field choice
 -- startOf s level choice n  starting a block: the state before the first byte of its message
@@ -13,7 +12,7 @@
 -- finishOf s buffer         finishing: the parity in the buffer
 use mathlib.Core.Bool.{Bool, false, cond}
 use mathlib.Core.List.{List, []}
-use Prim.Native.Nat.{ℕ, _+_, _*_, _/_, _^_}
+use Prim.Native.Nat.{ℕ, _+_, _*_, _^_}
 use lib.ListN.{length}
 use lib.Dec.{eqb, leb, ltb}
 use Rattle.field.specs.declared.Field.{Field}
@@ -26,7 +25,7 @@ use Rattle.layout.specs.declared.Finding.the-variants.{Kept, Broken}
 use Rattle.layout.specs.declared.Kind.the-variants.{First}
 use Rattle.layout.specs.Acceptance.{either, levelRule, messageRule, lengthRule, ruleNumber}
 use Rattle.code.specs.Register.{register}
-use Rattle.remainder.specs.Remainder.{bytesOf}
+use Rattle.remainder.specs.Remainder.{bytesFor, bytesOf}
 use Rattle.pieces.specs.declared.State.{State}
 use Rattle.pieces.specs.declared.Answered.{Answered}
 use Rattle.pieces.specs.State.{stateOf, after}
@@ -51,9 +50,6 @@ usable f s =
     cond (eqb (blockReply f (s .level) (s .size)) 0)
     (cond (leb (s .fed) (s .size)) (ltb (register (s .words)) (2 ^ (degree f * (2 * s .level)))) false)
     false
-
-unfoldable pub parityBytes : Field → ℕ → ℕ
-parityBytes f t = (degree f * t + 7) / 8
 
 abbrev pub answered : ℕ → State → Answered
 answered reply s = record { reply = reply; state = s }
@@ -94,7 +90,7 @@ feedOf s piece = feedFor (chosen (s .choice)) s piece
 
 -- 7: a state that cannot be gone on with. 6: a message that is not whole, or a buffer of another length than a parity's.
 unfoldable pub finishReply : Field → State → ℕ → ℕ
-finishReply f s n = cond (usable f s) (cond (eqb (s .fed) (s .size)) (cond (eqb n (parityBytes f (2 * s .level))) 0 6) 6) 7
+finishReply f s n = cond (usable f s) (cond (eqb (s .fed) (s .size)) (cond (eqb n (bytesFor (degree f * (2 * s .level)))) 0 6) 6) 7
 
 -- Document 01's form of a remainder: the highest coefficient first, right-aligned.
 unfoldable pub finishIn : Field → State → List ℕ → Finished

@@ -2,8 +2,9 @@
 use crate::State;
 use field::Field;
 use remainder::Register;
+use remainder::coefficients::bytes_for;
 use remainder::coefficients::is_below;
-use remainder::feed::parity_bits;
+use remainder::coefficients::parity_bits;
 ghost use mathlib.Core.Path.{_≡_};
 ghost use Rattle.pieces.specs.Calls.{blockReply, usable, finishReply};
 
@@ -61,7 +62,7 @@ pub fn finish_reply(f: Field, state: State, len: usize) -> u8
     }
     let t = 2 * state.level as usize;
     let bits = parity_bits(f, t);
-    if len != (bits + 7) / 8 {
+    if len != bytes_for(bits) {
         return 6;
     }
     0

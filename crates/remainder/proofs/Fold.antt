@@ -12,7 +12,7 @@ use lib.Seq.{take-suc, take-length}
 use lib.Bits.{bitXor, xor-block, xor-lt}
 use lib.Pow.{pow-pos, pow-mono, split}
 use Rattle.bits.specs.Bits.{bit, digit, number, digits}
-use Rattle.bits.proofs.Numbers.{digit-lt, digits-length, number-digits}
+use Rattle.bits.proofs.Numbers.{digit-lt}
 use Rattle.field.specs.declared.Field.{Field}
 use Rattle.field.specs.declared.Field.the-variants.{Thirteen, Fourteen}
 use Rattle.field.specs.Field.{degree}
@@ -113,12 +113,6 @@ module _ (d g : ℕ) where
       let h : r * 2 + digit b < 2 ^ suc k = omega arith in
       let m : 2 ^ suc k ≤ 2 ^ d = pow-mono (omega arith) in
       rw (remainderStep-short d g r b (omega arith), remainderFrom-short (r * 2 + digit b) (suc k) w h (omega arith), q) (omega arith)
-
-  -- The digits of a remainder, as a word, leave that remainder.
-  pub remainderFrom-digits : (r : ℕ) → r < 2 ^ d → remainderFrom d g 0 (digits r d) ≡ r
-  remainderFrom-digits r h =
-      remainderFrom-short 0 0 (digits r d) (omega arith) (omega (arith, digits-length r d))
-      ∙ rw (zero-mul, zero-add, number-digits r d) (mod-eq-of-lt h)
 
 -- the remainder by a generator
 

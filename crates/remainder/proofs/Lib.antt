@@ -1,8 +1,5 @@
+-- Laws of remainders: numbers in words of 64 bits, the remainder as a fold, division as a linear map, digits in pages and bytes.
 pub mod Words
-pub mod Rows
 pub mod Fold
 pub mod Parity
-pub mod Filling
-pub mod Steps
 pub mod Bytes
-pub mod Level

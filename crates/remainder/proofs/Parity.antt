@@ -16,8 +16,9 @@ use Rattle.bits.proofs.Numbers.{digit-lt, bit-lt, bit-shift, number-lt, number-
 use Rattle.field.proofs.Xor.{xor-assoc, xor-swap, xor-cancel, xor-double, scale-xor, digit-le}
 use Rattle.code.specs.Word.{Word}
 use Rattle.code.specs.Generator.{remainderStep}
-use Rattle.remainder.specs.Remainder.{remainderFrom, parityStep, parityFrom}
-use Rattle.remainder.specs.Table.{rest}
+use Rattle.remainder.specs.Remainder.{remainderFrom}
+use Rattle.remainder.specs.Parity.{parityStep, parityFrom}
+use Rattle.remainder.specs.Parity.{rest}
 use Rattle.remainder.proofs.Fold.{remainderStep-below, remainderStep-short, remainderFrom-append, remainderFrom-below, remainderFrom-short}
 
 -- numbers moved up by k digits

@@ -342,10 +342,6 @@ xor-store ws vs g i {x} {u} h hv hg inv ex eu =
     ∙ sym (xor-block (64 * i) (getD g i 0) (getD vs i 0) (low g i) (low vs i) hg hv)
     ∙ sym (ap₂ bitXor (low-next g i) (low-next vs i))
 
-pub xor-next : (ws vs g : List ℕ) (i : ℕ) → i < length ws → Words vs → Words g → low ws i ≡ bitXor (low g i) (low vs i) → getD ws i 0 ≡ getD vs i 0
-    → low (set ws i (bitXor (getD g i 0) (getD ws i 0))) (i + 1) ≡ bitXor (low g (i + 1)) (low vs (i + 1))
-xor-next ws vs g i h hv hg inv e = xor-store ws vs g i h (low-lt vs hv i) (low-lt g hg i) inv refl e
-
 pub xor-low-end : (ws vs g : List ℕ) (n : ℕ) → n ≤ length vs → length ws ≡ length vs → low ws n ≡ bitXor (low g n) (low vs n)
     → ((k : ℕ) → n ≤ k → getD ws k 0 ≡ getD vs k 0) → register vs < 2 ^ (64 * n) → register ws ≡ bitXor (low g n) (register vs)
 unfolding register
@@ -354,7 +350,3 @@ xor-low-end ws vs g n l es inv above hv =
     let s : low vs (length vs) ≡ low vs n = register-short vs n l hv in
     let a : low ws (length vs) + low vs n ≡ low vs (length vs) + low ws n = rw e (low-above ws vs n above (length vs - n)) in
     rw (es, s) (omega arith)
-
-pub xor-end : (ws vs g : List ℕ) (n : ℕ) → n ≤ length vs → length ws ≡ length vs → length g ≡ length vs → low ws n ≡ bitXor (low g n) (low vs n)
-    → ((k : ℕ) → n ≤ k → getD ws k 0 ≡ getD vs k 0) → register vs < 2 ^ (64 * n) → register g < 2 ^ (64 * n) → register ws ≡ bitXor (register g) (register vs)
-xor-end ws vs g n l es eg inv above hv hg = xor-low-end ws vs g n l es inv above hv ∙ rw (register-short g n (omega arith) hg)

@@ -1,3 +1,3 @@
--- The remainder register: what a reader must believe.
+-- Remainders: as numbers and as bytes, and the parity of a message worked out from the start on.
 pub mod Remainder
-pub mod Table
+pub mod Parity

@@ -24,7 +24,7 @@ fn last_bits(state: Register, n: usize) -> [u8; 112]
     bytes
 }
 
-// Internal: puts the coefficients below x^degree at a position of a page, the highest first.
+// Puts the coefficients below x^degree at a position of a page, the highest first.
 pub fn place_parity(state: Register, degree: usize, page: &mut [u8], position: usize)
     requires { ⌜ (degree ≤ 896) × Inside (now page) position degree ⌝ }
     ensures { λ r. ⌜ now (page .exit) ≡ placed (now (page .entry)) position (digits (register (state .words)) degree) ⌝ }
@@ -47,7 +47,7 @@ fn whole_words(bytes: &[u8], at: usize, count: usize) -> Register
     Register { words: words }
 }
 
-// Internal: the same for any number of bits that has room in a register.
+// The same for any number of bits that has room in a register.
 pub fn number_at(bytes: &[u8], at: usize, n: usize) -> Register
     requires { ⌜ (n ≤ 896) × (at + n < 18446744073709551616) ⌝ }
     ensures { λ r. ⌜ register (r .words) ≡ number (run (bitOf (now (bytes .entry))) at n) ⌝ }
@@ -63,7 +63,7 @@ pub fn number_at(bytes: &[u8], at: usize, n: usize) -> Register
     Register { words: words }
 }
 
-// Internal: the number in at most 112 bytes, highest coefficient first, right-aligned.
+// The number in at most 112 bytes, highest coefficient first, right-aligned.
 pub fn from_bytes(l: &[u8]) -> Register
     requires { ⌜ length (now l) ≤ 112 ⌝ }
     ensures { λ r. ⌜ register (r .words) ≡ numberOf (now (l .entry)) ⌝ }
@@ -71,7 +71,7 @@ pub fn from_bytes(l: &[u8]) -> Register
     number_at(l, 0, 8 * l.len())
 }
 
-// Internal: the same the other way: the lowest coefficients, eight for each byte.
+// The same the other way: the lowest coefficients, eight for each byte.
 pub fn to_bytes(state: Register, l: &mut [u8])
     requires { ⌜ length (now l) ≤ 112 ⌝ }
     ensures { λ r. ⌜ now (l .exit) ≡ bytesOf (length (now (l .entry))) (register (state .words)) ⌝ }

@@ -15,7 +15,7 @@ ghost use Rattle.syndromes.specs.Lanes.{Rows, Rowed, Filled, Lanes, Rais
 use field::Field;
 use field::tables::scaled;
 use remainder::Register;
-use remainder::feed::parity_bits;
+use remainder::coefficients::parity_bits;
 
 // Row p: a^((2i + 1) p) in lane i.
 fn fill_row(powers: &[u16; 16384], rows: &mut [u16; 2048], t: usize, p: usize)

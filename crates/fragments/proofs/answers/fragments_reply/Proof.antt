@@ -1,4 +1,3 @@
--- `fragments::answers::fragments_reply` meets its contract.
 use mathlib.Core.Path.{sym, ap, _∙_}
 use mathlib.Core.List.{[]}
 use borrow.Author.Needs.{needs}

@@ -1,4 +1,3 @@
--- `fragments::answers::refusal_reply` meets its contract.
 use mathlib.Core.Path.{sym, ap}
 use borrow.Author.Needs.{needs}
 use Rattle.fragments.specs.Calls.{refusalReply}

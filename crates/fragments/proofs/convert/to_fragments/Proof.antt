@@ -1,4 +1,3 @@
--- `fragments::convert::to_fragments` meets its contract.
 use mathlib.Core.Path.{_≡_, _∙_}
 use Prim.Native.Nat.{ℕ, _≤_, _<_, _-_, _*_, _/_, _%_, _^_}
 use native.Mathlib.Omega.{arith}

@@ -1,4 +1,3 @@
--- `fragments::request::is_offered` meets its contract.
 use native.Mathlib.Omega.{arith}
 use Rattle.fragments.proofs.Replies.{offered-two, offered-four, offered-eight, offered-none}
 use Rattle.fragments.proofs.request.is_offered.Statement.{statement}

@@ -1,4 +1,3 @@
--- `fragments::request::parity_bits` meets its contract.
 use native.Mathlib.Omega.{arith}
 use borrow.Author.Needs.{needs}
 use Rattle.fragments.specs.Calls.{levelOf, coefficients}

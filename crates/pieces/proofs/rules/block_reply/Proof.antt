@@ -1,4 +1,3 @@
--- `pieces::rules::block_reply` meets its contract.
 use Prim.Native.Nat.{_*_}
 use native.Mathlib.Omega.{arith}
 use Rattle.remainder.proofs.Fold.{parity-bits-below}

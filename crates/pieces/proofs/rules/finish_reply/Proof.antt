@@ -1,10 +1,9 @@
--- `pieces::rules::finish_reply` meets its contract.
-use Prim.Native.Nat.{_*_, _+_, _/_}
+use Prim.Native.Nat.{_*_}
 use mathlib.Core.Path.{sym, ap, _∙_}
 use native.Mathlib.Omega.{arith}
 use borrow.Author.Tests.{not-true, not-false}
 use Rattle.remainder.proofs.Fold.{parity-bits-below}
-use Rattle.pieces.specs.Calls.{parityBytes}
+use Rattle.remainder.specs.Remainder.{bytesFor}
 use Rattle.pieces.proofs.Replies.{usable-level, finish-unusable, finish-early, finish-bytes, finish-right}
 use borrow.Author.Needs.{needs}
 use Rattle.pieces.proofs.rules.finish_reply.Statement.{statement}
@@ -25,24 +24,26 @@ mul-t c = omega (arith, usable-level _ _ (sym (c .before .before .before .is-usa
 parity-bits-requires : tie.Need-parity-bits-requires
 parity-bits-requires c κs = omega (arith, usable-level _ _ (sym (c .before .before .before .is-usable .ensures) ∙ not-false _ (c .before .before .if1 .left)))
 
-add-if3 : tie.Need-add-if3
-add-if3 c =
+bytes-for-requires : tie.Need-bytes-for-requires
+bytes-for-requires c κs =
     let a = c .before .before .before .before .before .args in
     let l = usable-level (a .f) (a .state) (sym (c .before .before .before .before .is-usable .ensures) ∙ not-false _ (c .before .before .before .if1 .left)) in
     let p = parity-bits-below (a .f) (2 * a .state .level) (omega arith) in
     omega (arith, c .parity-bits .ensures)
 
 returns-3 : tie.Need-returns-3
-unfolding parityBytes
 returns-3 c =
-    let u = sym (c .before .before .before .before .before .is-usable .ensures) ∙ not-false _ (c .before .before .before .before .if1 .left) in
-    finish-bytes _ _ _ u (c .before .before .if2 .left) (λ e. c .if3 .taken (e ∙ ap (λ d. (d + 7) / 8) (sym (c .before .parity-bits .ensures))))
+    let b = c .before in
+    let u = sym (b .before .before .before .before .before .is-usable .ensures) ∙ not-false _ (b .before .before .before .before .if1 .left) in
+    let e = b .bytes-for .ensures ∙ ap bytesFor (b .before .parity-bits .ensures) in
+    finish-bytes _ _ _ u (b .before .before .if2 .left) (λ h. c .if3 .taken (h ∙ sym e))
 
 returns-4 : tie.Need-returns-4
-unfolding parityBytes
 returns-4 c =
-    let u = sym (c .before .before .before .before .before .is-usable .ensures) ∙ not-false _ (c .before .before .before .before .if1 .left) in
-    finish-right _ _ _ u (c .before .before .if2 .left) (c .if3 .left ∙ ap (λ d. (d + 7) / 8) (c .before .parity-bits .ensures))
+    let b = c .before in
+    let u = sym (b .before .before .before .before .before .is-usable .ensures) ∙ not-false _ (b .before .before .before .before .if1 .left) in
+    let e = b .bytes-for .ensures ∙ ap bytesFor (b .before .parity-bits .ensures) in
+    finish-right _ _ _ u (b .before .before .if2 .left) (c .if3 .left ∙ e)
 
 pub finish-reply-spec : {M : Type 1} → statement M
 finish-reply-spec =
@@ -53,6 +54,6 @@ finish-reply-spec =
     returns-2
     mul-t
     parity-bits-requires
-    add-if3
+    bytes-for-requires
     returns-3
     returns-4)

@@ -1,4 +1,3 @@
--- `pieces::value::advanced` meets its contract.
 use Rattle.pieces.specs.State.{after}
 use Rattle.pieces.proofs.Words.{words-number}
 use Rattle.pieces.proofs.Replies.{usable-going, usable-level, piece-short}

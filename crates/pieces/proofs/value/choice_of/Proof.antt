@@ -1,4 +1,3 @@
--- `pieces::value::choice_of` meets its contract.
 use mathlib.Core.Path.{sym, ap}
 use Rattle.pieces.specs.State.{choiceOf}
 use borrow.Author.Needs.{needs}

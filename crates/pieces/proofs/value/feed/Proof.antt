@@ -1,4 +1,3 @@
--- `pieces::value::feed` meets its contract.
 use mathlib.Core.Path.{sym, _∙_}
 use Rattle.pieces.specs.Calls.{feedFor, feedOf}
 use borrow.Author.Needs.{needs}

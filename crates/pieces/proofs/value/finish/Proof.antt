@@ -1,4 +1,3 @@
--- `pieces::value::finish` meets its contract.
 use mathlib.Core.Path.{sym, _∙_}
 use Rattle.pieces.specs.Calls.{finished, finishFor, finishOf}
 use borrow.Author.Needs.{needs}

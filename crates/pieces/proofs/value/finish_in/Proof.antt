@@ -1,4 +1,3 @@
--- `pieces::value::finish_in` meets its contract.
 use mathlib.Core.Path.{sym, _∙_}
 use Rattle.pieces.proofs.Replies.{finish-refused, finish-room, finish-done}
 use borrow.Author.Needs.{needs}

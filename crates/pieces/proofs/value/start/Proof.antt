@@ -1,4 +1,3 @@
--- `pieces::value::start` meets its contract.
 use mathlib.Core.Path.{sym, _∙_}
 use Rattle.pieces.specs.Calls.{startFor, startOf}
 use borrow.Author.Needs.{needs}

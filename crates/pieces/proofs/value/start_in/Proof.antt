@@ -1,4 +1,3 @@
--- `pieces::value::start_in` meets its contract.
 use mathlib.Core.Path.{sym, _∙_}
 use borrow.Author.Needs.{needs}
 use Rattle.pieces.proofs.Starting.{state-start}

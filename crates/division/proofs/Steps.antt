@@ -1,0 +1,148 @@
+-- Laws of the steps by the table.
+use mathlib.Core.Path.{_≡_, refl, sym, ap, ap₂, _∙_}
+use mathlib.Core.List.{List}
+use Prim.Native.Nat.{ℕ, _+_, _-_, _*_, _/_, _%_, _^_, _<_, _≤_}
+use native.Mathlib.Omega.{arith}
+use native.Mathlib.Decide.{decLt}
+use native.Mathlib.Nat.{add-zero, mul-one, mod-lt, mod-le, mod-eq-of-lt}
+use lib.ListN.{length, getD, drop}
+use lib.Pow.{pow-pos, pow-mono, shr-lt, shr-shr, shl-shr, high, mod-pow-add}
+use lib.Bits.{bitXor, xor-lt, xor-zero-l, xor-shifted}
+use Rattle.bits.specs.Bits.{bitOf, run, number, digits}
+use Rattle.bits.proofs.Numbers.{number-append, digits-number}
+use Rattle.bits.proofs.Pages.{number-run-lt}
+use Rattle.bits.proofs.Runs.{run-length, run-append}
+use Rattle.field.proofs.Xor.{xor-assoc}
+use Rattle.code.specs.Word.{Word}
+use Rattle.code.specs.Register.{low, register}
+use Rattle.remainder.specs.Parity.{parityFrom}
+use Rattle.remainder.specs.Parity.{rest}
+use Rattle.division_table.specs.Table.{place, rowOf, divisorOf, Rests}
+use Rattle.remainder.proofs.Words.{Words, register-zeros, register-mod, top-digits}
+use Rattle.division_table.proofs.Filling.{row-inside, row-product, place-row}
+use Rattle.remainder.proofs.Parity.{mod-up, rest-xor, rest-zero, rest-below, parity-append, parity-digits, parity-below}
+
+-- The digits of five of a number v, the lowest first: k of them are done, and `left` has the others.
+module _ (u : ℕ) (words : List ℕ) (table : Rests u words) (v : ℕ) (hv : v < 18446744073709551616) where
+  positive : 64 ≤ 64 * u
+  positive = let s = table .some in omega arith
+
+  pub row-below : (k : ℕ) {left : ℕ} → k < 13 → left ≡ v / 2 ^ (5 * k) → 32 * k + left % 32 < 400
+  row-below k {left} h el = elim (decLt k 12) [
+    | yes l ↦ omega arith
+    | no l ↦
+        let e : k ≡ 12 = omega arith in
+        let m : v / 2 ^ (5 * k) < 16 = rw e (shr-lt 4 60 hv) in
+        omega arith
+  ]
+
+  pub row-room : (k : ℕ) {left : ℕ} → k < 13 → left ≡ v / 2 ^ (5 * k) → (32 * k + left % 32) * u + u ≤ length words
+  row-room k h el = row-inside _ u (row-below k h el) (table .size)
+
+  pub row-fits : (k : ℕ) {left : ℕ} → k < 13 → left ≡ v / 2 ^ (5 * k) → (32 * k + left % 32) * u < 18446744073709551616
+  row-fits k h el = row-product _ u (row-below k h el) (table .room)
+
+  pub left-first : v ≡ v / 2 ^ (5 * 0)
+  left-first = sym (ap (λ n. n / 1) (sym (mul-one v)) ∙ shl-shr v 0)
+
+  pub left-next : (k : ℕ) {left : ℕ} → left ≡ v / 2 ^ (5 * k) → left / 32 ≡ v / 2 ^ (5 * (k + 1))
+  left-next k el =
+      let e : 5 * k + 5 ≡ 5 * (k + 1) = omega arith in
+      ap (λ n. n / 32) el ∙ shr-shr v (5 * k) 5 ∙ ap (λ n. v / 2 ^ n) e
+
+  module _ (r : ℕ) where
+    pub rows-first : r ≡ bitXor (rest (64 * u) (divisorOf u words) (v % 2 ^ (5 * 0))) r
+    rows-first =
+        let e : v % 1 ≡ 0 = omega arith in
+        sym (ap (λ n. bitXor (rest (64 * u) (divisorOf u words) n) r) e ∙ ap (λ n. bitXor n r) (rest-zero (64 * u) (divisorOf u words)) ∙ xor-zero-l r)
+
+    pub rows-next : (k : ℕ) {left x y : ℕ} → k < 13 → left ≡ v / 2 ^ (5 * k) → x ≡ bitXor (rest (64 * u) (divisorOf u words) (v % 2 ^ (5 * k))) r
+        → y ≡ bitXor (low (drop ((32 * k + left % 32) * u) words) u) x → y ≡ bitXor (rest (64 * u) (divisorOf u words) (v % 2 ^ (5 * (k + 1)))) r
+    unfolding rowOf
+    rows-next k {left} h el ex ey =
+        let g : ℕ = divisorOf u words in
+        let e : 5 * (k + 1) ≡ 5 + 5 * k = omega arith in
+        let p : ℕ = v / 2 ^ (5 * k) % 32 * 2 ^ (5 * k) in
+        let q : ℕ = v % 2 ^ (5 * k) in
+        let m : v % 2 ^ (5 * (k + 1)) ≡ bitXor p q =
+        ap (λ n. v % 2 ^ n) e ∙ mod-pow-add v 5 (5 * k) ∙ sym (xor-shifted (v / 2 ^ (5 * k) % 32) (5 * k) q (mod-lt v (pow-pos (5 * k)))) in
+        let c : place (32 * k + left % 32) ≡ p = place-row k (left % 32) (omega arith) ∙ ap (λ n. n % 32 * 2 ^ (5 * k)) el in
+        let w : low (drop ((32 * k + left % 32) * u) words) u ≡ rest (64 * u) g p = table .rows _ (row-below k h el) ∙ ap (rest (64 * u) g) c in
+        ey ∙ ap₂ bitXor w ex ∙ sym (xor-assoc (rest (64 * u) g p) (rest (64 * u) g q) r) ∙ ap (λ n. bitXor n r) (sym (rest-xor (64 * u) g p q) ∙ ap (rest (64 * u) g) (sym m))
+
+    pub rows-below : (k : ℕ) {x : ℕ} → r < 2 ^ (64 * u) → x ≡ bitXor (rest (64 * u) (divisorOf u words) (v % 2 ^ (5 * k))) r → x < 2 ^ (64 * u)
+    rows-below k h ex =
+        let s = positive in
+        let m : 2 ^ 64 ≤ 2 ^ (64 * u) = pow-mono {i = 64} {j = 64 * u} s in
+        let l : v % 2 ^ (5 * k) ≤ v = mod-le v (2 ^ (5 * k)) in
+        rw ex (xor-lt (64 * u) _ r (rest-below (64 * u) (divisorOf u words) (omega arith) (table .monic) (v % 2 ^ (5 * k)) (omega arith)) h)
+
+    pub rows-all : (k : ℕ) {x : ℕ} → k ≡ 13 → x ≡ bitXor (rest (64 * u) (divisorOf u words) (v % 2 ^ (5 * k))) r → x ≡ bitXor (rest (64 * u) (divisorOf u words) v) r
+    rows-all k ek ex =
+        let e : v % 2 ^ 65 ≡ v = mod-eq-of-lt (omega arith) in
+        ex ∙ ap (λ n. bitXor (rest (64 * u) (divisorOf u words) (v % 2 ^ (5 * n))) r) ek ∙ ap (λ n. bitXor (rest (64 * u) (divisorOf u words) n) r) e
+
+-- From the parity r, with the k coefficients b: h has the k highest digits of r, and the rows of v are added.
+-- One step by the table is as many single steps as it takes coefficients.
+pub table-step : (u : ℕ) (words : List ℕ) → Rests u words → (r b k : ℕ) → r < 2 ^ (64 * u) → k ≤ 64 → b < 2 ^ k → {h n x : ℕ} → h ≡ r / 2 ^ (64 * u - k)
+    → n ≡ r * 2 ^ k % 2 ^ (64 * u) → x ≡ bitXor (rest (64 * u) (divisorOf u words) (bitXor h b)) n → x ≡ parityFrom (64 * u) (divisorOf u words) r (digits b k)
+table-step u words table r b k hr hk hb {h} eh en ex =
+    let s = table .some in
+    ex ∙ ap (bitXor (rest (64 * u) (divisorOf u words) (bitXor h b))) en ∙ sym (parity-digits (64 * u) (divisorOf u words) (omega arith) k r b (omega arith) hr hb (ap (λ y. bitXor y b) eh))
+
+-- the number in u words moved up by one word, and its highest word
+
+pub up-end : (ws vs : List ℕ) → Words vs → (u : ℕ) → 0 < u → u ≤ length ws → u ≤ length vs → low ws u ≡ low vs (u - 1) * 18446744073709551616 → ((k : ℕ) → u ≤ k → getD ws k 0 ≡ 0)
+    → register ws ≡ register vs * 18446744073709551616 % 2 ^ (64 * u)
+up-end ws vs hv u some l m inv above =
+    let e : 64 * u ≡ 64 * (u - 1) + 64 = omega arith in
+    register-zeros ws u l above ∙ inv ∙ ap (λ x. x * 18446744073709551616) (sym (register-mod vs hv (u - 1) (omega arith)))
+    ∙ sym (ap (λ i. register vs * 18446744073709551616 % 2 ^ i) e ∙ mod-up (register vs) (64 * (u - 1)) 64)
+
+pub top-word : (ws : List ℕ) → Words ws → (u : ℕ) → 0 < u → u ≤ length ws → register ws < 2 ^ (64 * u) → getD ws (u - 1) 0 ≡ register ws / 2 ^ (64 * u - 64)
+top-word ws h u some l r = sym (ap (λ n. n / 1) (sym (mul-one (getD ws (u - 1) 0))) ∙ shl-shr (getD ws (u - 1) 0) 0) ∙ top-digits ws h u 64 some l (omega arith) r
+
+pub step-pushed : (x u : ℕ) {n : ℕ} → n ≡ (x + 0) % 2 ^ (64 * u) → n ≡ x % 2 ^ (64 * u)
+step-pushed x u en = en ∙ ap (λ y. y % 2 ^ (64 * u)) (add-zero x)
+
+pub step-room : (x u : ℕ) {n : ℕ} → n ≡ x % 2 ^ (64 * u) → n < 2 ^ (64 * u)
+step-room x u en = rw en (mod-lt x (pow-pos (64 * u)))
+
+pub rests-below : (u : ℕ) (words : List ℕ) → Rests u words → (r : ℕ) (w : Word) → r < 2 ^ (64 * u) → parityFrom (64 * u) (divisorOf u words) r w < 2 ^ (64 * u)
+rests-below u words table r w h = let s = table .some in parity-below (64 * u) (divisorOf u words) (omega arith) (table .monic) r w h
+
+-- The n highest bits of a word that is read at some position.
+module _ (page : List ℕ) (s n : ℕ) (h : n ≤ 64) {w b : ℕ} (ew : w ≡ number (run (bitOf page) s 64)) (eb : b ≡ w / 2 ^ (64 - n)) where
+  odd-number : b ≡ number (run (bitOf page) s n)
+  odd-number =
+      let e : 64 ≡ n + (64 - n) = omega arith in
+      let v : Word = run (bitOf page) s n in
+      let z : Word = run (bitOf page) (s + n) (64 - n) in
+      let l : length z ≡ 64 - n = run-length (bitOf page) (s + n) (64 - n) in
+      let m : number z < 2 ^ (64 - n) = number-run-lt (bitOf page) (s + n) (64 - n) in
+      let q : w ≡ number v * 2 ^ (64 - n) + number z =
+      ew ∙ ap (λ i. number (run (bitOf page) s i)) e ∙ ap number (run-append (bitOf page) s n (64 - n)) ∙ number-append v z ∙ ap (λ i. number v * 2 ^ i + number z) l in
+      eb ∙ ap (λ i. i / 2 ^ (64 - n)) q ∙ high (number v) (64 - n) m
+
+  pub odd-below : b < 2 ^ n
+  odd-below = rw odd-number (number-run-lt (bitOf page) s n)
+
+  pub odd-digits : digits b n ≡ run (bitOf page) s n
+  odd-digits =
+      let v : Word = run (bitOf page) s n in
+      ap (λ m. digits m n) odd-number ∙ ap (digits (number v)) (sym (run-length (bitOf page) s n)) ∙ digits-number v
+
+-- runs of bits, as the loops feed them
+
+module _ (d g r : ℕ) (page : List ℕ) (s : ℕ) where
+  pub parity-parts : (i j : ℕ) {n x y t : ℕ} → n ≡ i + j → t ≡ s + i → x ≡ parityFrom d g r (run (bitOf page) s i) → y ≡ parityFrom d g x (run (bitOf page) t j)
+      → y ≡ parityFrom d g r (run (bitOf page) s n)
+  parity-parts i j en et ex ey = ey ∙ rw (et, ex, en, run-append (bitOf page) s i j) (sym (parity-append d g r (run (bitOf page) s i) (run (bitOf page) (s + i) j)))
+
+  pub parity-word : (i : ℕ) {x y w : ℕ} → x ≡ parityFrom d g r (run (bitOf page) s (64 * i)) → w ≡ number (run (bitOf page) (s + 64 * i) 64) → y ≡ parityFrom d g x (digits w 64)
+      → y ≡ parityFrom d g r (run (bitOf page) s (64 * (i + 1)))
+  parity-word i {x} {y} {w} ex ew ey =
+      let e : 64 * (i + 1) ≡ 64 * i + 64 = omega arith in
+      let v : Word = run (bitOf page) (s + 64 * i) 64 in
+      let q : digits w 64 ≡ v = ap (λ m. digits m 64) ew ∙ ap (digits (number v)) (sym (run-length (bitOf page) (s + 64 * i) 64)) ∙ digits-number v in
+      parity-parts (64 * i) 64 e refl ex (ey ∙ ap (parityFrom d g x) q)

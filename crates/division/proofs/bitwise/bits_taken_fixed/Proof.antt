@@ -1,0 +1,39 @@
+use mathlib.Core.Path.{_∙_}
+use borrow.Author.Needs.{needs}
+use Rattle.division.proofs.bitwise.bits_taken_fixed.Statement.{statement}
+use Rattle.division.proofs.bitwise.bits_taken_fixed.Tie as tie
+
+bits-taken-requires : tie.Need-bits-taken-requires
+bits-taken-requires c κs =
+    let p = c .before .before .pre in
+    let e = c .if1 .taken in
+    (rw e at (p .0), rw e at (p .1), p .2)
+
+returns : tie.Need-returns
+returns c = c .bits-taken .ensures ∙ rw (c .before .if1 .taken)
+
+bits-taken-requires-2 : tie.Need-bits-taken-requires-2
+bits-taken-requires-2 c κs =
+    let p = c .before .before .before .pre in
+    let e = c .if2 .taken in
+    (rw e at (p .0), rw e at (p .1), p .2)
+
+returns-2 : tie.Need-returns-2
+returns-2 c = c .bits-taken2 .ensures ∙ rw (c .before .if2 .taken)
+
+bits-taken-requires-3 : tie.Need-bits-taken-requires-3
+bits-taken-requires-3 c κs = search needs
+
+returns-3 : tie.Need-returns-3
+returns-3 c = search needs
+
+pub bits-taken-fixed-spec : {M : Type 1} → statement M
+bits-taken-fixed-spec =
+    tie.close
+    (tie.spec
+    bits-taken-requires
+    returns
+    bits-taken-requires-2
+    returns-2
+    bits-taken-requires-3
+    returns-3)

@@ -1,0 +1,39 @@
+use mathlib.Core.Path.{_∙_}
+use borrow.Author.Needs.{needs}
+use Rattle.division.proofs.feed.feed_words_fixed.Statement.{statement}
+use Rattle.division.proofs.feed.feed_words_fixed.Tie as tie
+
+feed-words-requires : tie.Need-feed-words-requires
+feed-words-requires c κs =
+    let a = c .before .before .before in
+    let e = c .if1 .taken in
+    (rw e at (a .pre .0), rw e at (a .pre .1), a .pre .2)
+
+returns : tie.Need-returns
+returns c = c .feed-words .ensures ∙ rw (c .before .if1 .taken)
+
+feed-words-requires-2 : tie.Need-feed-words-requires-2
+feed-words-requires-2 c κs =
+    let a = c .before .before .before .before in
+    let e = c .if2 .taken in
+    (rw e at (a .pre .0), rw e at (a .pre .1), a .pre .2)
+
+returns-2 : tie.Need-returns-2
+returns-2 c = c .feed-words2 .ensures ∙ rw (c .before .if2 .taken)
+
+feed-words-requires-3 : tie.Need-feed-words-requires-3
+feed-words-requires-3 c κs = search needs
+
+returns-3 : tie.Need-returns-3
+returns-3 c = search needs
+
+pub feed-words-fixed-spec : {M : Type 1} → statement M
+feed-words-fixed-spec =
+    tie.close
+    (tie.spec
+    feed-words-requires
+    returns
+    feed-words-requires-2
+    returns-2
+    feed-words-requires-3
+    returns-3)

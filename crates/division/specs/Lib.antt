@@ -1,0 +1,2 @@
+-- The division of a run of bits.
+pub mod Steps

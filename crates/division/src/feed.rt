@@ -1,0 +1,162 @@
+// Coefficients of a message 64 at a time, by the table of a divisor. A register has the parity so far in its first words, which it
+// fills: the divisor has the degree 64 used. Odd bits at the end go in one step.
+ghost use mathlib.Core.Path.{_≡_};
+ghost use Prim.Native.Nat.{_+_, _-_, _*_, _/_, _%_, _^_, _≤_, _<_};
+ghost use lib.Bits.{bitXor};
+ghost use Rattle.bits.specs.Bits.{bitOf, run, digits};
+ghost use Rattle.code.specs.Register.{register};
+ghost use Rattle.remainder.specs.Parity.{parityFrom, rest};
+ghost use Rattle.division_table.specs.Table.{divisorOf, Rests};
+use bits::read::word_at;
+use remainder::Register;
+use remainder::add::row_added;
+use remainder::shift::pushed;
+
+// The k highest digits of the number in the first words of a register.
+fn top(state: Register, used: usize, k: usize) -> u64
+    requires { ⌜ (0 < used) × (used ≤ 14) × (0 < k) × (k ≤ 64) × (register (state .words) < 2 ^ (64 * used)) ⌝ }
+    ensures { λ r. ⌜ r ≡ register (state .words) / 2 ^ (64 * used - k) ⌝ }
+{
+    let words = state.words;
+    words[used - 1] >> (64 - k)
+}
+
+// The sum over GF(2) of the remainder of v, moved up to the degree, and of the number in a register: the rows of the 13 digits of v.
+fn rows_added(state: Register, table: &[u64], used: usize, v: u64) -> Register
+    requires { ⌜ (Rests used (now table)) × (register (state .words) < 2 ^ (64 * used)) ⌝ }
+    ensures { λ r. ⌜ register (r .words)
+        ≡ bitXor (rest (64 * used) (divisorOf used (now (table .entry))) v) (register (state .words)) ⌝ }
+{
+    let mut r = state;
+    let mut left = v;
+    let mut k = 0usize;
+    while k < 13 {
+        let row = 32 * k + (left % 32) as usize;
+        r = row_added(r, table, row * used, used);
+        left = left >> 5;
+        k += 1;
+    }
+    r
+}
+
+// Up to 63 more coefficients of the message at once: the k digits of b.
+fn step_bits(state: Register, table: &[u64], used: usize, k: usize, b: u64) -> Register
+    requires { ⌜ (Rests used (now table)) × (register (state .words) < 2 ^ (64 * used)) × (0 < k) × (k < 64) × (b < 2 ^ k) ⌝ }
+    ensures { λ r. ⌜ register (r .words)
+        ≡ parityFrom (64 * used) (divisorOf used (now (table .entry))) (register (state .words)) (digits b k) ⌝ }
+{
+    let highest = top(state, used, k);
+    let v = highest ^ b;
+    let next = pushed(state, used, k, 0);
+    rows_added(next, table, used, v)
+}
+
+// The number in the first words of a register times 2^64. What leaves those words is lost.
+fn word_up(state: Register, used: usize) -> Register
+    requires { ⌜ (0 < used) × (used ≤ 14) ⌝ }
+    ensures { λ r. ⌜ register (r .words) ≡ register (state .words) * 2 ^ 64 % 2 ^ (64 * used) ⌝ }
+{
+    let from = state.words;
+    let mut words = [0u64; 14];
+    let mut i = 1;
+    while i < used {
+        words[i] = from[i - 1];
+        i += 1;
+    }
+    Register { words: words }
+}
+
+// The 64 coefficients of a word, the highest digit first.
+fn step_word(state: Register, table: &[u64], used: usize, w: u64) -> Register
+    requires { ⌜ (Rests used (now table)) × (register (state .words) < 2 ^ (64 * used)) ⌝ }
+    ensures { λ r. ⌜ register (r .words)
+        ≡ parityFrom (64 * used) (divisorOf used (now (table .entry))) (register (state .words)) (digits w 64) ⌝ }
+{
+    let words = state.words;
+    let v = words[used - 1] ^ w;
+    let next = word_up(state, used);
+    rows_added(next, table, used, v)
+}
+
+// A run of bits word by word: `count` words from position `at` on, wherever that lies in a byte.
+fn feed_words(
+    state: Register,
+    table: &[u64],
+    used: usize,
+    bytes: &[u8],
+    at: usize,
+    count: usize,
+) -> Register
+    requires { ⌜ (Rests used (now table)) × (register (state .words) < 2 ^ (64 * used)) × (at + 64 * count < 18446744073709551616) ⌝ }
+    ensures { λ r. ⌜ register (r .words)
+        ≡ parityFrom (64 * used) (divisorOf used (now (table .entry))) (register (state .words)) (run (bitOf (now (bytes .entry))) at (64 * count)) ⌝ }
+{
+    let mut r = state;
+    let mut fed = 0;
+    while fed < count {
+        let w = word_at(bytes, at + 64 * fed);
+        r = step_word(r, table, used, w);
+        fed += 1;
+    }
+    r
+}
+
+// The same with the number of words in use written out: the loops over words are then unrolled.
+fn feed_words_fixed(
+    state: Register,
+    table: &[u64],
+    used: usize,
+    bytes: &[u8],
+    at: usize,
+    count: usize,
+) -> Register
+    requires { ⌜ (Rests used (now table)) × (register (state .words) < 2 ^ (64 * used)) × (at + 64 * count < 18446744073709551616) ⌝ }
+    ensures { λ r. ⌜ register (r .words)
+        ≡ parityFrom (64 * used) (divisorOf used (now (table .entry))) (register (state .words)) (run (bitOf (now (bytes .entry))) at (64 * count)) ⌝ }
+{
+    if used == 4 {
+        return feed_words(state, table, 4, bytes, at, count);
+    }
+    if used == 9 {
+        return feed_words(state, table, 9, bytes, at, count);
+    }
+    feed_words(state, table, used, bytes, at, count)
+}
+
+// A run of bits of which there are fewer than 64.
+fn feed_bits(
+    state: Register,
+    table: &[u64],
+    used: usize,
+    bytes: &[u8],
+    at: usize,
+    n: usize,
+) -> Register
+    requires { ⌜ (Rests used (now table)) × (register (state .words) < 2 ^ (64 * used)) × (n < 64) ⌝ }
+    ensures { λ r. ⌜ register (r .words)
+        ≡ parityFrom (64 * used) (divisorOf used (now (table .entry))) (register (state .words)) (run (bitOf (now (bytes .entry))) at n) ⌝ }
+{
+    if n == 0 {
+        return state;
+    }
+    let w = word_at(bytes, at);
+    step_bits(state, table, used, n, w >> (64 - n))
+}
+
+// A run of n bits: its words, then its odd bits.
+pub fn feed_run(
+    state: Register,
+    table: &[u64],
+    used: usize,
+    bytes: &[u8],
+    at: usize,
+    n: usize,
+) -> Register
+    requires { ⌜ (Rests used (now table)) × (register (state .words) < 2 ^ (64 * used)) × (at + n < 18446744073709551616) ⌝ }
+    ensures { λ r. ⌜ register (r .words)
+        ≡ parityFrom (64 * used) (divisorOf used (now (table .entry))) (register (state .words)) (run (bitOf (now (bytes .entry))) at n) ⌝ }
+{
+    let long = n / 64;
+    let most = feed_words_fixed(state, table, used, bytes, at, long);
+    feed_bits(most, table, used, bytes, at + 64 * long, n % 64)
+}

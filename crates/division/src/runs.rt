@@ -1,0 +1,78 @@
+// Remainders of runs of bits by the generator of a level, from the table of that level.
+ghost use mathlib.Core.Path.{_≡_};
+ghost use mathlib.Core.Bool.{false};
+ghost use mathlib.Core.List.{_++_};
+ghost use Prim.Native.Nat.{_+_, _*_, _^_, _<_};
+ghost use lib.ListN.{replicate};
+ghost use Rattle.bits.specs.Bits.{bitOf, run};
+ghost use Rattle.field.specs.Field.{degree};
+ghost use Rattle.code.specs.Generator.{generator, remainder};
+ghost use Rattle.code.specs.Register.{register};
+ghost use Rattle.remainder.specs.Parity.{parityFrom};
+ghost use Rattle.division_table.specs.Table.{Table};
+use crate::feed::feed_run;
+use division_table::row_words;
+use field::Field;
+use remainder::Register;
+use remainder::add::added;
+use remainder::coefficients::parity_bits;
+use remainder::coefficients::zero;
+use remainder::digits::number_at;
+use remainder::shift::lowered;
+use remainder::shift::raised;
+
+// The parity of n more bits of a message, from the parity of those before on.
+pub fn parity_more(
+    f: Field,
+    t: usize,
+    table: &[u64],
+    state: Register,
+    bytes: &[u8],
+    at: usize,
+    n: usize,
+) -> Register
+    requires { ⌜ (Table f t (now table)) × (0 < t) × (register (state .words) < 2 ^ (degree f * t)) × (at + n < 18446744073709551616) ⌝ }
+    ensures { λ r. ⌜ register (r .words)
+        ≡ parityFrom (degree f * t) (generator f t) (register (state .words)) (run (bitOf (now (bytes .entry))) at n) ⌝ }
+{
+    let d = parity_bits(f, t);
+    let used = row_words(d);
+    let gap = 64 * used - d;
+    let before = raised(state, gap);
+    let after = feed_run(before, table, used, bytes, at, n);
+    lowered(after, gap)
+}
+
+// The remainder of the n bits of a byte slice from position `at` on times x^(mt), whose digits are the parity of a message.
+pub fn parity_of(f: Field, t: usize, table: &[u64], bytes: &[u8], at: usize, n: usize) -> Register
+    requires { ⌜ (Table f t (now table)) × (at + n < 18446744073709551616) ⌝ }
+    ensures { λ r. ⌜ register (r .words) ≡ remainder f t (run (bitOf (now (bytes .entry))) at n ++ replicate (degree f * t) false) ⌝ }
+{
+    let start = zero();
+    if t == 0 {
+        return start;
+    }
+    parity_more(f, t, table, start, bytes, at, n)
+}
+
+// The remainder of the same bits. The last mt of them are added to the parity of those before.
+pub fn remainder_of(
+    f: Field,
+    t: usize,
+    table: &[u64],
+    bytes: &[u8],
+    at: usize,
+    n: usize,
+) -> Register
+    requires { ⌜ (Table f t (now table)) × (at + n < 18446744073709551616) ⌝ }
+    ensures { λ r. ⌜ register (r .words) ≡ remainder f t (run (bitOf (now (bytes .entry))) at n) ⌝ }
+{
+    let d = parity_bits(f, t);
+    if n < d {
+        return number_at(bytes, at, n);
+    }
+    let message = n - d;
+    let parity = parity_of(f, t, table, bytes, at, message);
+    let last = number_at(bytes, at + message, d);
+    added(last, parity)
+}

@@ -1,0 +1,17 @@
+use mathlib.Core.Path.{refl}
+use native.Mathlib.Omega.{arith}
+use borrow.Author.Tests.{le-leb, lt-leb}
+use Rattle.division_table.specs.Table.{width}
+use Rattle.division_table.proofs.row_words.Statement.{statement}
+use Rattle.division_table.proofs.row_words.Tie as tie
+
+returns : tie.Need-returns
+unfolding width
+returns c = rw (le-leb (c .before .args .degree) 256 (omega arith)) refl
+
+returns-2 : tie.Need-returns-2
+unfolding width
+returns-2 c = rw (lt-leb (c .before .args .degree) 256 (omega arith)) refl
+
+pub row-words-spec : {M : Type 1} → statement M
+row-words-spec = tie.close (tie.spec returns returns-2)

@@ -1,0 +1,2 @@
+-- The table by which messages are divided.
+pub mod Table

@@ -1,0 +1,51 @@
+// The table by which a message is divided 64 coefficients at a time (document 01, "The code"; document 02, E3).
+//
+//   make_table    the table of the generator of a level
+//   row_words     how many words of 64 bits its rows have
+//
+// A number of 64 binary digits is cut into 13 digits of five, the last of four, and the table has a row for each value of each of them: the
+// remainder of the number that has that digit and zeros elsewhere, moved up to the degree. The remainder of the number is the sum of 13
+// rows, none of which waits for another. The generator is moved up to fill four or nine words: no place in a word then depends on the level.
+//
+//   row     rows of words in a slice: cleared, doubled, added
+//   fill    the rows of the powers of 2 by doubling, the others as sums
+//
+// What a table is stands in specs/Table.antt; proofs/ has the laws: Rows (rows of words), Filling (the table while it is made), Level (the
+// table of a level).
+mod fill;
+mod row;
+
+ghost use mathlib.Core.Path.{_≡_};
+ghost use Prim.Native.Nat.{_%_, _≤_};
+ghost use lib.ListN.{length};
+ghost use Rattle.division_table.specs.Table.{width, Table};
+use code::generators::generator_row;
+use field::Field;
+use fill::fill_words;
+use remainder::Register;
+use remainder::coefficients::parity_bits;
+use remainder::shift::raised;
+
+// How many words a row of the table has.
+pub fn row_words(degree: usize) -> usize
+    ensures { λ r. ⌜ r ≡ width degree ⌝ }
+{
+    if degree <= 256 { 4 } else { 9 }
+}
+
+// Makes the table of the generator of the level t. At t = 0 there is nothing to divide by, and none is made.
+pub fn make_table(f: Field, t: usize, table: &mut [u64])
+    requires { ⌜ (t % 2 ≡ 0) × (t ≤ 40) × (3600 ≤ length (now table)) ⌝ }
+    ensures { λ r. ⌜ Table f t (now (table .exit)) ⌝ }
+{
+    if t == 0 {
+        return;
+    }
+    let degree = parity_bits(f, t);
+    let used = row_words(degree);
+    let words = generator_row(f, t / 2);
+    let row = Register { words: words };
+    let moved = raised(row, 64 * used - degree);
+    let divisor = moved.words;
+    fill_words(table, divisor, used);
+}

@@ -1,0 +1,43 @@
+// The running calls one after the other: what is handed in comes back. Both call nothing but the public calls.
+//
+//   export_import     exports a remainder, and imports the fragments
+//   import_export     imports fragments, and exports the remainder
+use crate::FragmentsAnswer;
+use crate::export_fragments;
+use crate::import_fragments;
+ghost use mathlib.Core.Path.{_≡_};
+ghost use lib.ListN.{length};
+ghost use Rattle.fragments.specs.Calls.{ended};
+ghost use Rattle.fragments.specs.RoundTrip.{remainderBack, fragmentsBack};
+
+// Exports a remainder, and imports the fragments into `back`.
+pub fn export_import(
+    level_field: u64,
+    remainder: &[u8],
+    fragments: &mut [u32],
+    back: &mut [u8],
+) -> FragmentsAnswer
+    ensures { λ r. ⌜ ended r (now (back .exit))
+        ≡ remainderBack «level_field» (now (remainder .entry)) (length (now (fragments .entry))) (now (back .entry)) ⌝ }
+{
+    match export_fragments(level_field, remainder, fragments) {
+        FragmentsAnswer::Done => import_fragments(level_field, fragments, back),
+        FragmentsAnswer::Refused(refusal) => FragmentsAnswer::Refused(refusal),
+    }
+}
+
+// Imports fragments, and exports the remainder into `back`.
+pub fn import_export(
+    level_field: u64,
+    fragments: &[u32],
+    remainder: &mut [u8],
+    back: &mut [u32],
+) -> FragmentsAnswer
+    ensures { λ r. ⌜ ended r (now (back .exit))
+        ≡ fragmentsBack «level_field» (now (fragments .entry)) (length (now (remainder .entry))) (now (back .entry)) ⌝ }
+{
+    match import_fragments(level_field, fragments, remainder) {
+        FragmentsAnswer::Done => export_fragments(level_field, remainder, back),
+        FragmentsAnswer::Refused(refusal) => FragmentsAnswer::Refused(refusal),
+    }
+}

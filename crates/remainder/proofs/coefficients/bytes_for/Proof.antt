@@ -1,0 +1,14 @@
+use Rattle.remainder.specs.Remainder.{bytesFor}
+use borrow.Author.Needs.{needs}
+use Rattle.remainder.proofs.coefficients.bytes_for.Statement.{statement}
+use Rattle.remainder.proofs.coefficients.bytes_for.Tie as tie
+
+add-result : tie.Need-add-result
+add-result c = search needs
+
+returns : tie.Need-returns
+unfolding bytesFor
+returns c = search needs
+
+pub bytes-for-spec : {M : Type 1} → statement M
+bytes-for-spec = tie.close (tie.spec add-result returns)
