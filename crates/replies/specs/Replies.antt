@@ -2,10 +2,10 @@
 --
 -- number r             the number of a refusal; 0, done, is none of them
 -- block r              the block that goes with it: 0 except in reply 9
--- verdictNumber v      the reply of a verdict: 0 where all rules are kept
+-- verdictNumber v      the reply of a verdict: 0 where all rules are kept; verdictBlock v: the block beside it
 -- Rule                 one reply of a call: the refusal, and whether it applies
 -- verdict rules        the verdict by a list of rules in the order in which they are looked at: the first that applies decides
--- reply rules          its number
+-- reply rules          its number; replyBlock rules: the block beside it
 -- unless ok reply rest     the same, a rule at a time: the reply, unless ok; then the rest decides
 use mathlib.Core.Bool.{Bool, cond}
 use mathlib.Core.List.{List, [], _∷_}
@@ -43,6 +43,10 @@ unfoldable pub verdictNumber : Verdict → ℕ
 verdictNumber Passed = 0
 verdictNumber (Refused r) = number r
 
+unfoldable pub verdictBlock : Verdict → ℕ
+verdictBlock Passed = 0
+verdictBlock (Refused r) = block r
+
 pub record Rule : Type 0 where
   pub applies : Bool
   pub why : Refusal
@@ -57,6 +61,9 @@ verdict (r ∷ rs) = cond (r .applies) (Refused (r .why)) (verdict rs)
 
 unfoldable pub reply : List Rule → ℕ
 reply rules = verdictNumber (verdict rules)
+
+unfoldable pub replyBlock : List Rule → ℕ
+replyBlock rules = verdictBlock (verdict rules)
 
 abbrev pub unless : Bool → ℕ → ℕ → ℕ
 unless ok reply rest = cond ok rest reply

@@ -1,0 +1,2 @@
+-- The laws of lists of rules: when a reply is given.
+pub mod Given
