@@ -6,3 +6,4 @@ pub mod Accepting
 pub mod Placing
 pub mod Inverse
 pub mod Cases
+pub mod ReplyRules

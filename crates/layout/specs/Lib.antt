@@ -4,3 +4,4 @@ pub mod Plan
 pub mod Acceptance
 pub mod Bits
 pub mod Answers
+pub mod ReplyRules

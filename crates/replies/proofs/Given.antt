@@ -7,7 +7,8 @@
 -- reply-none, none-reply                0 exactly if none applies
 -- exactly                               so a call that answers by its list of rules answers exactly then
 -- append-kept, append-refused           two lists one after the other: the second decides where the first is kept
--- smallest                              in a list whose numbers never fall the smallest number of those that apply wins
+-- follows-done, follows-next, follows-here     what the rules give, one after the other
+-- smallest, smallest-after              in a list whose numbers never fall, the first left out or not, the smallest number of those that apply wins
 use mathlib.Core.Path.{_≡_, refl, sym, ap, _∙_, subst}
 use mathlib.Core.Bool.{Bool, true, false, cond, true≢false}
 use mathlib.Core.List.{List, [], _∷_, _++_}
@@ -20,7 +21,7 @@ use Rattle.replies.specs.declared.Refusal.the-variants as refusal
 use Rattle.replies.specs.declared.Verdict.{Verdict}
 use Rattle.replies.specs.declared.Verdict.the-variants.{Passed, Refused}
 use Rattle.replies.specs.Replies.{number, block, verdictNumber, verdictBlock, Rule, rule, verdict, reply, replyBlock}
-use Rattle.replies.specs.Given.{None, end, next, First, Given, Exactly, atMost, ascending}
+use Rattle.replies.specs.Given.{None, end, next, Follows, First, Given, Exactly, atMost, ascending}
 
 -- ---- refusals
 
@@ -150,14 +151,29 @@ module _ (rules : List Rule) where
       go (Refused r) e = record { why = r; first = verdict-first r rules e; reply = rw e; beside = rw e }
 
   -- A call that answers by its rules answers exactly then.
-  pub exactly : {n b : ℕ} → n ≡ reply rules → b ≡ replyBlock rules → Exactly rules n b
+  pub exactly : {n b : ℕ} → Follows rules n b → Exactly rules n b
   unfolding reply replyBlock verdictNumber verdictBlock
-  exactly e f = rw (e, f) (record {
+  exactly f = rw (f .number, f .beside) (record {
     done = λ h. rw (none-verdict rules h) (refl, refl);
     none = reply-none;
     when = λ why h. rw (first-verdict why rules h) (refl, refl);
     only = reply-given;
   })
+
+-- ---- a list rule by rule
+
+pub follows-done : Follows [] 0 0
+unfolding reply replyBlock verdict verdictNumber verdictBlock
+follows-done = record { number = refl; beside = refl }
+
+module _ {rs : List Rule} where
+  pub follows-next : {n b : ℕ} (r : Rule) → r .applies ≡ false → Follows rs n b → Follows (r ∷ rs) n b
+  unfolding reply replyBlock
+  follows-next r e f = let k = verdict-kept r rs e in record { number = rw k (f .number); beside = rw k (f .beside) }
+
+  pub follows-here : (r : Rule) → r .applies ≡ true → Follows (r ∷ rs) (number (r .why)) (block (r .why))
+  unfolding reply replyBlock verdictNumber verdictBlock
+  follows-here r e = let k = verdict-applies r rs e in record { number = rw k; beside = rw k }
 
 -- ---- the smallest number
 
@@ -196,3 +212,9 @@ module _ (after : List Rule) (why : Refusal) where
 pub smallest : (rules : List Rule) → ascending rules ≡ true → (before after : List Rule) (why : Refusal)
     → rules ≡ before ++ (rule true why ∷ after) → reply rules ≤ number why
 smallest rules up before after why e = rw e (smallest-in after why before (rw e at up))
+
+-- The same after one rule that is looked at first and does not apply.
+pub smallest-after : (first : Rule) (rules : List Rule) → ascending rules ≡ true → first .applies ≡ false
+    → (before after : List Rule) (why : Refusal) → rules ≡ before ++ (rule true why ∷ after) → reply (first ∷ rules) ≤ number why
+unfolding reply
+smallest-after first rules up kept before after why e = rw (verdict-kept first rules kept) (smallest rules up before after why e)

@@ -1,6 +1,7 @@
 -- When a reply is given (document 01, "Replies": "Each is given exactly then; where several apply the smallest number wins").
 -- The rules of a call stand in the order in which they are looked at.
 --
+-- Follows rules n b       n is the reply that the rules give, and b the block beside it
 -- None rules              no rule of the list applies
 -- First rules why         a rule with the refusal `why` applies, and none before it does
 -- Given rules n b         reply n with block b: the number and the block of the first refusal that applies
@@ -12,7 +13,11 @@ use mathlib.Core.List.{List, [], _∷_, _++_}
 use Prim.Native.Nat.{ℕ, _<_}
 use lib.Dec.{leb}
 use Rattle.replies.specs.declared.Refusal.{Refusal}
-use Rattle.replies.specs.Replies.{number, block, Rule, rule}
+use Rattle.replies.specs.Replies.{number, block, Rule, rule, reply, replyBlock}
+
+pub record Follows (rules : List Rule) (n b : ℕ) : Type 0 where
+  pub number : n ≡ reply rules
+  pub beside : b ≡ replyBlock rules
 
 pub data None : List Rule → Type 0 where
   end : None []

@@ -3,13 +3,15 @@
 -- number r             the number of a refusal; 0, done, is none of them
 -- block r              the block that goes with it: 0 except in reply 9
 -- verdictNumber v      the reply of a verdict: 0 where all rules are kept; verdictBlock v: the block beside it
+-- unequal a b          two numbers differ
 -- Rule                 one reply of a call: the refusal, and whether it applies
 -- verdict rules        the verdict by a list of rules in the order in which they are looked at: the first that applies decides
 -- reply rules          its number; replyBlock rules: the block beside it
 -- unless ok reply rest     the same, a rule at a time: the reply, unless ok; then the rest decides
-use mathlib.Core.Bool.{Bool, cond}
+use mathlib.Core.Bool.{Bool, true, false, cond}
 use mathlib.Core.List.{List, [], _∷_}
 use Prim.Native.Nat.{ℕ}
+use lib.Dec.{eqb}
 use Rattle.replies.specs.declared.Refusal.{Refusal}
 use Rattle.replies.specs.declared.Refusal.the-variants as refusal
 use Rattle.replies.specs.declared.Verdict.{Verdict}
@@ -46,6 +48,10 @@ verdictNumber (Refused r) = number r
 unfoldable pub verdictBlock : Verdict → ℕ
 verdictBlock Passed = 0
 verdictBlock (Refused r) = block r
+
+-- What most rules ask of a length.
+unfoldable pub unequal : ℕ → ℕ → Bool
+unequal a b = cond (eqb a b) false true
 
 pub record Rule : Type 0 where
   pub applies : Bool

@@ -1,0 +1,248 @@
+-- Each call about a layout record replies as its list of rules says, so each reply is given exactly if its rule applies and none before it does.
+use mathlib.Core.Path.{_≡_, refl, sym, ap, _∙_}
+use mathlib.Core.Bool.{Bool, true, false, cond}
+use mathlib.Core.List.{List, [], _∷_, _++_}
+use Prim.Native.Nat.{ℕ, zero, suc, _*_}
+use native.Mathlib.Omega.{arith}
+use native.Mathlib.Decide.{decLt}
+use lib.ListN.{length, drop}
+use lib.Dec.{eqb, ltb, leb, eqb·suc-zero}
+use borrow.Author.Tests.{lt-ltb, le-ltb, le-leb, lt-leb}
+use Rattle.replies.specs.declared.Refusal as table
+use Rattle.replies.specs.declared.Refusal.the-variants as row
+use Rattle.replies.specs.declared.Refusal.the-variants.{OutOfRange}
+use Rattle.replies.specs.declared.Verdict.{Verdict}
+use Rattle.replies.specs.declared.Verdict.the-variants as verdict
+use Rattle.replies.specs.Replies as replies
+use Rattle.replies.specs.Replies.{number, block, verdictNumber, verdictBlock, unequal, rule, verdict, reply, replyBlock}
+use Rattle.replies.specs.Given.{None, Follows, Exactly, atMost, ascending}
+use Rattle.replies.proofs.Given.{follows-done, follows-next, follows-here, none-verdict, verdict-none, append-kept, append-refused, exactly}
+use Rattle.layout.specs.declared.Layout.{Layout}
+use Rattle.layout.specs.declared.Plan.{Plan}
+use Rattle.layout.specs.declared.Shape.{Shape}
+use Rattle.layout.specs.declared.BlockFields.{BlockFields}
+use Rattle.layout.specs.declared.Kind.{Kind}
+use Rattle.layout.specs.declared.Kind.the-variants.{First, Later}
+use Rattle.layout.specs.declared.Reason.{Reason}
+use Rattle.layout.specs.declared.Rule.{Rule}
+use Rattle.layout.specs.declared.Rule.the-variants.{Level, Message, Length, Room}
+use Rattle.layout.specs.declared.Finding.{Finding}
+use Rattle.layout.specs.declared.Finding.the-variants.{Kept, Broken}
+use Rattle.layout.specs.declared.Refusal.{Refusal}
+use Rattle.layout.specs.declared.Refusal.the-variants as refusal
+use Rattle.layout.specs.declared.Acceptance.{Acceptance}
+use Rattle.layout.specs.declared.Acceptance.the-variants.{Accepted, Refused}
+use Rattle.layout.specs.Record.{layoutOf}
+use Rattle.layout.specs.Plan.{planOf, coveredOf, covered, used}
+use Rattle.layout.specs.Acceptance.{test, levelRule, messageRule, lengthRule, roomRule, either, ofBlocks, findingOf, judged, acceptance, ruleNumber, refusalReply}
+use Rattle.layout.specs.Answers as numbers
+use Rattle.layout.specs.Answers.{acceptanceNumbers, bitNumbers, positionNumbers}
+use Rattle.layout.specs.declared.BitAnswer.the-variants as bit
+use Rattle.layout.specs.declared.PositionAnswer.the-variants as position
+use Rattle.layout.specs.Bits.{blockOf, exponentAt, located, bitIn, bitFor, bitAnswer, positionIn, positionFor, positionAnswer}
+use Rattle.layout.specs.ReplyRules.{tooLong, ofLater, fieldRules, layoutRules, bitRules, positionRules}
+
+unfoldable pub ruleRefusal : Rule → table.Refusal
+ruleRefusal Level = row.LevelTooHigh
+ruleRefusal Message = row.EmptyMessage
+ruleRefusal Length = row.BlockTooLong
+ruleRefusal Room = row.PageTooSmall
+
+unfoldable pub refusalOf : Refusal → table.Refusal
+refusalOf refusal.RecordLength = row.BufferLength
+refusalOf (refusal.Rule r) = ruleRefusal (r .rule)
+refusalOf refusal.Range = row.OutOfRange
+
+-- ---- findings
+
+-- What a finding is in the table.
+unfoldable found : Finding → Verdict
+found Kept = verdict.Passed
+found (Broken r) = verdict.Refused (ruleRefusal (r .rule))
+
+-- A list of rules says what was found.
+record Says (rules : List replies.Rule) (f : Finding) : Type 0 where
+  same : verdict rules ≡ found f
+
+says-test : (b : Bool) (r : Reason) → Says (rule b (ruleRefusal (r .rule)) ∷ []) (test b r)
+unfolding test found verdict
+says-test true r = record { same = refl }
+says-test false r = record { same = refl }
+
+says-either : {rs ss : List replies.Rule} (f : Finding) {g : Finding} → Says rs f → Says ss g → Says (rs ++ ss) (either f g)
+unfolding found either
+says-either {rs} {ss} Kept p q = record { same = append-kept rs ss (verdict-none rs (p .same)) ∙ q .same }
+says-either {rs} {ss} (Broken r) p q = record { same = append-refused rs ss (ruleRefusal (r .rule)) (p .same) }
+
+-- the rules of block 0 and of the later blocks
+says-blocks : (l : Layout) (a b : Bool) (r s : Reason) → r .rule ≡ s .rule
+    → Says (rule a (ruleRefusal (r .rule)) ∷ rule (ofLater l b) (ruleRefusal (r .rule)) ∷ []) (ofBlocks (l .nblocks) (test a r) (test b s))
+unfolding ofBlocks ofLater either test found verdict
+says-blocks l a b r s e = go (eqb (l .nblocks) 0) a b
+  where
+    go : (z a b : Bool) → Says (rule a (ruleRefusal (r .rule)) ∷ rule (cond z false b) (ruleRefusal (r .rule)) ∷ []) (cond z (test a r) (either (test a r) (test b s)))
+    go true true b = record { same = refl }
+    go true false b = record { same = refl }
+    go false true b = record { same = refl }
+    go false false true = record { same = rw e }
+    go false false false = record { same = refl }
+
+empty-test : (n : ℕ) → eqb n 0 ≡ ltb n 1
+empty-test zero = refl
+empty-test (suc n) = rw (eqb·suc-zero n, le-ltb (suc n) 1 (omega arith))
+
+says-layout : (l : Layout) → Says (fieldRules l (planOf l)) (findingOf l)
+unfolding fieldRules findingOf levelRule messageRule lengthRule roomRule tooLong ruleRefusal
+says-layout l = rw (empty-test (planOf l .first .message), empty-test (planOf l .later .message))
+    (says-either _ (says-blocks l (ltb 20 (l .first .ecc)) (ltb 20 (l .later .ecc)) _ _ refl)
+    (says-either _ (says-blocks l (ltb (planOf l .first .message) 1) (ltb (planOf l .later .message) 1) _ _ refl)
+    (says-either _ (says-blocks l (tooLong (planOf l .first)) (tooLong (planOf l .later)) _ _ refl)
+    (says-test _ _))))
+
+-- ---- the answer to a record
+
+refusal-number : (r : Refusal) → number (refusalOf r) ≡ refusalReply r
+unfolding refusalOf ruleRefusal number refusalReply ruleNumber
+refusal-number refusal.RecordLength = refl
+refusal-number (refusal.Rule r) = go (r .rule)
+  where
+    go : (x : Rule) → number (ruleRefusal x) ≡ ruleNumber x
+    go Level = refl
+    go Message = refl
+    go Length = refl
+    go Room = refl
+refusal-number refusal.Range = refl
+
+refusal-block : (r : Refusal) → block (refusalOf r) ≡ 0
+unfolding refusalOf ruleRefusal block
+refusal-block refusal.RecordLength = refl
+refusal-block (refusal.Rule r) = go (r .rule)
+  where
+    go : (x : Rule) → block (ruleRefusal x) ≡ 0
+    go Level = refl
+    go Message = refl
+    go Length = refl
+    go Room = refl
+refusal-block refusal.Range = refl
+
+-- How a call with this record goes on: by its further rules, or with the refusal of the record.
+pub data Accepting (rec : List ℕ) : Acceptance → Type 0 where
+  accepts : None (layoutRules rec) → Accepting rec (Accepted (layoutOf rec))
+  refuses : (r : Refusal) → verdict (layoutRules rec) ≡ verdict.Refused (refusalOf r) → Accepting rec (Refused r)
+
+record-right : (rec : List ℕ) → eqb (length rec) 8 ≡ true → verdict (layoutRules rec) ≡ found (findingOf (layoutOf rec))
+unfolding layoutRules unequal verdict
+record-right rec e = rw e (says-layout (layoutOf rec) .same)
+
+record-wrong : (rec : List ℕ) → eqb (length rec) 8 ≡ false → verdict (layoutRules rec) ≡ verdict.Refused row.BufferLength
+unfolding layoutRules unequal verdict
+record-wrong rec e = rw e
+
+pub accepting : (rec : List ℕ) → Accepting rec (acceptance rec)
+unfolding acceptance judged found refusalOf
+accepting rec = go (eqb (length rec) 8) refl (findingOf (layoutOf rec)) refl
+  where
+    go : (b : Bool) → eqb (length rec) 8 ≡ b → (f : Finding) → findingOf (layoutOf rec) ≡ f
+        → Accepting rec (cond b (judged (layoutOf rec) f) (Refused refusal.RecordLength))
+    go true e Kept g = accepts (verdict-none _ (record-right rec e ∙ ap found g))
+    go true e (Broken r) g = refuses (refusal.Rule r) (record-right rec e ∙ ap found g)
+    go false e f g = refuses refusal.RecordLength (record-wrong rec e)
+
+-- A refused record is what every call with it replies, whatever its further rules are.
+pub refused-follows : (rec : List ℕ) (r : Refusal) → verdict (layoutRules rec) ≡ verdict.Refused (refusalOf r) → (more : List replies.Rule)
+    → Follows (layoutRules rec ++ more) (refusalReply r) 0
+unfolding reply replyBlock verdictNumber verdictBlock
+refused-follows rec r e more = let k = append-refused (layoutRules rec) more (refusalOf r) e in
+    record { number = rw k (sym (refusal-number r)); beside = rw k (sym (refusal-block r)) }
+
+-- An accepted one leaves it to them.
+pub accepted-follows : (rec : List ℕ) → None (layoutRules rec) → (more : List replies.Rule) {n b : ℕ} → Follows more n b
+    → Follows (layoutRules rec ++ more) n b
+unfolding reply replyBlock
+accepted-follows rec none more f = let k = append-kept (layoutRules rec) more none in
+    record { number = rw k (f .number); beside = rw k (f .beside) }
+
+-- ---- the calls
+
+layout-answer : (rec : List ℕ) (a : Acceptance) → Accepting rec a → Follows (layoutRules rec) (acceptanceNumbers a .reply) (acceptanceNumbers a .block)
+unfolding acceptanceNumbers numbers.done numbers.refused reply replyBlock verdictNumber verdictBlock
+layout-answer rec a (accepts none) = let k = none-verdict (layoutRules rec) none in record { number = rw k; beside = rw k }
+layout-answer rec a (refuses r e) = record { number = rw e (sym (refusal-number r)); beside = rw e (sym (refusal-block r)) }
+
+pub layout-replies : (rec : List ℕ) → Follows (layoutRules rec) (acceptanceNumbers (acceptance rec) .reply) (acceptanceNumbers (acceptance rec) .block)
+layout-replies rec = layout-answer rec (acceptance rec) (accepting rec)
+
+pub layout-exactly : (rec : List ℕ) → Exactly (layoutRules rec) (acceptanceNumbers (acceptance rec) .reply) (acceptanceNumbers (acceptance rec) .block)
+layout-exactly rec = exactly (layoutRules rec) (layout-replies rec)
+
+-- Bits.
+
+module _ (q : Plan) where
+  located-done : (p : ℕ) → Follows [] (bitNumbers (located q p) .reply) (bitNumbers (located q p) .block)
+  unfolding located bitNumbers numbers.done
+  located-done p = go (ltb (blockOf q p) (q .blocks)) (exponentAt q (blockOf q p) p)
+    where
+      go : (c : Bool) (e : ℕ) → Follows [] (bitNumbers (cond c (bit.InBlock (blockOf q p) e) bit.Tail) .reply) (bitNumbers (cond c (bit.InBlock (blockOf q p) e) bit.Tail) .block)
+      go true e = follows-done
+      go false e = follows-done
+
+  bit-in : (p : ℕ) → Follows (rule (leb (8 * q .size) p) OutOfRange ∷ []) (bitNumbers (bitIn q p) .reply) (bitNumbers (bitIn q p) .block)
+  unfolding bitIn bitNumbers numbers.refused refusalReply number block
+  bit-in p = elim (decLt p (8 * q .size)) [
+    | yes h ↦ rw (lt-ltb p (8 * q .size) h) (follows-next _ (lt-leb (8 * q .size) p h) (located-done p))
+    | no h ↦ rw (le-ltb p (8 * q .size) (omega arith)) (follows-here _ (le-leb (8 * q .size) p (omega arith)))
+  ]
+
+  position-in : (b e : ℕ) → Follows (rule (leb (q .blocks) b) OutOfRange ∷ rule (leb (covered q b) e) OutOfRange ∷ [])
+      (positionNumbers (positionIn q b e) .reply) (positionNumbers (positionIn q b e) .block)
+  unfolding positionIn positionNumbers numbers.done numbers.refused refusalReply number block
+  position-in b e = elim (decLt b (q .blocks)) [
+    | no h ↦ rw (le-ltb b (q .blocks) (omega arith)) (follows-here _ (le-leb (q .blocks) b (omega arith)))
+    | yes h ↦ elim (decLt e (covered q b)) [
+      | no k ↦ rw (lt-ltb b (q .blocks) h, le-ltb e (covered q b) (omega arith))
+          (follows-next _ (lt-leb (q .blocks) b h) (follows-here _ (le-leb (covered q b) e (omega arith))))
+      | yes k ↦ rw (lt-ltb b (q .blocks) h, lt-ltb e (covered q b) k)
+          (follows-next _ (lt-leb (q .blocks) b h) (follows-next _ (lt-leb (covered q b) e k) follows-done))
+    ]
+  ]
+
+module _ (rec : List ℕ) (p : ℕ) where
+  bit-for : (a : Acceptance) → Accepting rec a → Follows (bitRules rec p) (bitNumbers (bitFor a p) .reply) (bitNumbers (bitFor a p) .block)
+  unfolding bitRules bitFor bitNumbers numbers.refused
+  bit-for a (accepts none) = accepted-follows rec none _ (bit-in (planOf (layoutOf rec)) p)
+  bit-for a (refuses r e) = refused-follows rec r e _
+
+  pub bit-replies : Follows (bitRules rec p) (bitNumbers (bitAnswer rec p) .reply) (bitNumbers (bitAnswer rec p) .block)
+  unfolding bitAnswer
+  bit-replies = bit-for (acceptance rec) (accepting rec)
+
+  pub bit-exactly : Exactly (bitRules rec p) (bitNumbers (bitAnswer rec p) .reply) (bitNumbers (bitAnswer rec p) .block)
+  bit-exactly = exactly (bitRules rec p) bit-replies
+
+module _ (rec : List ℕ) (b e : ℕ) where
+  position-for : (a : Acceptance) → Accepting rec a
+      → Follows (positionRules rec b e) (positionNumbers (positionFor a b e) .reply) (positionNumbers (positionFor a b e) .block)
+  unfolding positionRules positionFor positionNumbers numbers.refused
+  position-for a (accepts none) = accepted-follows rec none _ (position-in (planOf (layoutOf rec)) b e)
+  position-for a (refuses r h) = refused-follows rec r h _
+
+  pub position-replies : Follows (positionRules rec b e) (positionNumbers (positionAnswer rec b e) .reply) (positionNumbers (positionAnswer rec b e) .block)
+  unfolding positionAnswer
+  position-replies = position-for (acceptance rec) (accepting rec)
+
+  pub position-exactly : Exactly (positionRules rec b e) (positionNumbers (positionAnswer rec b e) .reply) (positionNumbers (positionAnswer rec b e) .block)
+  position-exactly = exactly (positionRules rec b e) position-replies
+
+-- After the record's length, which is looked at first, the numbers never fall: where several rules apply the smallest number wins (replies/Given `smallest`).
+module _ (rec : List ℕ) where
+  pub layout-ascending : ascending (drop 1 (layoutRules rec)) ≡ true
+  unfolding layoutRules fieldRules ascending atMost number
+  layout-ascending = refl
+
+  pub bit-ascending : (p : ℕ) → ascending (drop 1 (bitRules rec p)) ≡ true
+  unfolding bitRules layoutRules fieldRules ascending atMost number
+  bit-ascending p = refl
+
+  pub position-ascending : (b e : ℕ) → ascending (drop 1 (positionRules rec b e)) ≡ true
+  unfolding positionRules layoutRules fieldRules ascending atMost number
+  position-ascending b e = refl
