@@ -14,3 +14,4 @@ pub mod Claims
 pub mod Zeros
 pub mod Single
 pub mod Cases
+pub mod ReplyRules

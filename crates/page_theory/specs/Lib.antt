@@ -5,3 +5,4 @@ pub mod Claim
 pub mod Calls
 pub mod Damage
 pub mod Demands
+pub mod ReplyRules

@@ -1,0 +1,237 @@
+-- Each page call replies as its list of rules says, block number included, so each reply is given exactly if its rule applies and none before it
+-- does (document 01, "Replies"). `..-replies` says the first, `..-exactly` the second, `..-ascending` that after the record's length, which is
+-- looked at first, the numbers never fall: where several rules apply the smallest number wins (replies/Given `smallest-after`).
+use mathlib.Core.Path.{_≡_, refl, sym, ap, _∙_}
+use mathlib.Core.Bool.{Bool, true, false, cond}
+use mathlib.Core.List.{List, [], _∷_, _++_}
+use Prim.Native.Nat.{ℕ, zero, suc, _≤_}
+use native.Mathlib.Omega.{arith}
+use native.Mathlib.Decide.{decLt}
+use lib.ListN.{length, drop}
+use lib.Dec.{eqb, ltb, leb}
+use borrow.Author.Tests.{lt-ltb, le-ltb, le-leb, lt-leb}
+use Rattle.replies.specs.declared.Refusal.the-variants.{PageLength, BufferLength, OutOfRange, Uncorrectable, ClaimWrong}
+use Rattle.replies.specs.declared.Verdict.the-variants.{Passed, Refused}
+use Rattle.replies.specs.Replies.{number, block, verdictNumber, verdictBlock, unequal, Rule, rule, verdict, reply, replyBlock}
+use Rattle.replies.specs.Given as none
+use Rattle.replies.specs.Given.{None, Follows, Exactly, atMost, ascending}
+use Rattle.replies.proofs.Given.{follows-done, follows-next, follows-here, none-verdict, verdict-none, append-kept, append-refused, exactly}
+use Rattle.layout.specs.declared.Plan.{Plan}
+use Rattle.layout.specs.declared.Acceptance.{Acceptance}
+use Rattle.layout.specs.Record.{layoutOf}
+use Rattle.layout.specs.Plan.{planOf, field, level}
+use Rattle.layout.specs.Acceptance.{acceptance}
+use Rattle.layout.specs.ReplyRules.{fieldRules, layoutRules}
+use Rattle.layout.proofs.ReplyRules.{Accepting, accepts, refuses, accepting, accepted-follows, refused-follows}
+use Rattle.code.specs.Word.{Word}
+use Rattle.code.specs.Outcome.{Outcome, good, ruined}
+use Rattle.page_theory.specs.Page.{pageOf, blockWord}
+use Rattle.page_theory.specs.Reading.{Reading, done, refused, more, readingOf, reading, outcome}
+use Rattle.page_theory.specs.Claim.{Right, right?}
+use Rattle.page_theory.specs.Calls as call
+use Rattle.page_theory.specs.Calls.{Written, writeEnded, writeReply, writeFor, writeOf}
+use Rattle.page_theory.specs.Calls.{Read, readEnded, readReply, readBy, readFor, readOf}
+use Rattle.page_theory.specs.Calls.{blockReply, Judged, judgeEnded, judgeBy, judgeFor, judgeOf}
+use Rattle.page_theory.specs.Calls.{Claimed, claimEnded, claimBy, claimFor, claimOf}
+use Rattle.page_theory.specs.ReplyRules as rules
+use Rattle.page_theory.specs.ReplyRules.{isRuined, isWrong, pageRule, ruinedRules, writeRules, readRules, judgeRules, claimRules}
+
+-- ---- writing
+
+module _ (m d page : List ℕ) where
+  write-in : (q : Plan) → Follows (rules.writeIn q m d page) (call.writeIn q m d page .reply) (call.writeIn q m d page .block)
+  unfolding rules.writeIn call.writeIn writeReply unequal reply replyBlock verdict verdictNumber verdictBlock number block
+  write-in q = go (eqb (length page) (q .size)) (eqb (length m) (q .metadata)) (eqb (length d) (q .«data»))
+    where
+      go : (a b c : Bool) → Follows
+          (rule (cond a false true) PageLength ∷ rule (cond b false true) BufferLength ∷ rule (cond c false true) BufferLength ∷ [])
+          (cond (eqb (cond a (cond b (cond c 0 6) 6) 5) 0) (writeEnded 0 0 (pageOf q (m ++ d))) (writeEnded (cond a (cond b (cond c 0 6) 6) 5) 0 page) .reply)
+          (cond (eqb (cond a (cond b (cond c 0 6) 6) 5) 0) (writeEnded 0 0 (pageOf q (m ++ d))) (writeEnded (cond a (cond b (cond c 0 6) 6) 5) 0 page) .block)
+      go true true true = record { number = refl; beside = refl }
+      go true true false = record { number = refl; beside = refl }
+      go true false c = record { number = refl; beside = refl }
+      go false b c = record { number = refl; beside = refl }
+
+  module _ (rec : List ℕ) where
+    write-for : (a : Acceptance) → Accepting rec a → Follows (writeRules rec m d page) (writeFor a m d page .reply) (writeFor a m d page .block)
+    unfolding writeRules writeFor
+    write-for a (accepts none) = accepted-follows rec none _ (write-in (planOf (layoutOf rec)))
+    write-for a (refuses r e) = refused-follows rec r e _
+
+    pub write-replies : Follows (writeRules rec m d page) (writeOf rec m d page .reply) (writeOf rec m d page .block)
+    unfolding writeOf
+    write-replies = write-for (acceptance rec) (accepting rec)
+
+    pub write-exactly : Exactly (writeRules rec m d page) (writeOf rec m d page .reply) (writeOf rec m d page .block)
+    write-exactly = exactly (writeRules rec m d page) write-replies
+
+    pub write-ascending : ascending (drop 1 (writeRules rec m d page)) ≡ true
+    unfolding writeRules rules.writeIn layoutRules fieldRules ascending atMost number
+    write-ascending = refl
+
+-- ---- reading
+
+-- A reading of the first n blocks, and what the rules about them say.
+data Reads (q : Plan) (page : List ℕ) (n : ℕ) : Reading → Type 0 where
+  whole : (w : Word) (counts : List ℕ) → None (ruinedRules q page n) → Reads q page n (done w counts)
+  named : (b : ℕ) → verdict (ruinedRules q page n) ≡ Refused (Uncorrectable b) → Reads q page n (refused b)
+
+module _ (q : Plan) (page : List ℕ) where
+  reads-next : (n : ℕ) (r : Reading) → Reads q page n r → (o : Outcome) → outcome q page n ≡ o → Reads q page (suc n) (more n r o)
+  unfolding more ruinedRules verdict isRuined
+  reads-next n r (whole w counts none) (good m k) e = whole _ _ (verdict-none _ (append-kept (ruinedRules q page n) _ none ∙ rw e))
+  reads-next n r (whole w counts none) ruined e = named n (append-kept (ruinedRules q page n) _ none ∙ rw e)
+  reads-next n r (named b h) o e = named b (append-refused (ruinedRules q page n) _ (Uncorrectable b) h)
+
+  reads-first : (n : ℕ) → Reads q page n (readingOf q page n)
+  unfolding readingOf ruinedRules
+  reads-first zero = whole [] [] none.end
+  reads-first (suc n) = reads-next n (readingOf q page n) (reads-first n) (outcome q page n) refl
+
+  module _ (m d c : List ℕ) where
+    ruined-follows : (r : Reading) → Reads q page (q .blocks) r → Follows (ruinedRules q page (q .blocks)) (readBy q r m d c .reply) (readBy q r m d c .block)
+    unfolding readBy reply replyBlock verdictNumber verdictBlock number block
+    ruined-follows r (whole w counts none) = let k = none-verdict (ruinedRules q page (q .blocks)) none in record { number = rw k; beside = rw k }
+    ruined-follows r (named b h) = record { number = rw h; beside = rw h }
+
+    read-in : Follows (rules.readIn q page m d c) (call.readIn q page m d c .reply) (call.readIn q page m d c .block)
+    unfolding rules.readIn call.readIn readReply unequal reply replyBlock verdict verdictNumber verdictBlock number block
+    read-in = go (eqb (length page) (q .size)) (eqb (length m) (q .metadata)) (eqb (length d) (q .«data»)) (eqb (length c) (q .blocks))
+      where
+        replied : (x y z w : Bool) → Read
+        replied x y z w =
+            cond (eqb (cond x (cond y (cond z (cond w 0 6) 6) 6) 5) 0) (readBy q (reading q page) m d c)
+            (readEnded (cond x (cond y (cond z (cond w 0 6) 6) 6) 5) 0 m d c)
+
+        go : (x y z w : Bool) → Follows
+            (rule (cond x false true) PageLength
+            ∷ rule (cond y false true) BufferLength
+            ∷ rule (cond z false true) BufferLength
+            ∷ rule (cond w false true) BufferLength
+            ∷ ruinedRules q page (q .blocks))
+            (replied x y z w .reply) (replied x y z w .block)
+        go true true true true = follows-next _ refl (follows-next _ refl (follows-next _ refl (follows-next _ refl
+            (ruined-follows (reading q page) (unfold reading in reads-first (q .blocks))))))
+        go true true true false = record { number = refl; beside = refl }
+        go true true false w = record { number = refl; beside = refl }
+        go true false z w = record { number = refl; beside = refl }
+        go false y z w = record { number = refl; beside = refl }
+
+module _ (rec page m d c : List ℕ) where
+  read-for : (a : Acceptance) → Accepting rec a → Follows (readRules rec page m d c) (readFor a page m d c .reply) (readFor a page m d c .block)
+  unfolding readRules readFor
+  read-for a (accepts none) = accepted-follows rec none _ (read-in (planOf (layoutOf rec)) page m d c)
+  read-for a (refuses r e) = refused-follows rec r e _
+
+  pub read-replies : Follows (readRules rec page m d c) (readOf rec page m d c .reply) (readOf rec page m d c .block)
+  unfolding readOf
+  read-replies = read-for (acceptance rec) (accepting rec)
+
+  pub read-exactly : Exactly (readRules rec page m d c) (readOf rec page m d c .reply) (readOf rec page m d c .block)
+  read-exactly = exactly (readRules rec page m d c) read-replies
+
+-- The rules about the blocks all have the number 9.
+data Nines : List Rule → Type 0 where
+  end : Nines []
+  next : {r : Rule} {rs : List Rule} → number (r .why) ≡ 9 → Nines rs → Nines (r ∷ rs)
+
+nines-append : {rs ss : List Rule} → Nines rs → Nines ss → Nines (rs ++ ss)
+nines-append end k = k
+nines-append (next e h) k = next e (nines-append h k)
+
+nines-least : (n : ℕ) {rs : List Rule} → n ≤ 9 → Nines rs → atMost n rs ≡ true
+unfolding atMost
+nines-least n l end = refl
+nines-least n l (next {r} e h) = le-leb n (number (r .why)) (omega arith)
+
+nines-ascending : {rs : List Rule} → Nines rs → ascending rs ≡ true
+unfolding ascending
+nines-ascending end = refl
+nines-ascending (next {r} {rs} e h) = rw (nines-least (number (r .why)) (omega arith) h) (nines-ascending h)
+
+module _ (q : Plan) (page : List ℕ) where
+  ruined-nines : (n : ℕ) → Nines (ruinedRules q page n)
+  unfolding ruinedRules number
+  ruined-nines zero = end
+  ruined-nines (suc n) = nines-append (ruined-nines n) (next refl end)
+
+pub read-ascending : (rec page m d c : List ℕ) → ascending (drop 1 (readRules rec page m d c)) ≡ true
+unfolding readRules rules.readIn layoutRules fieldRules ascending atMost number
+read-ascending rec page m d c =
+    let h = ruined-nines (planOf (layoutOf rec)) page (planOf (layoutOf rec) .blocks) in
+    rw (nines-least 6 (omega arith) h, nines-ascending h)
+
+-- ---- judging one block, and claims
+
+leb-not : (a b : ℕ) → leb a b ≡ cond (ltb b a) false true
+leb-not a b = elim (decLt b a) [
+  | yes h ↦ rw (lt-ltb b a h, lt-leb a b h)
+  | no h ↦ rw (le-ltb b a (omega arith), le-leb a b (omega arith))
+]
+
+module _ (q : Plan) (page : List ℕ) (b : ℕ) where
+  judge-in : Follows (rules.judgeIn q page b) (call.judgeIn q page b .reply) (call.judgeIn q page b .block)
+  unfolding rules.judgeIn call.judgeIn blockReply judgeBy unequal isRuined reply replyBlock verdict verdictNumber verdictBlock number block
+  judge-in = rw (leb-not (q .blocks) b) (go (eqb (length page) (q .size)) (ltb b (q .blocks)) (outcome q page b))
+    where
+      replied : (x y : Bool) (o : Outcome) → Judged
+      replied x y o = cond (eqb (cond x (cond y 0 7) 5) 0) (judgeBy b o) (judgeEnded (cond x (cond y 0 7) 5) 0 0)
+
+      go : (x y : Bool) (o : Outcome) → Follows
+          (rule (cond x false true) PageLength ∷ rule (cond y false true) OutOfRange ∷ rule (isRuined o) (Uncorrectable b) ∷ [])
+          (replied x y o .reply) (replied x y o .block)
+      go true true (good m n) = record { number = refl; beside = refl }
+      go true true ruined = record { number = refl; beside = refl }
+      go true false o = record { number = refl; beside = refl }
+      go false y o = record { number = refl; beside = refl }
+
+  module _ (claims : List ℕ) where
+    claim-in : Follows (rules.claimIn q page b claims) (call.claimIn q page b claims .reply) (call.claimIn q page b claims .block)
+    unfolding rules.claimIn call.claimIn blockReply claimBy unequal isWrong reply replyBlock verdict verdictNumber verdictBlock number block
+    claim-in = rw (leb-not (q .blocks) b)
+        (go (eqb (length page) (q .size)) (ltb b (q .blocks)) (right? (field q b) (level q b) (blockWord q page b) claims))
+      where
+        replied : (x y : Bool) → Dec (Right (field q b) (level q b) (blockWord q page b) claims) → Claimed
+        replied x y o = cond (eqb (cond x (cond y 0 7) 5) 0) (claimBy o) (claimEnded (cond x (cond y 0 7) 5))
+
+        go : (x y : Bool) (o : Dec (Right (field q b) (level q b) (blockWord q page b) claims)) → Follows
+            (rule (cond x false true) PageLength ∷ rule (cond y false true) OutOfRange ∷ rule (isWrong o) ClaimWrong ∷ [])
+            (replied x y o .reply) (replied x y o .block)
+        go true true (yes h) = record { number = refl; beside = refl }
+        go true true (no h) = record { number = refl; beside = refl }
+        go true false o = record { number = refl; beside = refl }
+        go false y o = record { number = refl; beside = refl }
+
+module _ (rec page : List ℕ) (b : ℕ) where
+  judge-for : (a : Acceptance) → Accepting rec a → Follows (judgeRules rec page b) (judgeFor a page b .reply) (judgeFor a page b .block)
+  unfolding judgeRules judgeFor
+  judge-for a (accepts none) = accepted-follows rec none _ (judge-in (planOf (layoutOf rec)) page b)
+  judge-for a (refuses r e) = refused-follows rec r e _
+
+  pub judge-replies : Follows (judgeRules rec page b) (judgeOf rec page b .reply) (judgeOf rec page b .block)
+  unfolding judgeOf
+  judge-replies = judge-for (acceptance rec) (accepting rec)
+
+  pub judge-exactly : Exactly (judgeRules rec page b) (judgeOf rec page b .reply) (judgeOf rec page b .block)
+  judge-exactly = exactly (judgeRules rec page b) judge-replies
+
+  pub judge-ascending : ascending (drop 1 (judgeRules rec page b)) ≡ true
+  unfolding judgeRules rules.judgeIn layoutRules fieldRules ascending atMost number
+  judge-ascending = refl
+
+  module _ (claims : List ℕ) where
+    claim-for : (a : Acceptance) → Accepting rec a → Follows (claimRules rec page b claims) (claimFor a page b claims .reply) (claimFor a page b claims .block)
+    unfolding claimRules claimFor
+    claim-for a (accepts none) = accepted-follows rec none _ (claim-in (planOf (layoutOf rec)) page b claims)
+    claim-for a (refuses r e) = refused-follows rec r e _
+
+    pub claim-replies : Follows (claimRules rec page b claims) (claimOf rec page b claims .reply) (claimOf rec page b claims .block)
+    unfolding claimOf
+    claim-replies = claim-for (acceptance rec) (accepting rec)
+
+    pub claim-exactly : Exactly (claimRules rec page b claims) (claimOf rec page b claims .reply) (claimOf rec page b claims .block)
+    claim-exactly = exactly (claimRules rec page b claims) claim-replies
+
+    pub claim-ascending : ascending (drop 1 (claimRules rec page b claims)) ≡ true
+    unfolding claimRules rules.claimIn layoutRules fieldRules ascending atMost number
+    claim-ascending = refl

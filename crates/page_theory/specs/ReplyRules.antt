@@ -1,0 +1,80 @@
+-- The replies of the four page calls, each as one list of rules in the order in which they are looked at (document 01, "Replies"). The first that
+-- applies is given (replies/Given). What a layout record is refused for comes first (layout/ReplyRules `layoutRules`); q is the plan of the record.
+--
+-- isRuined o               an outcome is that the block has no codeword within t flips
+-- isWrong d                what is decided does not hold
+-- pageRule q page          5: the lent page
+-- ruinedRules q page n     9 for each of the first n blocks, the lowest first
+-- writeRules, readRules, judgeRules, claimRules     the calls
+use mathlib.Core.Bool.{Bool, true, false}
+use mathlib.Core.List.{List, [], _∷_, _++_}
+use Prim.Native.Nat.{ℕ, zero, suc}
+use lib.ListN.{length}
+use lib.Dec.{leb}
+use Rattle.replies.specs.declared.Refusal.the-variants.{PageLength, BufferLength, OutOfRange, Uncorrectable, ClaimWrong}
+use Rattle.replies.specs.Replies.{unequal, Rule, rule}
+use Rattle.layout.specs.declared.Plan.{Plan}
+use Rattle.layout.specs.Record.{layoutOf}
+use Rattle.layout.specs.Plan.{planOf, field, level}
+use Rattle.layout.specs.ReplyRules.{layoutRules}
+use Rattle.code.specs.Outcome.{Outcome, good, ruined}
+use Rattle.page_theory.specs.Page.{blockWord}
+use Rattle.page_theory.specs.Reading.{outcome}
+use Rattle.page_theory.specs.Claim.{right?}
+
+unfoldable pub isRuined : Outcome → Bool
+isRuined (good m n) = false
+isRuined ruined = true
+
+unfoldable pub isWrong : {P : Type 0} → Dec P → Bool
+isWrong (yes p) = false
+isWrong (no n) = true
+
+abbrev pub pageRule : Plan → List ℕ → Rule
+pageRule q page = rule (unequal (length page) (q .size)) PageLength
+
+-- The lowest ruined block is named.
+unfoldable pub ruinedRules : Plan → List ℕ → ℕ → List Rule
+ruinedRules q page zero = []
+ruinedRules q page (suc b) = ruinedRules q page b ++ (rule (isRuined (outcome q page b)) (Uncorrectable b) ∷ [])
+
+unfoldable pub writeIn : Plan → List ℕ → List ℕ → List ℕ → List Rule
+writeIn q metadata «data» page =
+    pageRule q page
+    ∷ rule (unequal (length metadata) (q .metadata)) BufferLength
+    ∷ rule (unequal (length «data») (q .«data»)) BufferLength
+    ∷ []
+
+unfoldable pub writeRules : List ℕ → List ℕ → List ℕ → List ℕ → List Rule
+writeRules rec metadata «data» page = layoutRules rec ++ writeIn (planOf (layoutOf rec)) metadata «data» page
+
+unfoldable pub readIn : Plan → List ℕ → List ℕ → List ℕ → List ℕ → List Rule
+readIn q page metadata «data» counts =
+    pageRule q page
+    ∷ rule (unequal (length metadata) (q .metadata)) BufferLength
+    ∷ rule (unequal (length «data») (q .«data»)) BufferLength
+    ∷ rule (unequal (length counts) (q .blocks)) BufferLength
+    ∷ ruinedRules q page (q .blocks)
+
+unfoldable pub readRules : List ℕ → List ℕ → List ℕ → List ℕ → List ℕ → List Rule
+readRules rec page metadata «data» counts = layoutRules rec ++ readIn (planOf (layoutOf rec)) page metadata «data» counts
+
+unfoldable pub judgeIn : Plan → List ℕ → ℕ → List Rule
+judgeIn q page b =
+    pageRule q page
+    ∷ rule (leb (q .blocks) b) OutOfRange
+    ∷ rule (isRuined (outcome q page b)) (Uncorrectable b)
+    ∷ []
+
+unfoldable pub judgeRules : List ℕ → List ℕ → ℕ → List Rule
+judgeRules rec page b = layoutRules rec ++ judgeIn (planOf (layoutOf rec)) page b
+
+unfoldable pub claimIn : Plan → List ℕ → ℕ → List ℕ → List Rule
+claimIn q page b claims =
+    pageRule q page
+    ∷ rule (leb (q .blocks) b) OutOfRange
+    ∷ rule (isWrong (right? (field q b) (level q b) (blockWord q page b) claims)) ClaimWrong
+    ∷ []
+
+unfoldable pub claimRules : List ℕ → List ℕ → ℕ → List ℕ → List Rule
+claimRules rec page b claims = layoutRules rec ++ claimIn (planOf (layoutOf rec)) page b claims
