@@ -8,7 +8,6 @@ use native.Mathlib.Decide.{decLt}
 use lib.ListN.{length, drop}
 use lib.Dec.{eqb, ltb, leb, eqb·suc-zero}
 use borrow.Author.Tests.{lt-ltb, le-ltb, le-leb, lt-leb}
-use Rattle.replies.specs.declared.Refusal as table
 use Rattle.replies.specs.declared.Refusal.the-variants as row
 use Rattle.replies.specs.declared.Refusal.the-variants.{OutOfRange}
 use Rattle.replies.specs.declared.Verdict.{Verdict}
@@ -19,10 +18,6 @@ use Rattle.replies.specs.Given.{None, Follows, Exactly, atMost, ascending}
 use Rattle.replies.proofs.Given.{follows-done, follows-next, follows-here, none-verdict, verdict-none, append-kept, append-refused, exactly}
 use Rattle.layout.specs.declared.Layout.{Layout}
 use Rattle.layout.specs.declared.Plan.{Plan}
-use Rattle.layout.specs.declared.Shape.{Shape}
-use Rattle.layout.specs.declared.BlockFields.{BlockFields}
-use Rattle.layout.specs.declared.Kind.{Kind}
-use Rattle.layout.specs.declared.Kind.the-variants.{First, Later}
 use Rattle.layout.specs.declared.Reason.{Reason}
 use Rattle.layout.specs.declared.Rule.{Rule}
 use Rattle.layout.specs.declared.Rule.the-variants.{Level, Message, Length, Room}
@@ -33,25 +28,13 @@ use Rattle.layout.specs.declared.Refusal.the-variants as refusal
 use Rattle.layout.specs.declared.Acceptance.{Acceptance}
 use Rattle.layout.specs.declared.Acceptance.the-variants.{Accepted, Refused}
 use Rattle.layout.specs.Record.{layoutOf}
-use Rattle.layout.specs.Plan.{planOf, coveredOf, covered, used}
-use Rattle.layout.specs.Acceptance.{test, levelRule, messageRule, lengthRule, roomRule, either, ofBlocks, findingOf, judged, acceptance, ruleNumber, refusalReply}
+use Rattle.layout.specs.Plan.{planOf, covered}
+use Rattle.layout.specs.Acceptance.{test, levelRule, messageRule, lengthRule, roomRule, either, ofBlocks, findingOf, judged, acceptance, ruleRefusal, refusalOf, refusalReply}
 use Rattle.layout.specs.Answers as numbers
 use Rattle.layout.specs.Answers.{acceptanceNumbers, bitNumbers, positionNumbers}
 use Rattle.layout.specs.declared.BitAnswer.the-variants as bit
-use Rattle.layout.specs.declared.PositionAnswer.the-variants as position
 use Rattle.layout.specs.Bits.{blockOf, exponentAt, located, bitIn, bitFor, bitAnswer, positionIn, positionFor, positionAnswer}
 use Rattle.layout.specs.ReplyRules.{tooLong, ofLater, fieldRules, layoutRules, bitRules, positionRules}
-
-unfoldable pub ruleRefusal : Rule → table.Refusal
-ruleRefusal Level = row.LevelTooHigh
-ruleRefusal Message = row.EmptyMessage
-ruleRefusal Length = row.BlockTooLong
-ruleRefusal Room = row.PageTooSmall
-
-unfoldable pub refusalOf : Refusal → table.Refusal
-refusalOf refusal.RecordLength = row.BufferLength
-refusalOf (refusal.Rule r) = ruleRefusal (r .rule)
-refusalOf refusal.Range = row.OutOfRange
 
 -- ---- findings
 
@@ -101,18 +84,6 @@ says-layout l = rw (empty-test (planOf l .first .message), empty-test (planOf l 
 
 -- ---- the answer to a record
 
-refusal-number : (r : Refusal) → number (refusalOf r) ≡ refusalReply r
-unfolding refusalOf ruleRefusal number refusalReply ruleNumber
-refusal-number refusal.RecordLength = refl
-refusal-number (refusal.Rule r) = go (r .rule)
-  where
-    go : (x : Rule) → number (ruleRefusal x) ≡ ruleNumber x
-    go Level = refl
-    go Message = refl
-    go Length = refl
-    go Room = refl
-refusal-number refusal.Range = refl
-
 refusal-block : (r : Refusal) → block (refusalOf r) ≡ 0
 unfolding refusalOf ruleRefusal block
 refusal-block refusal.RecordLength = refl
@@ -151,9 +122,9 @@ accepting rec = go (eqb (length rec) 8) refl (findingOf (layoutOf rec)) refl
 -- A refused record is what every call with it replies, whatever its further rules are.
 pub refused-follows : (rec : List ℕ) (r : Refusal) → verdict (layoutRules rec) ≡ verdict.Refused (refusalOf r) → (more : List replies.Rule)
     → Follows (layoutRules rec ++ more) (refusalReply r) 0
-unfolding reply replyBlock verdictNumber verdictBlock
+unfolding refusalReply reply replyBlock verdictNumber verdictBlock
 refused-follows rec r e more = let k = append-refused (layoutRules rec) more (refusalOf r) e in
-    record { number = rw k (sym (refusal-number r)); beside = rw k (sym (refusal-block r)) }
+    record { number = rw k; beside = rw k (sym (refusal-block r)) }
 
 -- An accepted one leaves it to them.
 pub accepted-follows : (rec : List ℕ) → None (layoutRules rec) → (more : List replies.Rule) {n b : ℕ} → Follows more n b
@@ -165,9 +136,9 @@ accepted-follows rec none more f = let k = append-kept (layoutRules rec) more no
 -- ---- the calls
 
 layout-answer : (rec : List ℕ) (a : Acceptance) → Accepting rec a → Follows (layoutRules rec) (acceptanceNumbers a .reply) (acceptanceNumbers a .block)
-unfolding acceptanceNumbers numbers.done numbers.refused reply replyBlock verdictNumber verdictBlock
+unfolding acceptanceNumbers numbers.done numbers.refused refusalReply reply replyBlock verdictNumber verdictBlock
 layout-answer rec a (accepts none) = let k = none-verdict (layoutRules rec) none in record { number = rw k; beside = rw k }
-layout-answer rec a (refuses r e) = record { number = rw e (sym (refusal-number r)); beside = rw e (sym (refusal-block r)) }
+layout-answer rec a (refuses r e) = record { number = rw e; beside = rw e (sym (refusal-block r)) }
 
 pub layout-replies : (rec : List ℕ) → Follows (layoutRules rec) (acceptanceNumbers (acceptance rec) .reply) (acceptanceNumbers (acceptance rec) .block)
 layout-replies rec = layout-answer rec (acceptance rec) (accepting rec)
@@ -187,7 +158,7 @@ module _ (q : Plan) where
       go false e = follows-done
 
   bit-in : (p : ℕ) → Follows (rule (leb (8 * q .size) p) OutOfRange ∷ []) (bitNumbers (bitIn q p) .reply) (bitNumbers (bitIn q p) .block)
-  unfolding bitIn bitNumbers numbers.refused refusalReply number block
+  unfolding bitIn bitNumbers numbers.refused refusalReply refusalOf number block
   bit-in p = elim (decLt p (8 * q .size)) [
     | yes h ↦ rw (lt-ltb p (8 * q .size) h) (follows-next _ (lt-leb (8 * q .size) p h) (located-done p))
     | no h ↦ rw (le-ltb p (8 * q .size) (omega arith)) (follows-here _ (le-leb (8 * q .size) p (omega arith)))
@@ -195,7 +166,7 @@ module _ (q : Plan) where
 
   position-in : (b e : ℕ) → Follows (rule (leb (q .blocks) b) OutOfRange ∷ rule (leb (covered q b) e) OutOfRange ∷ [])
       (positionNumbers (positionIn q b e) .reply) (positionNumbers (positionIn q b e) .block)
-  unfolding positionIn positionNumbers numbers.done numbers.refused refusalReply number block
+  unfolding positionIn positionNumbers numbers.done numbers.refused refusalReply refusalOf number block
   position-in b e = elim (decLt b (q .blocks)) [
     | no h ↦ rw (le-ltb b (q .blocks) (omega arith)) (follows-here _ (le-leb (q .blocks) b (omega arith)))
     | yes h ↦ elim (decLt e (covered q b)) [

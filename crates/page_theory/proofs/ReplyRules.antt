@@ -1,7 +1,7 @@
 -- Each page call replies as its list of rules says, block number included, so each reply is given exactly if its rule applies and none before it
 -- does (document 01, "Replies"). `..-replies` says the first, `..-exactly` the second, `..-ascending` that after the record's length, which is
 -- looked at first, the numbers never fall: where several rules apply the smallest number wins (replies/Given `smallest-after`).
-use mathlib.Core.Path.{_≡_, refl, sym, ap, _∙_}
+use mathlib.Core.Path.{_≡_, refl, _∙_}
 use mathlib.Core.Bool.{Bool, true, false, cond}
 use mathlib.Core.List.{List, [], _∷_, _++_}
 use Prim.Native.Nat.{ℕ, zero, suc, _≤_}
@@ -11,11 +11,11 @@ use lib.ListN.{length, drop}
 use lib.Dec.{eqb, ltb, leb}
 use borrow.Author.Tests.{lt-ltb, le-ltb, le-leb, lt-leb}
 use Rattle.replies.specs.declared.Refusal.the-variants.{PageLength, BufferLength, OutOfRange, Uncorrectable, ClaimWrong}
-use Rattle.replies.specs.declared.Verdict.the-variants.{Passed, Refused}
+use Rattle.replies.specs.declared.Verdict.the-variants.{Refused}
 use Rattle.replies.specs.Replies.{number, block, verdictNumber, verdictBlock, unequal, Rule, rule, verdict, reply, replyBlock}
 use Rattle.replies.specs.Given as none
 use Rattle.replies.specs.Given.{None, Follows, Exactly, atMost, ascending}
-use Rattle.replies.proofs.Given.{follows-done, follows-next, follows-here, none-verdict, verdict-none, append-kept, append-refused, exactly}
+use Rattle.replies.proofs.Given.{follows-next, none-verdict, verdict-none, append-kept, append-refused, exactly}
 use Rattle.layout.specs.declared.Plan.{Plan}
 use Rattle.layout.specs.declared.Acceptance.{Acceptance}
 use Rattle.layout.specs.Record.{layoutOf}
@@ -29,12 +29,12 @@ use Rattle.page_theory.specs.Page.{pageOf, blockWord}
 use Rattle.page_theory.specs.Reading.{Reading, done, refused, more, readingOf, reading, outcome}
 use Rattle.page_theory.specs.Claim.{Right, right?}
 use Rattle.page_theory.specs.Calls as call
-use Rattle.page_theory.specs.Calls.{Written, writeEnded, writeReply, writeFor, writeOf}
+use Rattle.page_theory.specs.Calls.{writeEnded, writeReply, writeFor, writeOf}
 use Rattle.page_theory.specs.Calls.{Read, readEnded, readReply, readBy, readFor, readOf}
 use Rattle.page_theory.specs.Calls.{blockReply, Judged, judgeEnded, judgeBy, judgeFor, judgeOf}
 use Rattle.page_theory.specs.Calls.{Claimed, claimEnded, claimBy, claimFor, claimOf}
 use Rattle.page_theory.specs.ReplyRules as rules
-use Rattle.page_theory.specs.ReplyRules.{isRuined, isWrong, pageRule, ruinedRules, writeRules, readRules, judgeRules, claimRules}
+use Rattle.page_theory.specs.ReplyRules.{isRuined, isWrong, ruinedRules, writeRules, readRules, judgeRules, claimRules}
 
 -- ---- writing
 

@@ -9,12 +9,12 @@
 -- append-kept, append-refused           two lists one after the other: the second decides where the first is kept
 -- follows-done, follows-next, follows-here     what the rules give, one after the other
 -- smallest, smallest-after              in a list whose numbers never fall, the first left out or not, the smallest number of those that apply wins
-use mathlib.Core.Path.{_≡_, refl, sym, ap, _∙_, subst}
+use mathlib.Core.Path.{_≡_, refl, sym, ap, _∙_}
 use mathlib.Core.Bool.{Bool, true, false, cond, true≢false}
 use mathlib.Core.List.{List, [], _∷_, _++_}
 use Prim.Native.Nat.{ℕ, _≤_, _<_}
 use native.Mathlib.Omega.{arith}
-use lib.Dec.{eqb, leb}
+use lib.Dec.{eqb}
 use borrow.Author.Tests.{leb-true}
 use Rattle.replies.specs.declared.Refusal.{Refusal}
 use Rattle.replies.specs.declared.Refusal.the-variants as refusal
