@@ -15,3 +15,5 @@ pub mod Zeros
 pub mod Single
 pub mod Cases
 pub mod ReplyRules
+pub mod Tail
+pub mod Reordered

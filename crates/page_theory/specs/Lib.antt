@@ -6,3 +6,4 @@ pub mod Calls
 pub mod Damage
 pub mod Demands
 pub mod ReplyRules
+pub mod Alike
