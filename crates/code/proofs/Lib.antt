@@ -18,3 +18,4 @@ pub mod Ascending
 pub mod Locations
 pub mod Unique
 pub mod Rows
+pub mod Multiple

@@ -6,3 +6,4 @@ pub mod Search
 pub mod Outcome
 pub mod Locations
 pub mod Register
+pub mod Multiple
