@@ -40,7 +40,7 @@ struct word {
 	unsigned bytes, bits;
 };
 
-/* Where a decoder says that a word is wrong: how many places, or REFUSED, and their exponents in ascending order. */
+/* Where a decoder says that a word is wrong: how many places, or REFUSED, and their exponents, the highest first. */
 struct places {
 	int count;
 	uint16_t exponents[MAX_PLACES];
@@ -111,9 +111,9 @@ static void take_word(const uint8_t *page, unsigned start, struct word *w)
 			turn(j < 8 * w->bytes ? w->message : w->parity, j < 8 * w->bytes ? j : j - 8 * w->bytes);
 }
 
-static int ascending(const void *a, const void *b)
+static int descending(const void *a, const void *b)
 {
-	return *(const uint16_t *)a - *(const uint16_t *)b;
+	return *(const uint16_t *)b - *(const uint16_t *)a;
 }
 
 /* The kernel's list: a position of its own byte and bit order becomes the exponent of document 01. */
@@ -124,7 +124,7 @@ static struct places kernel_places(const struct word *w, int found, const unsign
 	for (int i = 0; i < p.count; i++)
 		p.exponents[i] = w->bits - 1 - ((errloc[i] & ~7u) | (7 - (errloc[i] & 7)));
 	if (p.count > 0)
-		qsort(p.exponents, p.count, sizeof p.exponents[0], ascending);
+		qsort(p.exponents, p.count, sizeof p.exponents[0], descending);
 	return p;
 }
 

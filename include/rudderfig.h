@@ -144,8 +144,8 @@ uint64_t rudderfig_judge_block(const uint8_t *record, size_t record_len, const u
 /*
  * From a remainder alone, which bits are wrong? t is twice level_field, field_choice 0 is m = 13 and 1 is m = 14, n is the code's length in bits.
  * The remainder has exactly (m * t + 7) / 8 bytes, highest coefficient first, right-aligned. Reads it; writes, on reply 0 only, the exponents of
- * the wrong bits in ascending order to the first places of `places`, which has at least t. The value is how many; places after them keep what
- * they held. Replies 0; 7 first of all for another field choice; 1; 2 where t = 0 or n is at most m * t; 3 for n above 2^m - 1; 6; 8; and 9,
+ * the wrong bits, the highest first, to the first places of `places`, which has at least t: so they run forward through a page. The value is
+ * how many; places after them keep what they held. Replies 0; 7 first of all for another field choice; 1; 2 where t = 0 or n is at most m * t; 3 for n above 2^m - 1; 6; 8; and 9,
  * with block 0, where there is no such set of at most t exponents.
  */
 uint64_t rudderfig_locate_errors(uint64_t level_field, uint64_t field_choice, uint64_t n, const uint8_t *remainder, size_t remainder_len,

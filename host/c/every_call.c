@@ -82,7 +82,7 @@ static int remainders(void)
 
     answer = rudderfig_locate_errors(2, 1, 100, two, sizeof two, places, 5);
     CHECK(rudderfig_reply(answer) == RUDDERFIG_DONE && rudderfig_value(answer) == 2);
-    CHECK(places[0] + places[1] == 12 && (places[0] == 3 || places[0] == 9) && places[2] == 0xAAAA);
+    CHECK(places[0] == 9 && places[1] == 3 && places[2] == 0xAAAA);
 
     memset(fragments, 0xFF, sizeof fragments);
     CHECK(rudderfig_export_fragments(4, apart, sizeof apart, fragments, RUDDERFIG_FRAGMENTS) == RUDDERFIG_DONE);

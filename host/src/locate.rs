@@ -8,8 +8,8 @@ use crate::layout::HIGHEST_LEVEL_FIELD;
 use crate::reply::{Refusal, Reply, refuse_by};
 
 /// The set of at most t exponents below n whose sum of powers of x leaves the remainder. They are
-/// put ascending into the first places of the list, and their number is returned; the other
-/// places keep what they held.
+/// put from the highest down (document 02, E5) into the first places of the list, and their number
+/// is returned; the other places keep what they held.
 pub fn locate_errors(
     level_field: u64,
     field_choice: u64,
@@ -36,7 +36,7 @@ pub fn locate_errors(
     let (above, remainder) = bits.split_at(bits.len() - parity_length);
     refuse_by(&[(Reply::RemainderTooWide, above.contains(&true))])?;
     let exponents = errors_of_remainder(code, remainder, n as usize).ok_or(Reply::Uncorrectable)?;
-    for (place, &exponent) in places.iter_mut().zip(&exponents) {
+    for (place, &exponent) in places.iter_mut().zip(exponents.iter().rev()) {
         *place = exponent as u16;
     }
     Ok(exponents.len())

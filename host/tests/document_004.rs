@@ -38,9 +38,9 @@ fn located(hexadecimal: &str, t: usize, n: usize) -> Result<Vec<u16>, u8> {
 #[test]
 fn continuous_mode() {
     let found = located("0A16ABE115E44F767BFB0D0980", 8, 4224).unwrap();
-    assert_eq!(found, [535, 1166, 2013, 3556]);
+    assert_eq!(found, [3556, 2013, 1166, 535]);
     let printed: Vec<u16> = found.iter().map(|exponent| exponent - 104).collect();
-    assert_eq!(printed, [431, 1062, 1909, 3452]);
+    assert_eq!(printed, [3452, 1909, 1062, 431]);
 }
 
 #[test]
@@ -48,8 +48,8 @@ fn page_mode() {
     let p0 = "E8B012ADDB5A318E05BEB0693DB28330B5CCA329AA05E0B718EF";
     let p1 = "BAD049A0D932C22E66690948DF08BE09333679C6BA10E5F935EB";
     let p2 = "69D9B86ABCD5EC3697FAA6498FEE54556EA01579EF7D60BA3189";
-    assert_eq!(located(p0, 16, 4224), Ok(vec![718, 1767, 1824, 2899]));
-    assert_eq!(located(p1, 16, 4224), Ok(vec![158, 212]));
+    assert_eq!(located(p0, 16, 4224), Ok(vec![2899, 1824, 1767, 718]));
+    assert_eq!(located(p1, 16, 4224), Ok(vec![212, 158]));
     assert_eq!(located(p2, 16, 4224), Ok(vec![1208]));
     assert_eq!(located("0", 16, 4224), Ok(vec![]));
 }

@@ -51,7 +51,7 @@ enum Fault {
     CountsOfBlock0Only,
     RuinedBlockNotNamed,
     FlipsOfJudgedBlockForgotten,
-    PlacesDescending,
+    PlacesAscending,
     PlacesAfterwardsCleared,
     PlaceWrittenOnRefusal,
     EqualClaimsAccepted,
@@ -140,7 +140,7 @@ impl Library for Faulty {
         let answer = Model.locate_errors(level_field, field_choice, n, remainder, places);
         let size = (answer >> 32) as usize;
         match (self.0, answer & 0xFF) {
-            (Fault::PlacesDescending, 0) => places[..size].reverse(),
+            (Fault::PlacesAscending, 0) => places[..size].reverse(),
             (Fault::PlacesAfterwardsCleared, 0) => places[size..].fill(0),
             (Fault::PlaceWrittenOnRefusal, UNCORRECTABLE) => places[0] ^= 1,
             _ => (),
@@ -184,7 +184,7 @@ impl Library for Faulty {
 fn faulty_libraries_are_found_out() {
     let layouts = [Fault::PositionCutShort, Fault::BlockCutShort];
     let remainders = [
-        Fault::PlacesDescending,
+        Fault::PlacesAscending,
         Fault::PlacesAfterwardsCleared,
         Fault::PlaceWrittenOnRefusal,
     ];

@@ -4,32 +4,32 @@
 use mathlib.Core.Path.{_≡_, refl, sym, ap, _∙_}
 use mathlib.Core.Bool.{Bool, true, false, cond}
 use mathlib.Core.List.{List, [], _∷_, _++_}
-use Prim.Native.Nat.{ℕ, zero, suc, _+_, _*_, _^_, _≤_, _<_}
+use Prim.Native.Nat.{ℕ, zero, suc, _+_, _-_, _*_, _^_, _≤_, _<_}
 use native.Mathlib.Nat.{mul-zero, pos-of-ne-zero}
 use native.Mathlib.Omega.{arith}
 use native.Mathlib.Decide.{decLt, ℕ-discrete}
 use borrow.Author.Tests.{eqb-false, eq-eqb, ne-eqb}
 use lib.Dec.{eqb}
-use lib.ListN.{length, getD, take, replicate, length-replicate, length-take}
-use lib.Seq.{take-suc, getD-take}
+use lib.ListN.{length, getD, set, take, length-set, replicate, length-replicate, length-take}
+use lib.Seq.{take-suc, getD-take, getD-set-same, getD-set-other}
 use Rattle.algebra.specs.Series.{shift}
 use Rattle.algebra.specs.Recurrence.{State}
 use Rattle.algebra.specs.Word.{Listing, flip, differ, count, among, power-sum}
 use Rattle.algebra.specs.Array.{coef, Holds}
 use Rattle.algebra.specs.Search.{Root, Found as Roots}
 use Rattle.algebra.proofs.Number.{el-zero}
-use Rattle.algebra.proofs.Word.{listing, among-true, lists-count, lists-among, lists-not-among, count-cong, errors-length, errors-root, errors-no-root}
+use Rattle.algebra.proofs.Word.{listing, among-true, among-at, lists-count, lists-among, lists-not-among, count-cong, errors-length, errors-root, errors-no-root}
 use Rattle.bits.specs.Bits.{digits}
 use Rattle.field.specs.declared.Field.{Field}
 use Rattle.field.specs.Field.{degree, longest}
 use Rattle.field.proofs.Instance.{gf, num, a, el, el-same, el-num, unit, order}
-use Rattle.code.specs.Word.{Word, ones, flipped, ascending}
+use Rattle.code.specs.Word.{Word, ones, flipped, descending}
 use Rattle.code.specs.Code.{Fits}
 use Rattle.code.specs.Locations.{Locates, listed, exponents, nowhere, locate}
 use Rattle.code.proofs.Distance.{coefficient}
 use Rattle.code.proofs.Codeword.{zeros-codeword, value-square}
-use Rattle.code.proofs.Flips.{marks, Below, none, below-each, marks-ascending, marks-past}
-use Rattle.code.proofs.Ascending.{Rising, end, each-rising, rising-ext, ascending-rising}
+use Rattle.code.proofs.Flips.{marks, marks-descending, marks-past}
+use Rattle.code.proofs.Descending.{Falling, end, each-falling, falling-ext, descending-falling}
 use Rattle.code.proofs.Locations.{ones-count, listed-length, listed-flips, listed-power-sum, set-recheck, locate-list, locate-exponents, locate-nowhere}
 use Rattle.code.proofs.Remainder.{codeword-remainder}
 use Rattle.key_equation.specs.KeyEquation.{PowerSums}
@@ -37,10 +37,10 @@ use Rattle.root_search.specs.Splitting.{Divisor, Splits}
 use Rattle.bch.specs.declared.Found.{Found}
 use Rattle.bits.specs.Decides.{Decides}
 use Rattle.syndromes.specs.PowerSums.{Agrees, Syndromes}
-use Rattle.bch.specs.Locating.{Locatable, Ascending, answer, Finds}
+use Rattle.bch.specs.Locating.{Locatable, Descending, Reversed, answer, Finds}
 use Rattle.series.proofs.Element.{series, small-elements}
 
--- ---- a list that ascends, as a set
+-- ---- a list that descends, as a set
 
 among-suc : (E : ℕ → ℕ) (w p : ℕ) → among E (suc w) p ≡ cond (eqb (E w) p) true (among E w p)
 unfolding among
@@ -50,10 +50,10 @@ among-zero : (E : ℕ → ℕ) (p : ℕ) → among E 0 p ≡ false
 unfolding among
 among-zero E p = refl
 
--- The last place of a list that ascends is not among the others.
-among-fresh : (E : ℕ → ℕ) (w : ℕ) → ((i j : ℕ) → i < j → j < suc w → E i < E j) → (b : Bool) → among E w (E w) ≡ b → b ≡ false
-among-fresh E w rising false h = refl
-among-fresh E w rising true h = let (e, l, q) = among-true E w (E w) h in absurd (omega (arith, rising e w l (omega arith)))
+-- The last place of a list that descends is not among the others.
+among-fresh : (E : ℕ → ℕ) (w : ℕ) → ((i j : ℕ) → i < j → j < suc w → E j < E i) → (b : Bool) → among E w (E w) ≡ b → b ≡ false
+among-fresh E w falling false h = refl
+among-fresh E w falling true h = let (e, l, q) = among-true E w (E w) h in absurd (omega (arith, falling e w l (omega arith)))
 
 differ-false : (x : Bool) → differ x false ≡ x
 unfolding differ flip
@@ -71,81 +71,96 @@ marks-last (x ∷ ps) q p = ap (differ (eqb p x)) (marks-last ps q p) ∙ go (eq
     go true false z = refl
     go false y z = refl
 
-pub marks-among : (l : List ℕ) (w p : ℕ) → w ≤ length l → ((i j : ℕ) → i < j → j < w → getD l i 0 < getD l j 0) → marks (take w l) p ≡ among (λ i. getD l i 0) w p
-marks-among l zero p room rising = unfold marks in sym (among-zero (λ i. getD l i 0) p)
-marks-among l (suc w) p room rising =
-    rw (take-suc l w 0 (omega arith), marks-last (take w l) (getD l w 0) p, marks-among l w p (omega arith) (λ i j h k. rising i j h (omega arith)), among-suc (λ i. getD l i 0) w p)
+pub marks-among : (l : List ℕ) (w p : ℕ) → w ≤ length l → ((i j : ℕ) → i < j → j < w → getD l j 0 < getD l i 0) → marks (take w l) p ≡ among (λ i. getD l i 0) w p
+marks-among l zero p room falling = unfold marks in sym (among-zero (λ i. getD l i 0) p)
+marks-among l (suc w) p room falling =
+    rw (take-suc l w 0 (omega arith), marks-last (take w l) (getD l w 0) p, marks-among l w p (omega arith) (λ i j h k. falling i j h (omega arith)), among-suc (λ i. getD l i 0) w p)
     (go (ℕ-discrete p (getD l w 0)))
   where
     go : Dec (p ≡ getD l w 0) → differ (among (λ i. getD l i 0) w p) (eqb p (getD l w 0)) ≡ cond (eqb (getD l w 0) p) true (among (λ i. getD l i 0) w p)
-    go (yes e) = rw (eq-eqb p (getD l w 0) e, eq-eqb (getD l w 0) p (sym e), e, among-fresh (λ i. getD l i 0) w rising _ refl) (unfold differ in refl)
+    go (yes e) = rw (eq-eqb p (getD l w 0) e, eq-eqb (getD l w 0) p (sym e), e, among-fresh (λ i. getD l i 0) w falling _ refl) (unfold differ in refl)
     go (no e) = rw (ne-eqb p (getD l w 0) e, ne-eqb (getD l w 0) p (λ q. e (sym q))) (differ-false _)
 
 -- ---- a list of places
 
-module _ (n : ℕ) {w : ℕ} {l : List ℕ} (room : w ≤ length l) (h : Ascending n w l) where
+module _ (n : ℕ) {w : ℕ} {l : List ℕ} (room : w ≤ length l) (h : Descending n w l) where
   list-size : length (take w l) ≡ w
   list-size = simp length-take (omega arith)
 
   at : (i : ℕ) → i < w → getD (take w l) i 0 ≡ getD l i 0
   at i k = getD-take w l i 0 k
 
-  list-rising : Rising 0 (take w l)
-  list-rising = each-rising 0 (take w l) (λ k. omega arith)
-      (λ i k. rw (at i (omega (arith, list-size)), at (suc i) (omega (arith, list-size))) (h .rising i (suc i) (omega arith) (omega (arith, list-size))))
+  list-falling : Falling n (take w l)
+  list-falling = each-falling n (take w l) (λ k. rw (at 0 (omega (arith, list-size))) (h .below 0 (omega (arith, list-size))))
+      (λ i k. rw (at i (omega (arith, list-size)), at (suc i) (omega (arith, list-size))) (h .falling i (suc i) (omega arith) (omega (arith, list-size))))
 
-  list-below : Below n (take w l)
-  list-below = below-each n (take w l) (λ i k. rw (at i (omega (arith, list-size))) (h .below i (omega (arith, list-size))))
+-- The search for a place that breaks the order: the k first places are in order, and the next must be below `bound`.
+pub record Ordered (n k bound : ℕ) (l : List ℕ) : Type 0 where
+  pub order : Descending n k l
+  pub over : (i : ℕ) → i < k → bound ≤ getD l i 0
+  pub last : (i : ℕ) → suc i ≡ k → bound ≡ getD l i 0
+  pub first : k ≡ 0 → bound ≡ n
+  pub within : bound ≤ n
 
--- The search for a place that breaks the order: the k first places are in order, and the next must be at least `least`.
-pub record Ordered (n k least : ℕ) (l : List ℕ) : Type 0 where
-  pub order : Ascending n k l
-  pub under : (i : ℕ) → i < k → getD l i 0 < least
-  pub last : (i : ℕ) → suc i ≡ k → least ≡ suc (getD l i 0)
-  pub first : k ≡ 0 → least ≡ 0
-
-pub ordered-start : (n : ℕ) (l : List ℕ) → Ordered n 0 0 l
+pub ordered-start : (n : ℕ) (l : List ℕ) → Ordered n 0 n l
 ordered-start n l = record {
-  order = record { rising = λ i j h k. absurd (omega arith); below = λ i k. absurd (omega arith) };
-  under = λ i k. absurd (omega arith);
+  order = record { falling = λ i j h k. absurd (omega arith); below = λ i k. absurd (omega arith) };
+  over = λ i k. absurd (omega arith);
   last = λ i e. absurd (omega arith);
   first = λ e. refl;
+  within = omega arith;
 }
 
-module _ (n : ℕ) {k least : ℕ} {l : List ℕ} (h : Ordered n k least l) where
-  pub ordered-next : least ≤ getD l k 0 → getD l k 0 < n → Ordered n (k + 1) (getD l k 0 + 1) l
-  ordered-next low high = record {
+module _ (n : ℕ) {k bound : ℕ} {l : List ℕ} (h : Ordered n k bound l) where
+  pub ordered-next : getD l k 0 < bound → Ordered n (k + 1) (getD l k 0) l
+  ordered-next low = record {
     order = record {
-      rising = λ i j a b. rising i j a b (decLt j k);
+      falling = λ i j a b. falling i j a b (decLt j k);
       below = λ i a. below i a (decLt i k);
     };
-    under = λ i a. under i a (decLt i k);
-    last = λ i e. let d : i ≡ k = omega arith in rw d (omega arith);
+    over = λ i a. over i a (decLt i k);
+    last = λ i e. let d : i ≡ k = omega arith in rw d refl;
     first = λ e. absurd (omega arith);
+    within = omega (arith, h .within);
   }
     where
-      rising : (i j : ℕ) → i < j → j < k + 1 → Dec (j < k) → getD l i 0 < getD l j 0
-      rising i j a b (yes c) = h .order .rising i j a c
-      rising i j a b (no c) = let d : j ≡ k = omega arith in rw d (omega (arith, h .under i (omega arith)))
+      falling : (i j : ℕ) → i < j → j < k + 1 → Dec (j < k) → getD l j 0 < getD l i 0
+      falling i j a b (yes c) = h .order .falling i j a c
+      falling i j a b (no c) = let d : j ≡ k = omega arith in rw d (omega (arith, h .over i (omega arith)))
 
       below : (i : ℕ) → i < k + 1 → Dec (i < k) → getD l i 0 < n
       below i a (yes c) = h .order .below i c
-      below i a (no c) = let d : i ≡ k = omega arith in rw d (omega arith)
+      below i a (no c) = let d : i ≡ k = omega arith in rw d (omega (arith, h .within))
 
-      under : (i : ℕ) → i < k + 1 → Dec (i < k) → getD l i 0 < getD l k 0 + 1
-      under i a (yes c) = omega (arith, h .under i c)
-      under i a (no c) = let d : i ≡ k = omega arith in rw d (omega arith)
+      over : (i : ℕ) → i < k + 1 → Dec (i < k) → getD l k 0 ≤ getD l i 0
+      over i a (yes c) = omega (arith, h .over i c)
+      over i a (no c) = let d : i ≡ k = omega arith in rw d (omega arith)
 
-  -- A place that is too low is not above the one before it.
-  pub ordered-low : {w : ℕ} → k < w → getD l k 0 < least → Ascending n w l → ⊥
-  ordered-low {w} inside low g = go k refl
+  -- A place that is too high is not below the one before it, or not below n.
+  pub ordered-high : {w : ℕ} → k < w → bound ≤ getD l k 0 → Descending n w l → ⊥
+  ordered-high {w} inside high g = go k refl
     where
       go : (j : ℕ) → k ≡ j → ⊥
-      go zero e = omega (arith, h .first e)
-      go (suc j) e = let d : getD l j 0 < getD l k 0 = g .rising j k (omega arith) inside in omega (arith, h .last j (sym e))
+      go zero e = omega (arith, h .first e, g .below k inside)
+      go (suc j) e = let d : getD l k 0 < getD l j 0 = g .falling j k (omega arith) inside in omega (arith, h .last j (sym e))
 
-  pub ordered-high : {w : ℕ} → k < w → n ≤ getD l k 0 → Ascending n w l → ⊥
-  ordered-high inside high g = omega (arith, g .below k inside)
+-- The loop that reverses a list, before its place i.
+pub record Reversing (w : ℕ) (l : List ℕ) (i : ℕ) (r : List ℕ) : Type 0 where
+  pub full : length r ≡ 64
+  pub done : (k : ℕ) → k < i → getD r k 0 ≡ getD l (w - 1 - k) 0
+
+pub reversing-start : {w : ℕ} {l : List ℕ} → Reversing w l 0 (replicate 64 0)
+reversing-start = record { full = length-replicate {A = ℕ} 64 0; done = λ k h. absurd (omega arith) }
+
+pub reversing-next : {w : ℕ} {l r : List ℕ} (i : ℕ) → i < 64 → Reversing w l i r → Reversing w l (i + 1) (set r i (getD l (w - 1 - i) 0))
+reversing-next {w} {l} {r} i inside h = record { full = simp length-set (h .full); done = λ k a. done k a (decLt k i) }
+  where
+    done : (k : ℕ) → k < i + 1 → Dec (k < i) → getD (set r i (getD l (w - 1 - i) 0)) k 0 ≡ getD l (w - 1 - k) 0
+    done k a (yes c) = getD-set-other r i k (getD l (w - 1 - i) 0) 0 (omega arith) ∙ h .done k c
+    done k a (no c) = let d : k ≡ i = omega arith in rw d (getD-set-same r i (getD l (w - 1 - i) 0) 0 (omega (arith, h .full)))
+
+pub reversing-end : {w : ℕ} {l r : List ℕ} → Reversing w l w r → Reversed w l r
+reversing-end h = record { full = h .full; at = h .done }
 
 -- ---- the decoder
 
@@ -169,8 +184,8 @@ module _ (f : Field) (t n x : ℕ) (h : Locatable f t n x) (short : n ≤ longes
   set-count v y = sym (ones-count v ∙ ap (count (coefficient v)) (y .below))
 
   -- A list of at most t places that passes the recheck is the answer, whatever proposed it.
-  pub list-located : {l : List ℕ} {w : ℕ} → w ≤ length l → Ascending n w l → Agrees f t s (take w l) → w ≤ t → locate f t n x ≡ exponents (take w l)
-  list-located {l} {w} room a g k = locate-list f t n x (h .fits) (h .low) (h .room) (take w l) (list-rising n room a) (list-below n room a)
+  pub list-located : {l : List ℕ} {w : ℕ} → w ≤ length l → Descending n w l → Agrees f t s (take w l) → w ≤ t → locate f t n x ≡ exponents (take w l)
+  list-located {l} {w} room a g k = locate-list f t n x (h .fits) (h .low) (h .room) (take w l) (list-falling n room a)
       (omega (arith, list-size n room a)) (λ i m. sym (syndromes .values (i + i) (omega arith)) ∙ g .sums i m)
 
   module _ {len b : ℕ} {c u : List ℕ} {gap : ℕ} (recurs : Holds (gf f) (num f) s t len b c u gap) where
@@ -214,7 +229,7 @@ module _ (f : Field) (t n x : ℕ) (h : Locatable f t n x) (short : n ≤ longes
     pub long-nowhere : t < len → locate f t n x ≡ nowhere
     long-nowhere l = locate-nowhere f t n x (λ v y. omega (arith, y .few, set-length v y))
 
-    module _ {l : List ℕ} {w : ℕ} (room : w ≤ length l) (roots : Roots (gf f) (num f) c len (a f) l n w) where
+    module _ {l : List ℕ} {w : ℕ} (roots : Roots (gf f) (num f) c len (a f) l n w) where
       abbrev place : ℕ → ℕ
       place i = getD l i 0
 
@@ -241,35 +256,60 @@ module _ (f : Field) (t n x : ℕ) (h : Locatable f t n x) (short : n ≤ longes
       pub few-nowhere : ¬ (w ≡ len) → locate f t n x ≡ nowhere
       few-nowhere e = locate-nowhere f t n x (λ v y. e (set-size v y))
 
-      in-order : Ascending n w l
-      in-order = record { rising = roots .lists .rising; below = roots .lists .below }
+      -- The roots from the highest place down.
+      module _ {r : List ℕ} (room : w ≤ length r) (reversed : Reversed w l r) where
+        in-order : Descending n w r
+        in-order = record { falling = falling; below = λ i k. rw (reversed .at i k) (roots .lists .below (w - 1 - i) (omega arith)) }
+          where
+            falling : (i j : ℕ) → i < j → j < w → getD r j 0 < getD r i 0
+            falling i j a b =
+                rw (reversed .at i (omega arith), reversed .at j b) (roots .lists .rising (w - 1 - j) (w - 1 - i) (omega arith) (omega arith))
 
-      set-list : (v : Word) → Locates f t n x v → listed v ≡ take w l
-      unfolding listed
-      set-list v y = rising-ext 0 (ascending v) (take w l) (ascending-rising v) (list-rising n room in-order) (λ p. each p (decLt p n))
-        where
-          past : (p : ℕ) → n ≤ p → (d : Bool) → among place w p ≡ d → d ≡ false
-          past p k false i = refl
-          past p k true i = let (e, q, r) = among-true place w p i in absurd (omega (arith, roots .lists .below e q))
+        reversed-among : (p : ℕ) → among (λ i. getD r i 0) w p ≡ among place w p
+        reversed-among p = go (among (λ i. getD r i 0) w p) refl (among place w p) refl
+          where
+            go : (d : Bool) → among (λ i. getD r i 0) w p ≡ d → (e : Bool) → among place w p ≡ e → d ≡ e
+            go true i true j = refl
+            go false i false j = refl
+            go true i false j =
+                let (e, k, q) = among-true (λ i. getD r i 0) w p i in
+                let at : place (w - 1 - e) ≡ p = sym (reversed .at e k) ∙ q in
+                sym (rw at at (among-at place w (w - 1 - e) (omega arith))) ∙ j
+            go false i true j =
+                let (e, k, q) = among-true place w p j in
+                let back : w - 1 - (w - 1 - e) ≡ e = omega arith in
+                let at : getD r (w - 1 - e) 0 ≡ p = reversed .at (w - 1 - e) (omega arith) ∙ ap place back ∙ q in
+                sym i ∙ rw at at (among-at (λ i. getD r i 0) w (w - 1 - e) (omega arith))
 
-          each : (p : ℕ) → Dec (p < n) → marks (ascending v) p ≡ marks (take w l) p
-          each p (yes k) = marks-ascending v p (rw (y .below) k) ∙ sym (set-among v y p k) ∙ sym (marks-among l w p room (roots .lists .rising))
-          each p (no k) = marks-past v p (omega (arith, y .below)) ∙ sym (past p (omega arith) _ refl) ∙ sym (marks-among l w p room (roots .lists .rising))
+        set-list : (v : Word) → Locates f t n x v → listed v ≡ take w r
+        unfolding listed
+        set-list v y = falling-ext n (descending v) (take w r) (rw (y .below) at (descending-falling v)) (list-falling n room in-order) (λ p. each p (decLt p n))
+          where
+            past : (p : ℕ) → n ≤ p → (d : Bool) → among place w p ≡ d → d ≡ false
+            past p k false i = refl
+            past p k true i = let (e, q, r) = among-true place w p i in absurd (omega (arith, roots .lists .below e q))
 
-      set-agrees : (v : Word) → Locates f t n x v → Agrees f t s (take w l)
-      set-agrees v y = record { sums = λ i k. syndromes .values (i + i) (omega arith) ∙ set-recheck f t n x (h .fits) (h .low) (h .room) v y (i + i) (omega arith) ∙ rw (set-list v y) }
+            same : (p : ℕ) → among place w p ≡ marks (take w r) p
+            same p = sym (reversed-among p) ∙ sym (marks-among r w p room (in-order .falling))
 
-      pub wrong-nowhere : (Agrees f t s (take w l) → ⊥) → locate f t n x ≡ nowhere
-      wrong-nowhere e = locate-nowhere f t n x (λ v y. e (set-agrees v y))
+            each : (p : ℕ) → Dec (p < n) → marks (descending v) p ≡ marks (take w r) p
+            each p (yes k) = marks-descending v p (rw (y .below) k) ∙ sym (set-among v y p k) ∙ same p
+            each p (no k) = marks-past v p (omega (arith, y .below)) ∙ sym (past p (omega arith) _ refl) ∙ same p
 
-      pub agreed-located : Agrees f t s (take w l) → w ≤ t → locate f t n x ≡ exponents (take w l)
-      agreed-located = list-located room in-order
+        set-agrees : (v : Word) → Locates f t n x v → Agrees f t s (take w r)
+        set-agrees v y = record { sums = λ i k. syndromes .values (i + i) (omega arith) ∙ set-recheck f t n x (h .fits) (h .low) (h .room) v y (i + i) (omega arith) ∙ rw (set-list v y) }
+
+        pub wrong-nowhere : (Agrees f t s (take w r) → ⊥) → locate f t n x ≡ nowhere
+        wrong-nowhere e = locate-nowhere f t n x (λ v y. e (set-agrees v y))
+
+        pub agreed-located : Agrees f t s (take w r) → w ≤ t → locate f t n x ≡ exponents (take w r)
+        agreed-located = list-located room in-order
 
 -- ---- a zero remainder
 
 zeros-ones : (n : ℕ) → listed (replicate n false) ≡ []
 unfolding flipped
-zeros-ones n = listed-flips n [] end none
+zeros-ones n = listed-flips n [] end
 
 pub zero-located : (f : Field) (t n : ℕ) → Fits f t n → locate f t n 0 ≡ exponents []
 zero-located f t n h = locate-exponents f t n 0 (replicate n false) h locates ∙ ap exponents (zeros-ones n)

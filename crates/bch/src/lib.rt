@@ -22,7 +22,7 @@ use field::Field;
 ghost use mathlib.Core.Path.{_≡_};
 ghost use Rattle.bch.specs.Answers.{ended, locateOf};
 
-// What is found for a remainder: whether a set of exponents leaves it, its size, and the set, ascending, in the first places.
+// What is found for a remainder: whether a set of exponents leaves it, its size, and the set, the highest exponent first, in the first places.
 // The other places are of no meaning, and all are where no set is located.
 pub struct Found {
     pub located: bool,
@@ -49,7 +49,7 @@ pub enum LocateAnswer {
 }
 
 // From a remainder alone, which bits are wrong? The remainder has the highest coefficient first, right-aligned. The exponents are
-// listed ascending at the start of `places`.
+// listed from the highest down at the start of `places`.
 pub fn locate_errors(
     level_field: u64,
     field_choice: u64,

@@ -13,7 +13,7 @@ ghost use Rattle.code.specs.Register.{register};
 ghost use Rattle.series.specs.Series.{Elements};
 ghost use Rattle.bits.specs.Decides.{Decides};
 ghost use Rattle.syndromes.specs.PowerSums.{Agrees};
-ghost use Rattle.bch.specs.Locating.{Locatable, Ascending, Finds};
+ghost use Rattle.bch.specs.Locating.{Locatable, Descending, Reversed, Finds};
 use crate::Found;
 use field::Field;
 use key_equation::shortest;
@@ -42,28 +42,40 @@ fn place(p: u16) -> usize
     p as usize
 }
 
-// Whether the first `count` places of a list ascend and lie below n.
-fn ascend_below(places: &[u16; 64], count: usize, n: usize) -> bool
+// Whether the first `count` places of a list descend from below n.
+fn descend_below(places: &[u16; 64], count: usize, n: usize) -> bool
     requires { ⌜ count ≤ 64 ⌝ }
-    ensures { λ r. ⌜ Decides r (Ascending n count (now (places .entry))) ⌝ }
+    ensures { λ r. ⌜ Decides r (Descending n count (now (places .entry))) ⌝ }
 {
-    let mut least: usize = 0;
+    let mut bound = n;
     let mut k: usize = 0;
     while k < count {
         let p = place(places[k]);
-        if p < least {
+        if bound <= p {
             return false;
         }
-        if n <= p {
-            return false;
-        }
-        least = p + 1;
+        bound = p;
         k += 1;
     }
     true
 }
 
-// Whether the first `count` places of a list ascend, lie below n, and have the given power sums with odd j.
+// The first `count` places of a list, the last first.
+fn reversed(places: &[u16; 64], count: usize) -> [u16; 64]
+    requires { ⌜ count ≤ 64 ⌝ }
+    ensures { λ r. ⌜ Reversed count (now (places .entry)) r ⌝ }
+{
+    let mut v = [0; 64];
+    let mut i: usize = 0;
+    while i < count {
+        let at = count - 1 - i;
+        v[i] = places[at];
+        i += 1;
+    }
+    v
+}
+
+// Whether the first `count` places of a list descend from below n, and have the given power sums with odd j.
 fn passes(
     f: Field,
     powers: &[u16; 16384],
@@ -75,9 +87,9 @@ fn passes(
 ) -> bool
     requires { ⌜ Powers f (now powers) ⌝ }
     requires { ⌜ (t ≤ 62) × (Elements f sums) × (n ≤ longest f) × (count ≤ 64) ⌝ }
-    ensures { λ r. ⌜ Decides r ((Ascending n count places) × (Agrees f t sums (take count places))) ⌝ }
+    ensures { λ r. ⌜ Decides r ((Descending n count places) × (Agrees f t sums (take count places))) ⌝ }
 {
-    if ascend_below(&places, count, n) {
+    if descend_below(&places, count, n) {
         return sums_agree(f, powers, sums, t, places, count);
     }
     false
@@ -118,11 +130,12 @@ pub fn find_errors(
         return no_exponents(false);
     }
     let places = locate(f, powers, logs, &c, len, n);
-    let exponents = places.exponents;
+    let roots = places.exponents;
     let count = places.count;
     if count != len {
         return no_exponents(false);
     }
+    let exponents = reversed(&roots, count);
     let located = sums_agree(f, powers, sums, t, exponents, count);
     Found {
         located: located,

@@ -3,12 +3,12 @@
 -- marks ps p       p stands in the list an odd number of times
 use mathlib.Core.Path.{_≡_, refl, sym, ap, ap₂, _∙_}
 use mathlib.Core.Bool.{Bool, true, false, cond}
-use mathlib.Core.List.{List, [], _∷_, _++_}
+use mathlib.Core.List.{List, [], _∷_}
 use Prim.Native.Nat.{ℕ, zero, suc, _+_, _*_, _≤_, _<_}
 use native.Mathlib.Omega.{arith}
 use native.Mathlib.Decide.{decLt}
 use borrow.Author.Tests.{eqb-true, eqb-false, eq-eqb, ne-eqb}
-use lib.ListN.{length, getD, length-append}
+use lib.ListN.{length, getD}
 use lib.Dec.{eqb}
 use lib.Bits.{bitXor}
 use Rattle.bits.specs.Bits.{digit}
@@ -24,7 +24,7 @@ use Rattle.algebra.proofs.Field.{ring, nil-mul}
 use Rattle.algebra.proofs.Sum.{sum-suc, sum-nil}
 use Rattle.algebra.proofs.Polynomial.{pow-pow}
 use Rattle.algebra.proofs.Word.{power-sum-both}
-use Rattle.code.specs.Word.{Word, ones, turned, flipped, ascending}
+use Rattle.code.specs.Word.{Word, ones, turned, flipped, descending}
 pub use Rattle.code.specs.Word.{Below, none, one}
 use Rattle.code.specs.Code.{value}
 use Rattle.code.specs.Locations.{powerSum}
@@ -100,45 +100,49 @@ flipped-repaired w ps = coefficient-ext _ _ (flipped-length w ps ∙ sym (repair
 
 -- ---- the listing of a set
 
-marks-append : (ps qs : List ℕ) (p : ℕ) → marks (ps ++ qs) p ≡ differ (marks ps p) (marks qs p)
+descending-one : (w : Word) → descending (true ∷ w) ≡ length w ∷ descending w
+unfolding descending
+descending-one w = refl
+
+descending-none : (w : Word) → descending (false ∷ w) ≡ descending w
+unfolding descending
+descending-none w = refl
+
+pub marks-here : (p : ℕ) (ps : List ℕ) → marks ps p ≡ false → marks (p ∷ ps) p ≡ true
 unfolding marks
-marks-append [] qs p = unfold differ in refl
-marks-append (q ∷ ps) qs p = ap (differ (eqb p q)) (marks-append ps qs p) ∙ sym (differ-assoc (eqb p q) (marks ps p) (marks qs p))
+marks-here p ps h = rw (eq-eqb p p refl, h) (unfold differ flip in refl)
 
-marks-last : (b : Bool) (n p : ℕ) → p ≡ n → marks (cond b (n ∷ []) []) p ≡ b
+pub marks-other : (q : ℕ) (ps : List ℕ) (p : ℕ) → (p ≡ q → ⊥) → marks (q ∷ ps) p ≡ marks ps p
 unfolding marks
-marks-last true n p e = rw (eq-eqb p n e) (differ-right true)
-marks-last false n p e = refl
+marks-other q ps p e = rw (ne-eqb p q e) (unfold differ in refl)
 
-marks-other : (b : Bool) (n p : ℕ) → (p ≡ n → ⊥) → marks (cond b (n ∷ []) []) p ≡ false
-unfolding marks
-marks-other true n p e = rw (ne-eqb p n e) (differ-right false)
-marks-other false n p e = refl
+pub marks-past : (w : Word) (p : ℕ) → length w ≤ p → marks (descending w) p ≡ false
+marks-past [] p l = unfold marks descending in refl
+marks-past (true ∷ w) p l =
+    ap (λ ps. marks ps p) (descending-one w) ∙ marks-other (length w) (descending w) p (λ e. omega arith) ∙ marks-past w p (omega arith)
+marks-past (false ∷ w) p l = ap (λ ps. marks ps p) (descending-none w) ∙ marks-past w p (omega arith)
 
-pub marks-past : (w : Word) (p : ℕ) → length w ≤ p → marks (ascending w) p ≡ false
-unfolding ascending
-marks-past [] p l = unfold marks in refl
-marks-past (b ∷ w) p l =
-    marks-append (ascending w) _ p ∙ rw (marks-past w p (omega arith), marks-other b (length w) p (λ e. omega arith)) (differ-right false)
-
-pub marks-ascending : (w : Word) (p : ℕ) → p < length w → marks (ascending w) p ≡ coefficient w p
-unfolding ascending
-marks-ascending [] p l = absurd (omega arith)
-marks-ascending (b ∷ w) p l = marks-append (ascending w) _ p ∙ go (decLt p (length w)) (marks-ascending w p)
+pub marks-descending : (w : Word) (p : ℕ) → p < length w → marks (descending w) p ≡ coefficient w p
+marks-descending [] p l = absurd (omega arith)
+marks-descending (b ∷ w) p l = go b (decLt p (length w)) (marks-descending w p)
   where
-    go : Dec (p < length w) → (p < length w → marks (ascending w) p ≡ coefficient w p)
-        → differ (marks (ascending w) p) (marks (cond b (length w ∷ []) []) p) ≡ coefficient (b ∷ w) p
-    go (yes m) h = rw (h m, marks-other b (length w) p (λ e. omega arith), coefficient-tail b w p m) (differ-right (coefficient w p))
-    go (no m) h = let e : p ≡ length w = omega arith in rw (marks-past w p (omega arith), marks-last b (length w) p e, e, coefficient-head b w) (unfold differ in refl)
+    go : (b : Bool) → Dec (p < length w) → (p < length w → marks (descending w) p ≡ coefficient w p) → marks (descending (b ∷ w)) p ≡ coefficient (b ∷ w) p
+    go true (yes m) h =
+        ap (λ ps. marks ps p) (descending-one w) ∙ marks-other (length w) (descending w) p (λ e. omega arith) ∙ h m ∙ sym (coefficient-tail true w p m)
+    go false (yes m) h = ap (λ ps. marks ps p) (descending-none w) ∙ h m ∙ sym (coefficient-tail false w p m)
+    go true (no m) h =
+        let e : p ≡ length w = omega arith in
+        rw e (ap (λ ps. marks ps (length w)) (descending-one w) ∙ marks-here (length w) (descending w) (marks-past w (length w) (omega arith))
+        ∙ sym (coefficient-head true w))
+    go false (no m) h =
+        let e : p ≡ length w = omega arith in
+        rw e (ap (λ ps. marks ps (length w)) (descending-none w) ∙ marks-past w (length w) (omega arith) ∙ sym (coefficient-head false w))
 
-pub ascending-length : (w : Word) → length (ascending w) ≡ ones w
-unfolding ascending ones
-ascending-length [] = refl
-ascending-length (b ∷ w) = length-append (ascending w) _ ∙ rw (ascending-length w) (go b)
-  where
-    go : (b : Bool) → ones w + length (cond b (length w ∷ []) []) ≡ digit b + ones w
-    go true = unfold digit in omega arith
-    go false = unfold digit in omega arith
+pub descending-length : (w : Word) → length (descending w) ≡ ones w
+unfolding ones digit
+descending-length [] = unfold descending in refl
+descending-length (true ∷ w) = let e : suc (ones w) ≡ 1 + ones w = omega arith in ap length (descending-one w) ∙ ap suc (descending-length w) ∙ e
+descending-length (false ∷ w) = let e : ones w ≡ 0 + ones w = omega arith in ap length (descending-none w) ∙ descending-length w ∙ e
 
 pub below-each : (n : ℕ) (ps : List ℕ) → ((i : ℕ) → i < length ps → getD ps i 0 < n) → Below n ps
 below-each n [] h = none
@@ -153,18 +157,12 @@ below-more : (n : ℕ) (ps : List ℕ) → Below n ps → Below (suc n) ps
 below-more n [] none = none
 below-more n (p ∷ ps) (one l b) = let m : p < suc n = omega arith in one m (below-more n ps b)
 
-below-append : (n : ℕ) (ps qs : List ℕ) → Below n ps → Below n qs → Below n (ps ++ qs)
-below-append n [] qs none c = c
-below-append n (p ∷ ps) qs (one l b) c = one l (below-append n ps qs b c)
-
-pub ascending-below : (w : Word) → Below (length w) (ascending w)
-unfolding ascending
-ascending-below [] = none
-ascending-below (b ∷ w) = below-append (suc (length w)) (ascending w) _ (below-more (length w) (ascending w) (ascending-below w)) (go b)
-  where
-    go : (b : Bool) → Below (suc (length w)) (cond b (length w ∷ []) [])
-    go true = let m : length w < suc (length w) = omega arith in one m none
-    go false = none
+pub descending-below : (w : Word) → Below (length w) (descending w)
+descending-below [] = unfold descending in none
+descending-below (true ∷ w) =
+    let m : length w < suc (length w) = omega arith in
+    rw (descending-one w) (one m (below-more (length w) (descending w) (descending-below w)))
+descending-below (false ∷ w) = rw (descending-none w) (below-more (length w) (descending w) (descending-below w))
 
 -- ---- values
 

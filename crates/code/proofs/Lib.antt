@@ -14,7 +14,7 @@ pub mod Remainder
 pub mod Dividend
 pub mod Repair
 pub mod Flips
-pub mod Ascending
+pub mod Descending
 pub mod Locations
 pub mod Unique
 pub mod Rows

@@ -22,7 +22,7 @@ use Rattle.algebra.specs.Polynomial.{pow, horner, value as valueOfSeries}
 use Rattle.algebra.specs.Recurrence.{State}
 use Rattle.algebra.specs.Word.{differ, both, bump, count, power-sum}
 use Rattle.algebra.proofs.Word.{differ-differ, count-cong, power-sum-cong}
-use Rattle.code.specs.Word.{Word, ones, flipped, ascending}
+use Rattle.code.specs.Word.{Word, ones, flipped, descending}
 use Rattle.code.specs.Code.{Codeword, Near, Fits, value}
 use Rattle.code.specs.Generator.{remainder}
 use Rattle.code.specs.Outcome.{good, ruined, judge}
@@ -34,18 +34,18 @@ use Rattle.code.proofs.Polynomial.{digits-value}
 use Rattle.code.proofs.Remainder.{codeword-remainder, remainder-codeword, remainder-value}
 use Rattle.code.proofs.Dividend.{remainder-xor, remainder-digits}
 use Rattle.code.proofs.Repair.{repaired, repaired-length, repaired-at, repaired-coefficient, repaired-distance, repaired-near, recheck-codeword, codeword-recheck, near-repaired}
-use Rattle.code.proofs.Flips.{Below, marks, marks-ascending, marks-power-sum, flipped-length, flipped-repaired, ascending-length, ascending-below}
-use Rattle.code.proofs.Ascending.{Rising, ascending-flipped}
+use Rattle.code.proofs.Flips.{Below, marks, each-below, marks-descending, marks-power-sum, flipped-length, flipped-repaired, descending-length, descending-below}
+use Rattle.code.proofs.Descending.{Falling, falling-each, descending-falling, descending-flipped}
 
 -- ---- the listing of a set: what holds of it in any order
 
 pub listed-length : (s : Word) → length (listed s) ≡ ones s
 unfolding listed
-listed-length s = ascending-length s
+listed-length s = descending-length s
 
 pub listed-below : (s : Word) → Below (length s) (listed s)
 unfolding listed
-listed-below s = ascending-below s
+listed-below s = descending-below s
 
 repaired-cong : (w : Word) (e e' : ℕ → Bool) → ((p : ℕ) → p < length w → e p ≡ e' p) → repaired w e ≡ repaired w e'
 repaired-cong w e e' h = coefficient-ext _ _ (repaired-length w e ∙ sym (repaired-length w e')) (λ p l.
@@ -54,19 +54,32 @@ repaired-cong w e e' h = coefficient-ext _ _ (repaired-length w e ∙ sym (repai
 
 pub listed-flipped : (w s : Word) → length s ≡ length w → flipped w (listed s) ≡ repaired w (coefficient s)
 unfolding listed
-listed-flipped w s l = flipped-repaired w (ascending s) ∙ repaired-cong w _ _ (λ p k. marks-ascending s p (omega arith))
+listed-flipped w s l = flipped-repaired w (descending s) ∙ repaired-cong w _ _ (λ p k. marks-descending s p (omega arith))
 
 pub listed-power-sum : (f : Field) (s : Word) (j : ℕ) → el f (power-sum (gf f) (a f) (coefficient s) (length s) j) ≡ powerSum f (listed s) (suc j)
 unfolding listed
 listed-power-sum f s j =
-    ap (el f) (sym (power-sum-cong (gf f) (a f) (marks (ascending s)) (coefficient s) (length s) j (marks-ascending s)))
-    ∙ marks-power-sum f (length s) (ascending s) j (ascending-below s)
+    ap (el f) (sym (power-sum-cong (gf f) (a f) (marks (descending s)) (coefficient s) (length s) j (marks-descending s)))
+    ∙ marks-power-sum f (length s) (descending s) j (descending-below s)
 
 -- ---- and in the order of the listing
 
-pub listed-flips : (n : ℕ) (ps : List ℕ) → Rising 0 ps → Below n ps → listed (flipped (replicate n false) ps) ≡ ps
+-- Each listed exponent is smaller than the one before.
+pub listed-falls : (s : Word) (i j : ℕ) → i < j → j < length (listed s) → getD (listed s) j 0 < getD (listed s) i 0
 unfolding listed
-listed-flips n ps r b = ascending-flipped n ps r b
+listed-falls s = falling-each (length s) (descending s) (descending-falling s)
+
+-- So a page is walked forward: in a block of n bits the exponent p is at the place n - 1 - p.
+pub listed-forward : (s : Word) (i j : ℕ) → i < j → j < length (listed s)
+    → length s - 1 - getD (listed s) i 0 < length s - 1 - getD (listed s) j 0
+listed-forward s i j l k =
+    let m : getD (listed s) j 0 < getD (listed s) i 0 = listed-falls s i j l k in
+    let b : getD (listed s) i 0 < length s = each-below (length s) (listed s) (listed-below s) i (omega arith) in
+    omega arith
+
+pub listed-flips : (n : ℕ) (ps : List ℕ) → Falling n ps → listed (flipped (replicate n false) ps) ≡ ps
+unfolding listed
+listed-flips n ps r = descending-flipped n ps r
 
 -- ---- a set and the word that it is flipped in
 
@@ -283,10 +296,10 @@ module _ (f : Field) (t n r : ℕ) (fits : Fits f t n) (low : r < 2 ^ (degree f 
       sym (el-syndrome j) ∙ ap (el f) (locates-recheck syndrome (λ j k. el-syndrome j) (coefficient s) (rw (← x .below, marked-self s) (rw (x .below) x)) j l)
       ∙ ap (λ n. el f (power-sum (gf f) (a f) (coefficient s) n j)) (sym (x .below)) ∙ listed-power-sum f s j
 
-  -- A list that ascends and passes the recheck, whatever proposed it, is the answer.
-  pub locate-list : (ps : List ℕ) → Rising 0 ps → Below n ps → length ps ≤ t
+  -- A list that descends from below n and passes the recheck, whatever proposed it, is the answer.
+  pub locate-list : (ps : List ℕ) → Falling n ps → length ps ≤ t
       → ((i : ℕ) → i < t → value f (digits r (degree f * t)) (a^ f (suc (i + i))) ≡ powerSum f ps (suc (i + i))) → locate f t n r ≡ exponents ps
-  locate-list ps rising below few h =
+  locate-list ps falling few h =
       let s : Word = flipped (replicate n false) ps in
-      let e : listed s ≡ ps = listed-flips n ps rising below in
+      let e : listed s ≡ ps = listed-flips n ps falling in
       locate-exponents f t n r s fits (recheck-set s (flipped-length (replicate n false) ps ∙ length-replicate n false) (rw (← listed-length s, e) few) (λ i l. h i l ∙ rw e)) ∙ ap exponents e

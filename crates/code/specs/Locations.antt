@@ -18,7 +18,7 @@ use lib.Bits.{bitXor}
 use Rattle.bits.specs.Bits.{digit}
 use Rattle.field.specs.declared.Field.{Field}
 use Rattle.field.specs.Field.{a^}
-use Rattle.code.specs.Word.{Word, apart, distance, ones, ascending}
+use Rattle.code.specs.Word.{Word, apart, distance, ones, descending}
 use Rattle.code.specs.Generator.{remainder}
 use Rattle.code.specs.Search.{search}
 
@@ -46,9 +46,9 @@ located f t n r = elim (search (λ s. remainder f t s ≡ r) (λ s. ℕ-discrete
   ))
 ]
 
--- Document 01 lists exponents ascending.
+-- From the highest exponent down, so that the places in a page ascend (document 02, E5, which amends document 01's "ascending").
 unfoldable pub listed : Word → List ℕ
-listed = ascending
+listed = descending
 
 pub data Locations : Type 0 where
   exponents : List ℕ → Locations

@@ -8,9 +8,9 @@
 -- turned w p        the word with the coefficient of x^p turned over
 -- flipped w ps      the word with the coefficient of x^p turned over for each p of a list
 -- Below n ps        each exponent of a list is below n
--- ascending w       the exponents at which a word has a one, the lowest first
+-- descending w      the exponents at which a word has a one, the highest first
 use mathlib.Core.Bool.{Bool, true, false, cond}
-use mathlib.Core.List.{List, [], _∷_, _++_}
+use mathlib.Core.List.{List, [], _∷_}
 use Prim.Native.Nat.{ℕ, _+_, _<_}
 use lib.ListN.{length}
 use lib.Dec.{eqb}
@@ -51,7 +51,7 @@ pub data Below (n : ℕ) : List ℕ → Type 0 where
   none : Below n []
   one : {p : ℕ} {ps : List ℕ} → p < n → Below n ps → Below n (p ∷ ps)
 
--- The first bit of b ∷ w, with the highest exponent, comes last.
-unfoldable pub ascending : Word → List ℕ
-ascending [] = []
-ascending (b ∷ w) = ascending w ++ cond b (length w ∷ []) []
+-- The first bit of b ∷ w has the highest exponent.
+unfoldable pub descending : Word → List ℕ
+descending [] = []
+descending (b ∷ w) = cond b (length w ∷ descending w) (descending w)

@@ -17,7 +17,7 @@
 //   Polynomial, Minimal, Conjugates     numbers as polynomials; the computed tests are in MinimalTest and ConjugatesTest
 //   Generator, Unique                   the product of the minimal polynomials is the generator, of degree m t, and the only one
 //   Remainder, Dividend                 remainder 0 is codeword; parity; syndromes from the remainder; sums, cuts and leading zeros
-//   Repair, Flips, Ascending, Locations the recheck, completeness of the decoder, locating from a remainder and reading by it
+//   Repair, Flips, Descending, Locations the recheck, completeness of the decoder, locating from a remainder and reading by it
 //   Register, Rows                      the tables of generators
 //
 // The code:

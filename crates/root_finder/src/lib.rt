@@ -1,7 +1,7 @@
 // The roots of an error locator, fast: Berlekamp's trace algorithm. Nothing is promised but that it is safe and ends: the caller
 // rechecks what is proposed, and has a complete search behind it. So every index into a table is taken modulo the table's length.
 //
-//   find_roots    the exponents p, ascending, for which a^p is a root
+//   find_roots    the exponents p, the highest first, for which a^p is a root
 //
 // 1. A factor of degree 1 is read off, one of degree 2 solved by stored solutions of y^2 + y = v (quadratic.rt).
 // 2. A larger polynomial has all its roots in the field, and distinct, only if x^(2^m) modulo f is x; else there is nothing to
@@ -78,7 +78,7 @@ fn split_fully(
     false
 }
 
-// Puts p into the ascending list of the first `count` places.
+// Puts p into the descending list of the first `count` places.
 fn insert(places: &mut [u16], count: usize, p: u16)
     requires { ⌜ (count < 64) × (length (now places) ≡ 64) ⌝ }
     ensures { λ r. ⌜ length (now (places .exit)) ≡ length (now (places .entry)) ⌝ }
@@ -86,7 +86,7 @@ fn insert(places: &mut [u16], count: usize, p: u16)
     let mut k = count;
     while 0 < k {
         let before = places[k - 1];
-        if before < p {
+        if p < before {
             places[k] = p;
             return;
         }
@@ -140,7 +140,7 @@ fn read_off(
     places
 }
 
-// Proposes the places p, ascending, for which a^p is a root of c_0 x^len + .. + c_len, where c_0 is 1. Where it finds no
+// Proposes the places p, the highest first, for which a^p is a root of c_0 x^len + .. + c_len, where c_0 is 1. Where it finds no
 // `len` roots the places are of no meaning.
 pub fn find_roots(
     f: Field,

@@ -3,26 +3,24 @@
 -- Adding f s p i e v     v is s with the powers of one exponent p added for the i first odd j, and a^e is the next power
 -- Squaring f s i v       v is s with the i first squares in place
 use mathlib.Core.Path.{_≡_, refl, sym, ap, ap₂, _∙_}
-use mathlib.Core.Bool.{Bool, cond}
+use mathlib.Core.Bool.{Bool}
 use mathlib.Core.List.{List, [], _∷_, _++_}
 use Prim.Native.Nat.{ℕ, zero, suc, _+_, _*_, _/_, _≤_, _<_}
 use native.Mathlib.Nat.{one-mul, add-mul}
 use native.Mathlib.Numerals.{add-one}
 use native.Mathlib.Omega.{arith}
 use native.Mathlib.Decide.{decLt, ℕ-discrete}
-use lib.Dec.{eqb}
 use lib.Bits.{bitXor, xor-lt, xor-self, xor-zero-r}
 use lib.ListN.{length, getD, set, take, replicate}
 use lib.Seq.{take-suc, getD-set-same, getD-set-other}
-use Rattle.bits.specs.Bits.{bit, digits}
-use Rattle.bits.proofs.Numbers.{digits-length}
+use Rattle.bits.specs.Bits.{digits}
 use Rattle.field.specs.declared.Field.{Field}
 use Rattle.field.specs.Field.{degree, modulus, longest, mul, product, a^, Elem}
 use Rattle.field.proofs.Xor.{xor-assoc, xor-eq}
 use Rattle.field.proofs.Order.{a^-below, a^-add}
 use Rattle.field.proofs.Primitive.{primitive}
 use Rattle.powers.specs.Powers.{Powers}
-use Rattle.code.specs.Word.{Word, ascending}
+use Rattle.code.specs.Word.{Word, descending}
 use Rattle.code.specs.Code.{value}
 use Rattle.code.specs.Locations.{listed, powerSum}
 use Rattle.code.proofs.Codeword.{value-square}
@@ -102,12 +100,6 @@ module _ (f : Field) where
         (λ z. record { sums = λ i l. xor-eq _ _ (sym (h .sums i l) ∙ z i l) })
         (λ g i l. h .sums i l ∙ rw (g .sums i l) (xor-self (powerSum f ps (suc (i + i)))))
 
-    -- ---- the terms of a remainder x
-
-    pub term-next : (x p : ℕ) → ascending (digits x (p + 1)) ≡ ascending (digits x p) ++ cond (eqb (bit x p) 1) (p ∷ []) []
-    unfolding ascending digits
-    term-next x p = rw (add-one p, digits-length x p)
-
   -- ---- the squares
 
   pub record Squaring (s : List ℕ) (i : ℕ) (v : List ℕ) : Type 0 where
@@ -141,11 +133,11 @@ module _ (f : Field) where
 
   -- ---- the syndromes
 
-  pub listed-value : (w : Word) (j : ℕ) → powerSum f (ascending w) (suc j) ≡ value f w (a^ f (suc j))
+  pub listed-value : (w : Word) (j : ℕ) → powerSum f (descending w) (suc j) ≡ value f w (a^ f (suc j))
   unfolding listed
   listed-value w j = sym (listed-power-sum f w j) ∙ sym (value-power-sum f w j)
 
-  pub syndromes-made : {v s : List ℕ} (t x : ℕ) → Summed f t (replicate 128 0) (ascending (digits x (degree f * t))) v → Squared f t v s → Syndromes f t x s
+  pub syndromes-made : {v s : List ℕ} (t x : ℕ) → Summed f t (replicate 128 0) (descending (digits x (degree f * t))) v → Squared f t v s → Syndromes f t x s
   syndromes-made {v} {s} t x h g = record { elements = g .elements; values = λ j l. values (suc j) j (omega arith) l }
     where
       odd : (i : ℕ) → i < t → getD s (i + i) 0 ≡ value f (digits x (degree f * t)) (a^ f (suc (i + i)))

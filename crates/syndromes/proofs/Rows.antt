@@ -6,10 +6,9 @@
 -- Raising f t s i e v     the i first lanes of s are multiplied
 use mathlib.Core.Path.{_≡_, refl, sym, ap, ap₂, _∙_, subst}
 use mathlib.Core.Bool.{cond}
-use mathlib.Core.List.{List, [], _∷_, _++_, append-nil}
+use mathlib.Core.List.{List, _∷_}
 use Prim.Native.Nat.{ℕ, zero, suc, _+_, _-_, _*_, _/_, _%_, _^_, _≤_, _<_}
 use native.Mathlib.Nat.{one-mul, add-mul, mul-comm, mul-add, add-zero, zero-mul, zero-add, pow-suc, mul-assoc, mul-le-mul, zero-div, add-comm, mod-lt, mod-eq-of-lt, div-one}
-use native.Mathlib.Numerals.{add-one}
 use native.Mathlib.Omega.{arith}
 use native.Mathlib.Decide.{decLt, ℕ-discrete}
 use borrow.Author.Tests.{eq-eqb, ne-eqb}
@@ -20,7 +19,7 @@ use lib.ListN.{length, getD, set, replicate, length-set, length-replicate}
 use lib.Pow.{pow-pos, split, shr-shr}
 use lib.Seq.{getD-set-same, getD-set-other}
 use Rattle.bits.specs.Bits.{bit, digits}
-use Rattle.bits.proofs.Numbers.{bit-low, bit-high, bit-shift, bit-mod, bit-ext, bit-zero}
+use Rattle.bits.proofs.Numbers.{digits-length, bit-low, bit-high, bit-shift, bit-mod, bit-ext, bit-zero}
 use Rattle.field.specs.declared.Field.{Field}
 use Rattle.field.specs.declared.Field.the-variants.{Thirteen, Fourteen}
 use Rattle.field.specs.Field.{degree, modulus, longest, mul, product, a^, Elem}
@@ -29,7 +28,7 @@ use Rattle.field.proofs.Order.{a^-below, a^-add}
 use Rattle.field.proofs.Primitive.{primitive, usable}
 use Rattle.field.proofs.Multiply.{mul-add-left, mul-zero-left}
 use Rattle.powers.specs.Powers.{Powers}
-use Rattle.code.specs.Word.{ascending}
+use Rattle.code.specs.Word.{descending}
 use Rattle.code.specs.Code.{value}
 use Rattle.code.specs.Locations.{powerSum}
 use Rattle.code.specs.Register.{register}
@@ -37,7 +36,6 @@ use Rattle.remainder.proofs.Words.{Words, register-bit}
 use Rattle.series.specs.Series.{Elements}
 use Rattle.syndromes.specs.PowerSums.{Summed}
 use Rattle.syndromes.specs.Lanes.{terms, Rows, Rowed, Lanes, Raised, Added, Scanned, Spread, Filled}
-use Rattle.syndromes.proofs.PowerSums.{powerSum-append, term-next}
 use Rattle.series.proofs.Arrays.{zeros-at}
 
 -- ---- the value of the lowest terms of a number
@@ -50,28 +48,32 @@ unfolding digits
 digits-same x y zero h = refl
 digits-same x y (suc n) h = ap₂ (λ b w. eqb b 1 ∷ w) (h n (omega arith)) (digits-same x y n (λ k l. h k (omega arith)))
 
+term-next : (x p : ℕ) → descending (digits x (suc p)) ≡ cond (eqb (bit x p) 1) (p ∷ descending (digits x p)) (descending (digits x p))
+unfolding descending digits
+term-next x p = rw (digits-length x p)
+
 module _ (f : Field) (j : ℕ) where
   pub terms-same : (x y n : ℕ) → ((k : ℕ) → k < n → bit x k ≡ bit y k) → terms f x n j ≡ terms f y n j
   unfolding terms
-  terms-same x y n h = ap (λ w. powerSum f (ascending w) j) (digits-same x y n h)
+  terms-same x y n h = ap (λ w. powerSum f (descending w) j) (digits-same x y n h)
 
   pub terms-none : (x : ℕ) → terms f x 0 j ≡ 0
-  unfolding terms powerSum ascending digits
+  unfolding terms powerSum descending digits
   terms-none x = refl
 
   pub terms-one : (x n : ℕ) → bit x n ≡ 1 → terms f x (suc n) j ≡ bitXor (terms f x n j) (a^ f (j * n))
   unfolding terms powerSum
   terms-one x n e =
-      let q : ascending (digits x n) ++ cond (eqb (bit x n) 1) (n ∷ []) [] ≡ ascending (digits x n) ++ (n ∷ []) = rw (eq-eqb (bit x n) 1 e) refl in
-      ap (λ w. powerSum f w j) (ap (λ k. ascending (digits x k)) (sym (add-one n)) ∙ term-next f 0 x n ∙ q)
-      ∙ powerSum-append f (ascending (digits x n)) (n ∷ []) j
-      ∙ ap (bitXor (powerSum f (ascending (digits x n)) j)) (xor-zero-r (a^ f (j * n)))
+      let ps = descending (digits x n) in
+      let q : cond (eqb (bit x n) 1) (n ∷ ps) ps ≡ n ∷ ps = rw (eq-eqb (bit x n) 1 e) refl in
+      ap (λ w. powerSum f w j) (term-next x n ∙ q) ∙ xor-comm (a^ f (j * n)) (powerSum f ps j)
 
   pub terms-zero : (x n : ℕ) → (bit x n ≡ 1 → ⊥) → terms f x (suc n) j ≡ terms f x n j
   unfolding terms
   terms-zero x n e =
-      let q : ascending (digits x n) ++ cond (eqb (bit x n) 1) (n ∷ []) [] ≡ ascending (digits x n) = rw (ne-eqb (bit x n) 1 e) (append-nil (ascending (digits x n))) in
-      ap (λ w. powerSum f w j) (ap (λ k. ascending (digits x k)) (sym (add-one n)) ∙ term-next f 0 x n ∙ q)
+      let ps = descending (digits x n) in
+      let q : cond (eqb (bit x n) 1) (n ∷ ps) ps ≡ ps = rw (ne-eqb (bit x n) 1 e) refl in
+      ap (λ w. powerSum f w j) (term-next x n ∙ q)
 
   pub terms-of-zero : (n : ℕ) → terms f 0 n j ≡ 0
   unfolding bit
@@ -453,9 +455,9 @@ module _ (f : Field) where
   pub spread-elements : {lanes v : List ℕ} (t x n : ℕ) → Lanes f t x n lanes → Spread t lanes v → Elements f v
   spread-elements t x n h g = record { full = g .full; small = g .small (2 ^ degree f) (pow-pos (degree f)) (lanes-below f t h) }
 
-  pub lanes-summed : {lanes v : List ℕ} (t x n : ℕ) → Lanes f t x n lanes → Spread t lanes v → Summed f t (replicate 128 0) (ascending (digits x n)) v
+  pub lanes-summed : {lanes v : List ℕ} (t x n : ℕ) → Lanes f t x n lanes → Spread t lanes v → Summed f t (replicate 128 0) (descending (digits x n)) v
   unfolding terms
   lanes-summed t x n h g = record {
     elements = spread-elements t x n h g;
-    sums = λ i l. g .at i l ∙ h .lane i l ∙ sym (ap (λ z. bitXor z (powerSum f (ascending (digits x n)) (suc (i + i)))) (zeros-at 128 (i + i)) ∙ xor-zero-l _);
+    sums = λ i l. g .at i l ∙ h .lane i l ∙ sym (ap (λ z. bitXor z (powerSum f (descending (digits x n)) (suc (i + i)))) (zeros-at 128 (i + i)) ∙ xor-zero-l _);
   }

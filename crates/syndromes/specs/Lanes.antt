@@ -18,11 +18,11 @@ use Rattle.bits.specs.Bits.{digits}
 use Rattle.field.specs.declared.Field.{Field}
 use Rattle.field.specs.Field.{degree, modulus, mul, a^}
 use Rattle.powers.specs.Powers.{Powers}
-use Rattle.code.specs.Word.{ascending}
+use Rattle.code.specs.Word.{descending}
 use Rattle.code.specs.Locations.{powerSum}
 
 unfoldable pub terms : Field → ℕ → ℕ → ℕ → ℕ
-terms f x n j = powerSum f (ascending (digits x n)) j
+terms f x n j = powerSum f (descending (digits x n)) j
 
 module _ (f : Field) (t : ℕ) where
   pub record Rows (n : ℕ) (rows : List ℕ) : Type 0 where

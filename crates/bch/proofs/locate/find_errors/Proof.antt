@@ -104,33 +104,38 @@ returns-5 c =
     let sums = c .before .before .before .before .before .before .before .before .before .before .before .before .before .before .before .before .syndromes .ensures in
     let recurs = c .before .before .before .before .before .before .before .before .before .before .before .before .before .before .shortest .ensures in
     let places = c .before .before .before .locate in
-    let room : length (places .result .exponents) ≡ 64 = search needs in
     let e = c .no-exponents4 .ensures in
-    finds-none _ _ _ _ _ (few-nowhere _ _ _ _ (s .pre .1) short sums recurs (omega (arith, s .pre .1 .fits .level, places .ensures .0, c .before .before .before .before .before .before .before .before .before .before .before .before .if2 .left)) (places .ensures .1) (c .before .if5 .taken)) (e .0) (e .1) (e .2)
+    finds-none _ _ _ _ _ (few-nowhere _ _ _ _ (s .pre .1) short sums recurs (places .ensures .1) (c .before .if5 .taken)) (e .0) (e .1) (e .2)
+
+reversed-requires : tie.Need-reversed-requires
+reversed-requires c κs =
+    let places = c .before .before .locate in
+    let s = c .before .before .before .before .before .before .before .before .before .before .before .before .before .before .before .before .before .before in
+    omega (arith, s .pre .1 .fits .level, places .ensures .0, c .before .before .before .before .before .before .before .before .before .before .before .if2 .left)
 
 sums-agree-requires : tie.Need-sums-agree-requires
 sums-agree-requires c κs =
-    let s = c .before .before .before .before .before .before .before .before .before .before .before .before .before .before .before .before .before .before in
-    let short = nonzero-short (s .pre .1) (c .before .before .before .before .before .before .before .before .before .before .before .before .before .before .before .before .before .is-zero .ensures) (c .before .before .before .before .before .before .before .before .before .before .before .before .before .before .before .before .if1 .left) in
-    let sums = c .before .before .before .before .before .before .before .before .before .before .before .before .before .before .before .syndromes .ensures in
-    let recurs = c .before .before .before .before .before .before .before .before .before .before .before .before .before .shortest .ensures in
-    let places = c .before .before .locate in (
-      record { at = s .pre .0 .powers-at },
-      (s .pre .1 .fits .level, sums .elements, omega (arith, s .pre .1 .fits .level, places .ensures .0, c .before .before .before .before .before .before .before .before .before .before .before .if2 .left), λ k l. omega (arith, places .ensures .1 .lists .below k l)),
-    )
-
-returns-6 : tie.Need-returns-6
-returns-6 c =
     let s = c .before .before .before .before .before .before .before .before .before .before .before .before .before .before .before .before .before .before .before in
     let short = nonzero-short (s .pre .1) (c .before .before .before .before .before .before .before .before .before .before .before .before .before .before .before .before .before .before .is-zero .ensures) (c .before .before .before .before .before .before .before .before .before .before .before .before .before .before .before .before .before .if1 .left) in
     let sums = c .before .before .before .before .before .before .before .before .before .before .before .before .before .before .before .before .syndromes .ensures in
     let recurs = c .before .before .before .before .before .before .before .before .before .before .before .before .before .before .shortest .ensures in
-    let places = c .before .before .before .locate in
-    let room : length (places .result .exponents) ≡ 64 = search needs in
-    let few : places .result .count ≤ s .args .t = omega (arith, s .pre .1 .fits .level, places .ensures .0, c .before .before .before .before .before .before .before .before .before .before .before .before .if2 .left) in
-    finds-list _ _ _ _ _ few room (c .sums-agree .ensures)
-    (λ agrees. agreed-located _ _ _ _ (s .pre .1) short sums recurs (omega arith) (places .ensures .1) agrees few)
-    (λ wrong. wrong-nowhere _ _ _ _ (s .pre .1) short sums recurs (omega arith) (places .ensures .1) wrong)
+    let places = c .before .before .before .locate in (
+      record { at = s .pre .0 .powers-at },
+      (s .pre .1 .fits .level, sums .elements, omega (arith, s .pre .1 .fits .level, places .ensures .0, c .before .before .before .before .before .before .before .before .before .before .before .before .if2 .left), λ k l. rw (c .before .reversed .ensures .at k l) (omega (arith, places .ensures .1 .lists .below _ (omega arith)))),
+    )
+
+returns-6 : tie.Need-returns-6
+returns-6 c =
+    let s = c .before .before .before .before .before .before .before .before .before .before .before .before .before .before .before .before .before .before .before .before in
+    let short = nonzero-short (s .pre .1) (c .before .before .before .before .before .before .before .before .before .before .before .before .before .before .before .before .before .before .before .is-zero .ensures) (c .before .before .before .before .before .before .before .before .before .before .before .before .before .before .before .before .before .before .if1 .left) in
+    let sums = c .before .before .before .before .before .before .before .before .before .before .before .before .before .before .before .before .before .syndromes .ensures in
+    let recurs = c .before .before .before .before .before .before .before .before .before .before .before .before .before .before .before .shortest .ensures in
+    let places = c .before .before .before .before .locate in
+    let few : places .result .count ≤ s .args .t = omega (arith, s .pre .1 .fits .level, places .ensures .0, c .before .before .before .before .before .before .before .before .before .before .before .before .before .if2 .left) in
+    let turned = c .before .reversed .ensures in
+    finds-list _ _ _ _ _ few (turned .full) (c .sums-agree .ensures)
+    (λ agrees. agreed-located _ _ _ _ (s .pre .1) short sums recurs (places .ensures .1) (omega (arith, turned .full)) turned agrees few)
+    (λ wrong. wrong-nowhere _ _ _ _ (s .pre .1) short sums recurs (places .ensures .1) (omega (arith, turned .full)) turned wrong)
 
 pub find-errors-spec : {M : Type 1} → statement M
 find-errors-spec =
@@ -152,5 +157,6 @@ find-errors-spec =
     locate-requires
     no-exponents-requires-4
     returns-5
+    reversed-requires
     sums-agree-requires
     returns-6)

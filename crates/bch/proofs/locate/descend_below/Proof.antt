@@ -1,18 +1,18 @@
--- `bch::locate::ascend_below` meets its contract.
+-- `bch::locate::descend_below` meets its contract.
 use mathlib.Core.Path.{_≡_}
 use Prim.Native.Nat.{_-_, _≤_}
 use native.Mathlib.Omega.{arith}
 use borrow.Author.Needs.{needs}
 use Rattle.bits.proofs.Decides.{decides-true, decides-false}
-use Rattle.bch.proofs.Locating.{Ordered, ordered-start, ordered-next, ordered-low, ordered-high}
-use Rattle.bch.proofs.locate.ascend_below.Statement.{statement}
-use Rattle.bch.proofs.locate.ascend_below.Tie as tie
+use Rattle.bch.proofs.Locating.{Ordered, ordered-start, ordered-next, ordered-high}
+use Rattle.bch.proofs.locate.descend_below.Statement.{statement}
+use Rattle.bch.proofs.locate.descend_below.Tie as tie
 
 abbrev Inv-loop : tie.InvT-loop
-Inv-loop places count n least₀ k₀ least k = (k ≤ count) × (Ordered n k least places)
+Inv-loop places count n bound₀ k₀ bound k = (k ≤ count) × (Ordered n k bound places)
 
 abbrev μ-loop : tie.MeasureT-loop
-μ-loop places count n least₀ k₀ least k = count - k
+μ-loop places count n bound₀ k₀ bound k = count - k
 
 loop-holds : tie.Need-loop-holds Inv-loop μ-loop
 loop-holds c = (omega arith, ordered-start _ _)
@@ -28,14 +28,7 @@ place-requires c κs = search needs
 
 returns : tie.Need-returns Inv-loop μ-loop
 returns c = let l = c .before .before .before .before in
-    decides-false (ordered-low _ (l .loop .inv .1) (omega arith) (omega (arith, c .before .place .ensures)))
-
-returns-2 : tie.Need-returns-2 Inv-loop μ-loop
-returns-2 c = let l = c .before .before .before .before .before in
-    decides-false (ordered-high _ (l .loop .inv .1) (omega arith) (omega (arith, c .before .before .place .ensures)))
-
-add-least : tie.Need-add-least Inv-loop μ-loop
-add-least c = search needs
+    decides-false (ordered-high _ (l .loop .inv .1) (omega arith) (omega (arith, c .before .place .ensures)))
 
 add-k : tie.Need-add-k Inv-loop μ-loop
 add-k c = search needs
@@ -45,17 +38,17 @@ loop-less c = search needs
 
 loop-again : tie.Need-loop-again Inv-loop μ-loop
 loop-again c =
-    let l = c .before .before .before .before .before in
-    let e = c .before .before .place .ensures in
-    (omega arith, rw e (ordered-next _ (l .loop .inv .1) (omega arith) (omega arith)))
+    let l = c .before .before .before .before in
+    let e = c .before .place .ensures in
+    (omega arith, rw e (ordered-next _ (l .loop .inv .1) (omega arith)))
 
-returns-3 : tie.Need-returns-3 Inv-loop μ-loop
-returns-3 c =
+returns-2 : tie.Need-returns-2 Inv-loop μ-loop
+returns-2 c =
     let e : c .before .loop .k ≡ c .before .before .args .count = omega arith in
     decides-true (rw e at (c .before .loop .inv .1 .order))
 
-pub ascend-below-spec : {M : Type 1} → statement M
-ascend-below-spec =
+pub descend-below-spec : {M : Type 1} → statement M
+descend-below-spec =
     tie.close
     (tie.spec
     Inv-loop
@@ -65,9 +58,7 @@ ascend-below-spec =
     element-copy-out-place
     place-requires
     returns
-    returns-2
-    add-least
     add-k
     loop-less
     loop-again
-    returns-3)
+    returns-2)
