@@ -1,5 +1,4 @@
 // The help.
-use crate::say;
 
 pub fn unknown() {
     say::error(

@@ -1,32 +1,14 @@
 // nandpage: NAND pages at a desk. A command line over the library's calls, on files and hexadecimal words (docs/TOOL.md).
 //
-//   arguments.rt   what the arguments say
-//   files.rt       files, read into buffers and written from them
-//   say.rt         what is printed: answers on standard output, errors on standard error
-//   help.rt        the help
-//   layouts.rt     the commands layout and bits
-//   writing.rt     the command write
-//   reading.rt     the command read
-//   dumping.rt     a dump of many pages, read page by page
-//   judging.rt     the command judge
-//   locating.rt    the command locate
-//   fragmenting.rt   the command fragments
-//   claiming.rt    the command claim
+//   main.rt   which command is asked for
+//   help.rt   the help
+//
+// The commands are libraries: layout_commands, page_commands, read_command and locator_commands. They stand on `arguments` (what
+// the arguments say), `files` (files, read into buffers and written from them), `say` (what is printed) and `text`.
 //
 // Each command prints one answer that starts with `reply` and document 01's number, or one error line and no reply. What is
 // answered comes from the proved calls; here it is only put into words.
-mod arguments;
-mod claiming;
-mod dumping;
-mod files;
-mod fragmenting;
 mod help;
-mod judging;
-mod layouts;
-mod locating;
-mod reading;
-mod say;
-mod writing;
 
 // What the first argument asks for.
 enum Command {
@@ -81,14 +63,14 @@ fn command_of(name: &[u8]) -> Command {
 
 fn run(command: Command) {
     match command {
-        Command::Layout => layouts::layout(),
-        Command::Bits => layouts::bits(),
-        Command::Write => writing::write(),
-        Command::Read => reading::read(),
-        Command::Judge => judging::judge(),
-        Command::Locate => locating::locate(),
-        Command::Fragments => fragmenting::fragments(),
-        Command::Claim => claiming::claim(),
+        Command::Layout => layout_commands::layout(),
+        Command::Bits => layout_commands::bits(),
+        Command::Write => page_commands::write(),
+        Command::Read => read_command::read(),
+        Command::Judge => page_commands::judge(),
+        Command::Locate => locator_commands::locate(),
+        Command::Fragments => locator_commands::fragments(),
+        Command::Claim => page_commands::claim(),
         Command::Help => help::all(),
         Command::Unknown => help::unknown(),
     }

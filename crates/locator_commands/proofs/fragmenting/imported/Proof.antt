@@ -1,0 +1,67 @@
+-- `locator_commands::fragmenting::imported` meets its contract.
+use Prim.Native.Nat.{_≤_, _-_}
+use lib.ListN.{length}
+use borrow.Author.Needs.{needs}
+use Rattle.locator_commands.proofs.fragmenting.imported.Statement.{statement}
+use Rattle.locator_commands.proofs.fragmenting.imported.Tie as tie
+
+abbrev Inv-loop : tie.InvT-loop
+Inv-loop remainder i₀ t4 i = i ≤ length remainder
+
+abbrev μ-loop : tie.MeasureT-loop
+μ-loop remainder i₀ t4 i = length remainder - i
+
+reply-requires : tie.Need-reply-requires Inv-loop μ-loop
+reply-requires c κs = search needs
+
+slice-aggregate-text : tie.Need-slice-aggregate-text Inv-loop μ-loop
+slice-aggregate-text c = search needs
+
+text-requires : tie.Need-text-requires Inv-loop μ-loop
+text-requires c κs = search needs
+
+loop-holds : tie.Need-loop-holds Inv-loop μ-loop
+loop-holds c = search needs
+
+shared-slice-read-hex-byte : tie.Need-shared-slice-read-hex-byte Inv-loop μ-loop
+shared-slice-read-hex-byte c = search needs
+
+hex-byte-requires : tie.Need-hex-byte-requires Inv-loop μ-loop
+hex-byte-requires c κs = search needs
+
+add-i : tie.Need-add-i Inv-loop μ-loop
+add-i c = search needs
+
+loop-less : tie.Need-loop-less Inv-loop μ-loop
+loop-less c = search needs
+
+loop-again : tie.Need-loop-again Inv-loop μ-loop
+loop-again c = search needs
+
+slice-aggregate-text-2 : tie.Need-slice-aggregate-text-2 Inv-loop μ-loop
+slice-aggregate-text-2 c = search needs
+
+text-requires-2 : tie.Need-text-requires-2 Inv-loop μ-loop
+text-requires-2 c κs = search needs
+
+returns : tie.Need-returns Inv-loop μ-loop
+returns c = search needs
+
+pub imported-spec : {M : Type 1} → statement M
+imported-spec =
+    tie.close
+    (tie.spec
+    Inv-loop
+    μ-loop
+    reply-requires
+    slice-aggregate-text
+    text-requires
+    loop-holds
+    shared-slice-read-hex-byte
+    hex-byte-requires
+    add-i
+    loop-less
+    loop-again
+    slice-aggregate-text-2
+    text-requires-2
+    returns)

@@ -1,0 +1,50 @@
+// The command judge.
+use files::Got;
+use layout::Plan;
+use page_judge::JudgeAnswer;
+use plans::Planned;
+use text::Number;
+
+fn flips(block: u64, n: u8) {
+    say::reply(0);
+    say::fact(b"block ", block, b", ");
+    say::fact(b"corrected bits ", n as u64, b"\n");
+}
+
+fn answer(record: &[u8], plan: Plan, page: &[u8], block: u64) {
+    match page_judge::judge_block(record, page, block) {
+        JudgeAnswer::Flips(n) => flips(block, n),
+        JudgeAnswer::Refused(reply) => say::page_refused(reply, plan, page.len()),
+        JudgeAnswer::Ruined(b) => {
+            say::ruined(b);
+            say::text(b"\n");
+        }
+    }
+}
+
+fn judge_in(record: &[u8], plan: Plan, block: u64) {
+    let mut page = io::large_buffer();
+    match files::page(4, &mut page) {
+        Got::Bytes(n) => answer(record, plan, text::front(&page, n), block),
+        Got::Failed => (),
+    }
+}
+
+// nandpage judge WORD0 WORD1 PAGE BLOCK
+pub fn judge() {
+    if !arguments::are(6, b"usage: nandpage judge WORD0 WORD1 PAGE BLOCK") {
+        return;
+    }
+    let Number::Is(block) = arguments::number(5, b"BLOCK") else {
+        return;
+    };
+    let Planned::Under {
+        first,
+        second,
+        plan,
+    } = plans::plan_of_words()
+    else {
+        return;
+    };
+    judge_in(&text::layout_record(first, second), plan, block);
+}
