@@ -1,6 +1,6 @@
 -- `bch::locate::find_errors` meets its contract.
 use mathlib.Core.Path.{_≡_, refl, sym, ap, _∙_}
-use Prim.Native.Nat.{_≤_}
+use Prim.Native.Nat.{_≤_, _-_}
 use native.Mathlib.Omega.{arith}
 use borrow.Author.Tests.{eqb-true}
 use borrow.Author.Needs.{needs}
@@ -109,29 +109,29 @@ returns-5 c =
 
 reversed-requires : tie.Need-reversed-requires
 reversed-requires c κs =
-    let places = c .before .before .locate in
-    let s = c .before .before .before .before .before .before .before .before .before .before .before .before .before .before .before .before .before .before in
-    omega (arith, s .pre .1 .fits .level, places .ensures .0, c .before .before .before .before .before .before .before .before .before .before .before .if2 .left)
+    let places = c .before .before .before .locate in
+    let s = c .before .before .before .before .before .before .before .before .before .before .before .before .before .before .before .before .before .before .before in
+    omega (arith, s .pre .1 .fits .level, places .ensures .0, c .before .before .before .before .before .before .before .before .before .before .before .before .if2 .left)
 
 sums-agree-requires : tie.Need-sums-agree-requires
 sums-agree-requires c κs =
-    let s = c .before .before .before .before .before .before .before .before .before .before .before .before .before .before .before .before .before .before .before in
-    let short = nonzero-short (s .pre .1) (c .before .before .before .before .before .before .before .before .before .before .before .before .before .before .before .before .before .before .is-zero .ensures) (c .before .before .before .before .before .before .before .before .before .before .before .before .before .before .before .before .before .if1 .left) in
-    let sums = c .before .before .before .before .before .before .before .before .before .before .before .before .before .before .before .before .syndromes .ensures in
-    let recurs = c .before .before .before .before .before .before .before .before .before .before .before .before .before .before .shortest .ensures in
-    let places = c .before .before .before .locate in (
-      record { at = s .pre .0 .powers-at },
-      (s .pre .1 .fits .level, sums .elements, omega (arith, s .pre .1 .fits .level, places .ensures .0, c .before .before .before .before .before .before .before .before .before .before .before .before .if2 .left), λ k l. rw (c .before .reversed .ensures .at k l) (omega (arith, places .ensures .1 .lists .below _ (omega arith)))),
-    )
-
-returns-6 : tie.Need-returns-6
-returns-6 c =
     let s = c .before .before .before .before .before .before .before .before .before .before .before .before .before .before .before .before .before .before .before .before in
     let short = nonzero-short (s .pre .1) (c .before .before .before .before .before .before .before .before .before .before .before .before .before .before .before .before .before .before .before .is-zero .ensures) (c .before .before .before .before .before .before .before .before .before .before .before .before .before .before .before .before .before .before .if1 .left) in
     let sums = c .before .before .before .before .before .before .before .before .before .before .before .before .before .before .before .before .before .syndromes .ensures in
     let recurs = c .before .before .before .before .before .before .before .before .before .before .before .before .before .before .before .shortest .ensures in
-    let places = c .before .before .before .before .locate in
-    let few : places .result .count ≤ s .args .t = omega (arith, s .pre .1 .fits .level, places .ensures .0, c .before .before .before .before .before .before .before .before .before .before .before .before .before .if2 .left) in
+    let places = c .before .before .before .before .locate in (
+      record { at = s .pre .0 .powers-at },
+      (s .pre .1 .fits .level, sums .elements, omega (arith, s .pre .1 .fits .level, places .ensures .0, c .before .before .before .before .before .before .before .before .before .before .before .before .before .if2 .left), λ k l. rw (c .reversed .ensures .at k l) (omega (arith, places .ensures .1 .lists .below (places .result .count - 1 - k) (omega (arith, l))))),
+    )
+
+returns-6 : tie.Need-returns-6
+returns-6 c =
+    let s = c .before .before .before .before .before .before .before .before .before .before .before .before .before .before .before .before .before .before .before .before .before in
+    let short = nonzero-short (s .pre .1) (c .before .before .before .before .before .before .before .before .before .before .before .before .before .before .before .before .before .before .before .before .is-zero .ensures) (c .before .before .before .before .before .before .before .before .before .before .before .before .before .before .before .before .before .before .before .if1 .left) in
+    let sums = c .before .before .before .before .before .before .before .before .before .before .before .before .before .before .before .before .before .before .syndromes .ensures in
+    let recurs = c .before .before .before .before .before .before .before .before .before .before .before .before .before .before .before .before .shortest .ensures in
+    let places = c .before .before .before .before .before .locate in
+    let few : places .result .count ≤ s .args .t = omega (arith, s .pre .1 .fits .level, places .ensures .0, c .before .before .before .before .before .before .before .before .before .before .before .before .before .before .if2 .left) in
     let turned = c .before .reversed .ensures in
     finds-list _ _ _ _ _ few (turned .full) (c .sums-agree .ensures)
     (λ agrees. agreed-located _ _ _ _ (s .pre .1) short sums recurs (places .ensures .1) (omega (arith, turned .full)) turned agrees few)
