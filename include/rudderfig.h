@@ -185,8 +185,9 @@ uint64_t rudderfig_import_fragments(uint64_t level_field, const uint32_t *fragme
 /*
  * The parity of one block whose message arrives in pieces. The caller keeps the state and lends it to each call; what is in it is the calls' own.
  * Any bytes may be in it before rudderfig_parity_start, and it may be copied and thrown away at any time. No refusal and no finish changes it: a
- * piece that was refused can be followed by another, and a message can be finished twice. A state that no start has made is refused with 7, or is
- * taken for what its numbers say; it does no harm.
+ * piece that was refused can be followed by another, and a message can be finished twice. A state that no start has made does no harm: where its
+ * numbers do not fit (a field choice, level field or length that a start refuses, more fed than the message has, a one above bit m * t - 1 of what
+ * is carried) feeding and finishing refuse it with 7; where they fit, the call goes on with it as what its numbers say.
  */
 struct rudderfig_parity {
     uint64_t words[18];
@@ -200,15 +201,15 @@ struct rudderfig_parity {
 uint64_t rudderfig_parity_start(struct rudderfig_parity *state, uint64_t level_field, uint64_t field_choice, uint64_t length);
 
 /*
- * Feeds one more piece of the message, of any length, 0 too. Reads the piece; writes the state, on reply 0 only. Replies 0; 7 for a state that no
- * start has made; 6 for a piece that would pass the length stated at the start, of which no part is taken. No value.
+ * Feeds one more piece of the message, of any length, 0 too. Reads the piece; writes the state, on reply 0 only. Replies 0; 7 for a state whose
+ * numbers do not fit, which no start has made; 6 for a piece that would pass the length stated at the start, of which no part is taken. No value.
  */
 uint64_t rudderfig_parity_feed(struct rudderfig_parity *state, const uint8_t *piece, size_t piece_len);
 
 /*
  * Finishes: the parity of the message, wherever it was cut, in exactly (m * t + 7) / 8 bytes, highest coefficient first, right-aligned. It is the
  * parity that rudderfig_write_page puts after that message. Writes all of `parity`, on reply 0 only; the state stays as it is. Replies 0; 7 for a
- * state that no start has made; 6 where the message is not whole yet, or the buffer has another length. No value.
+ * state whose numbers do not fit, which no start has made; 6 where the message is not whole yet, or the buffer has another length. No value.
  */
 uint64_t rudderfig_parity_finish(struct rudderfig_parity *state, uint8_t *parity, size_t parity_len);
 

@@ -7,6 +7,7 @@ use native.Mathlib.Omega.{arith}
 use borrow.Author.Tests.{ne-eqb, le-ltb}
 use lib.ListN.{length, getD}
 use Rattle.bits.specs.Bits.{bit}
+use Rattle.replies.specs.Replies.{number}
 use Rattle.remainder.specs.Remainder.{numberOf, bytesOf}
 use Rattle.fragments.specs.Fragments.{fragmentsOf, joined, Fragments}
 use Rattle.fragments.specs.Calls.{offered, coefficients, fitting, ending, reply, exportOf, importOf}
@@ -31,20 +32,20 @@ module _ (field : ℕ) (remainder fragments : List ℕ) where
 
   -- Another level is 1 both ways, whatever else is wrong.
   pub export-level : offered field ≡ false → exportOf field remainder fragments .reply ≡ 1
-  unfolding exportOf ending reply
+  unfolding exportOf ending reply number
   export-level h = rw h
 
   pub import-level : offered field ≡ false → importOf field fragments remainder .reply ≡ 1
-  unfolding importOf ending reply
+  unfolding importOf ending reply number
   import-level h = rw h
 
   -- Wrong lengths are 6, whatever the number.
   pub export-lengths : offered field ≡ true → fitting (coefficients field) (length remainder) (length fragments) ≡ false → exportOf field remainder fragments .reply ≡ 6
-  unfolding exportOf ending reply
+  unfolding exportOf ending reply number
   export-lengths h l = rw (h, l)
 
   pub import-lengths : offered field ≡ true → fitting (coefficients field) (length remainder) (length fragments) ≡ false → importOf field fragments remainder .reply ≡ 6
-  unfolding importOf ending reply
+  unfolding importOf ending reply number
   import-lengths h l = rw (h, l)
 
 -- ---- what is exported
@@ -85,7 +86,7 @@ module _ (field : ℕ) (fragments remainder : List ℕ) (f : Fragments fragments
     (lengths : fitting (coefficients field) (length remainder) (length fragments) ≡ true) where
   -- A one in an unused bit is 8.
   pub import-unused : (i k : ℕ) → i < 7 → k < 32 → coefficients field ≤ 32 * i + k → bit (getD fragments i 0) k ≡ 1 → importOf field fragments remainder .reply ≡ 8
-  unfolding importOf ending reply
+  unfolding importOf ending reply number
   import-unused i k h l u e = rw (level, lengths, le-ltb (joined fragments) (2 ^ coefficients field) (one-beyond fragments (coefficients field) i k f h l u e))
 
   -- So is a one in the start bit, at every level.

@@ -8,10 +8,12 @@ use Prim.Native.Nat.{ℕ, _^_, _≤_, _<_}
 use native.Mathlib.Omega.{arith}
 use borrow.Author.Tests.{eq-eqb, ne-eqb, eqb-true, lt-ltb, ltb-true}
 use lib.Dec.{eqb, ltb}
-use Rattle.fragments.specs.declared.Refusal.the-variants.{Level, Buffer, Coefficient}
+use Rattle.replies.specs.declared.Refusal.the-variants.{LevelTooHigh, BufferLength, RemainderTooWide}
+use Rattle.replies.specs.Replies.{number, block, unless}
+use Rattle.fragments.specs.declared.FragmentsAnswer.{FragmentsAnswer}
 use Rattle.fragments.specs.declared.FragmentsAnswer.the-variants.{Done, Refused}
 use Rattle.remainder.specs.Remainder.{bytesFor}
-use Rattle.fragments.specs.Calls.{levelOf, offered, coefficients, fitting, refusalReply, ended, ending, unless, reply}
+use Rattle.fragments.specs.Calls.{levelOf, offered, coefficients, fitting, ended, ending, reply}
 
 -- ---- the level field
 
@@ -66,19 +68,24 @@ module _ (bits bytes count : ℕ) where
 
 -- ---- how a call ends
 
+pub ended-lent : (a : FragmentsAnswer) (lent : List ℕ) → ended a lent .lent ≡ lent
+unfolding ended
+ended-lent Done lent = refl
+ended-lent (Refused r) lent = refl
+
 module _ (field bytes count x : ℕ) (after before : List ℕ) where
-  pub ends-level : offered field ≡ false → ended (Refused Level) before ≡ ending (reply field bytes count x) after before
-  unfolding ended refusalReply ending reply
+  pub ends-level : offered field ≡ false → ended (Refused LevelTooHigh) before ≡ ending (reply field bytes count x) after before
+  unfolding ended number block ending reply
   ends-level a = rw a
 
   module _ (a : offered field ≡ true) where
-    pub ends-buffer : fitting (coefficients field) bytes count ≡ false → ended (Refused Buffer) before ≡ ending (reply field bytes count x) after before
-    unfolding ended refusalReply ending reply
+    pub ends-buffer : fitting (coefficients field) bytes count ≡ false → ended (Refused BufferLength) before ≡ ending (reply field bytes count x) after before
+    unfolding ended number block ending reply
     ends-buffer b = rw (a, b)
 
     module _ (b : fitting (coefficients field) bytes count ≡ true) where
-      pub ends-high : ltb x (2 ^ coefficients field) ≡ false → ended (Refused Coefficient) before ≡ ending (reply field bytes count x) after before
-      unfolding ended refusalReply ending reply
+      pub ends-high : ltb x (2 ^ coefficients field) ≡ false → ended (Refused RemainderTooWide) before ≡ ending (reply field bytes count x) after before
+      unfolding ended number block ending reply
       ends-high c = rw (a, b, c)
 
       pub ends-done : {lent : List ℕ} → ltb x (2 ^ coefficients field) ≡ true → lent ≡ after → ended Done lent ≡ ending (reply field bytes count x) after before
@@ -109,7 +116,7 @@ unfolding reply
 right-reply field bytes count x h = rw (h .level, h .lengths, lt-ltb _ _ (h .low))
 
 pub reply-right : (field bytes count x : ℕ) → reply field bytes count x ≡ 0 → Right field bytes count x
-unfolding reply
+unfolding reply number
 reply-right field bytes count x h = by (offered field) (fitting (coefficients field) bytes count) (ltb x (2 ^ coefficients field)) refl refl refl h
   where
     by : (a b c : Bool) → offered field ≡ a → fitting (coefficients field) bytes count ≡ b → ltb x (2 ^ coefficients field) ≡ c → _≡_ {A = ℕ} (unless a 1 (unless b 6 (unless c 8 0))) 0

@@ -6,11 +6,9 @@
 -- offered field             whether the locator has the level: the fields 2, 4 and 8, for t = 4, 8 and 16
 -- coefficients field        mt, how many coefficients a remainder has; m is 13
 -- fitting bits bytes count  a remainder of so many bytes and a list of so many fragments have the right lengths
--- refusalReply r            document 01's number of a refusal
 -- Ended                     a reply, its block, and the lent list afterwards
 -- ended answer lent         document 01's numbers for an answer of the code that leaves the list so
 -- ending reply after before     how a call ends: the list is written exactly if the reply is 0
--- unless ok reply rest      the reply, unless ok; then the rest decides
 -- reply field bytes count x     the reply to a request about the number x
 -- exportOf, importOf        the calls
 use mathlib.Core.Bool.{Bool, true, false, cond}
@@ -19,8 +17,8 @@ use Prim.Native.Nat.{ℕ, _*_, _^_}
 use lib.ListN.{length}
 use lib.Dec.{eqb, ltb}
 use Rattle.remainder.specs.Remainder.{bytesFor, numberOf, bytesOf}
-use Rattle.fragments.specs.declared.Refusal.{Refusal}
-use Rattle.fragments.specs.declared.Refusal.the-variants as refusal
+use Rattle.replies.specs.declared.Refusal.the-variants as refusal
+use Rattle.replies.specs.Replies.{number, block, unless}
 use Rattle.fragments.specs.declared.FragmentsAnswer.{FragmentsAnswer}
 use Rattle.fragments.specs.declared.FragmentsAnswer.the-variants as answer
 use Rattle.fragments.specs.Fragments.{fragmentsOf, joined}
@@ -37,11 +35,6 @@ coefficients field = 13 * levelOf field
 unfoldable pub fitting : ℕ → ℕ → ℕ → Bool
 fitting bits bytes count = cond (eqb bytes (bytesFor bits)) (eqb count 7) false
 
-unfoldable pub refusalReply : Refusal → ℕ
-refusalReply refusal.Level = 1
-refusalReply refusal.Buffer = 6
-refusalReply refusal.Coefficient = 8
-
 pub record Ended : Type 0 where
   pub reply : ℕ
   pub block : ℕ
@@ -49,21 +42,18 @@ pub record Ended : Type 0 where
 
 unfoldable pub ended : FragmentsAnswer → List ℕ → Ended
 ended answer.Done lent = record { reply = 0; block = 0; lent = lent }
-ended (answer.Refused r) lent = record { reply = refusalReply r; block = 0; lent = lent }
+ended (answer.Refused r) lent = record { reply = number r; block = block r; lent = lent }
 
 unfoldable pub ending : ℕ → List ℕ → List ℕ → Ended
 ending reply after before = record { reply = reply; block = 0; lent = cond (eqb reply 0) after before }
-
-abbrev pub unless : Bool → ℕ → ℕ → ℕ
-unless ok reply rest = cond ok rest reply
 
 -- 1: the locator has the level. 6: the remainder has its bytes, and there are seven fragments.
 -- 8: no one stands above bit mt - 1, so none in an unused bit of the fragments and none in the start bit.
 unfoldable pub reply : ℕ → ℕ → ℕ → ℕ → ℕ
 reply field bytes count x =
-    unless (offered field) 1
-    (unless (fitting (coefficients field) bytes count) 6
-    (unless (ltb x (2 ^ coefficients field)) 8
+    unless (offered field) (number refusal.LevelTooHigh)
+    (unless (fitting (coefficients field) bytes count) (number refusal.BufferLength)
+    (unless (ltb x (2 ^ coefficients field)) (number refusal.RemainderTooWide)
     0))
 
 unfoldable pub exportOf : ℕ → List ℕ → List ℕ → Ended

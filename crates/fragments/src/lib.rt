@@ -21,20 +21,15 @@ use convert::to_fragments;
 use remainder::coefficients::is_below;
 use remainder::digits::from_bytes;
 use remainder::digits::to_bytes;
+use replies::Refusal;
 use request::has_lengths;
 use request::is_offered;
 use request::parity_bits;
 ghost use mathlib.Core.Path.{_≡_};
 ghost use Rattle.fragments.specs.Calls.{ended, exportOf, importOf};
 
-// Why nothing is written: a level that the locator does not have, a lent buffer, a one above the coefficients of a remainder.
-pub enum Refusal {
-    Level,
-    Buffer,
-    Coefficient,
-}
-
-// The answer of either call: what was lent to it is written, or why it is as it was.
+// The answer of either call: what was lent to it is written, or why it is as it was. A level that the locator does not have is refused
+// as one that is too high, a lent buffer by its length, a one above the coefficients of a remainder as too wide.
 pub enum FragmentsAnswer {
     Done,
     Refused(Refusal),
@@ -49,15 +44,15 @@ pub fn export_fragments(
     ensures { λ r. ⌜ ended r (now (fragments .exit)) ≡ exportOf «level_field» (now (remainder .entry)) (now (fragments .entry)) ⌝ }
 {
     if !is_offered(level_field) {
-        return FragmentsAnswer::Refused(Refusal::Level);
+        return FragmentsAnswer::Refused(Refusal::LevelTooHigh);
     }
     let bits = parity_bits(level_field);
     if !has_lengths(bits, remainder.len(), fragments.len()) {
-        return FragmentsAnswer::Refused(Refusal::Buffer);
+        return FragmentsAnswer::Refused(Refusal::BufferLength);
     }
     let state = from_bytes(remainder);
     if !is_below(state, bits) {
-        return FragmentsAnswer::Refused(Refusal::Coefficient);
+        return FragmentsAnswer::Refused(Refusal::RemainderTooWide);
     }
     to_fragments(state, fragments);
     FragmentsAnswer::Done
@@ -72,15 +67,15 @@ pub fn import_fragments(
     ensures { λ r. ⌜ ended r (now (remainder .exit)) ≡ importOf «level_field» (now (fragments .entry)) (now (remainder .entry)) ⌝ }
 {
     if !is_offered(level_field) {
-        return FragmentsAnswer::Refused(Refusal::Level);
+        return FragmentsAnswer::Refused(Refusal::LevelTooHigh);
     }
     let bits = parity_bits(level_field);
     if !has_lengths(bits, remainder.len(), fragments.len()) {
-        return FragmentsAnswer::Refused(Refusal::Buffer);
+        return FragmentsAnswer::Refused(Refusal::BufferLength);
     }
     let held = from_fragments(fragments);
     if !is_below(held, bits) {
-        return FragmentsAnswer::Refused(Refusal::Coefficient);
+        return FragmentsAnswer::Refused(Refusal::RemainderTooWide);
     }
     to_bytes(held, remainder);
     FragmentsAnswer::Done

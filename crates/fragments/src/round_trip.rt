@@ -6,9 +6,7 @@ use crate::FragmentsAnswer;
 use crate::export_fragments;
 use crate::import_fragments;
 ghost use mathlib.Core.Path.{_≡_};
-ghost use lib.ListN.{length};
-ghost use Rattle.fragments.specs.Calls.{ended};
-ghost use Rattle.fragments.specs.RoundTrip.{remainderBack, fragmentsBack};
+ghost use Rattle.fragments.specs.RoundTrip.{tripped, remainderBack, fragmentsBack};
 
 // Exports a remainder, and imports the fragments into `back`.
 pub fn export_import(
@@ -17,8 +15,8 @@ pub fn export_import(
     fragments: &mut [u32],
     back: &mut [u8],
 ) -> FragmentsAnswer
-    ensures { λ r. ⌜ ended r (now (back .exit))
-        ≡ remainderBack «level_field» (now (remainder .entry)) (length (now (fragments .entry))) (now (back .entry)) ⌝ }
+    ensures { λ r. ⌜ tripped r (now (fragments .exit)) (now (back .exit))
+        ≡ remainderBack «level_field» (now (remainder .entry)) (now (fragments .entry)) (now (back .entry)) ⌝ }
 {
     match export_fragments(level_field, remainder, fragments) {
         FragmentsAnswer::Done => import_fragments(level_field, fragments, back),
@@ -33,8 +31,8 @@ pub fn import_export(
     remainder: &mut [u8],
     back: &mut [u32],
 ) -> FragmentsAnswer
-    ensures { λ r. ⌜ ended r (now (back .exit))
-        ≡ fragmentsBack «level_field» (now (fragments .entry)) (length (now (remainder .entry))) (now (back .entry)) ⌝ }
+    ensures { λ r. ⌜ tripped r (now (remainder .exit)) (now (back .exit))
+        ≡ fragmentsBack «level_field» (now (fragments .entry)) (now (remainder .entry)) (now (back .entry)) ⌝ }
 {
     match import_fragments(level_field, fragments, remainder) {
         FragmentsAnswer::Done => export_fragments(level_field, remainder, back),

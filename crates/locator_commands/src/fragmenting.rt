@@ -1,7 +1,7 @@
 // The command fragments: export and import.
 use fragments::FragmentsAnswer;
-use fragments::Refusal;
-use fragments::answers::refusal_reply;
+use replies::Refusal;
+use replies::refusal_number;
 use text::Number;
 
 fn hex_byte(b: u8) {
@@ -39,15 +39,15 @@ fn imported(remainder: &[u8]) {
 }
 
 fn refused(refusal: Refusal) {
-    say::reply(refusal_reply(refusal));
+    say::reply(refusal_number(refusal));
     match refusal {
-        Refusal::Level => say::text(
+        Refusal::LevelTooHigh => say::text(
             b"the locator has the level fields 2, 4 and 8, for t = 4, 8 and 16\n",
         ),
-        Refusal::Buffer => say::text(
+        Refusal::BufferLength => say::text(
             b"a remainder has 7, 13 or 26 bytes at these levels, and there are seven fragments\n",
         ),
-        Refusal::Coefficient => say::text(
+        _ => say::text(
             b"there is a one above bit mt - 1; the start bit, bit 16 of fragment 6, is one of these\n",
         ),
     }

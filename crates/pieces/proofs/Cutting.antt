@@ -19,6 +19,7 @@ use lib.Seq.{getD-append-add}
 use lib.Dec.{eqb, leb}
 use lib.Pow.{pow-pos, pow-mono}
 use borrow.Author.Tests.{leb-true}
+use Rattle.replies.specs.Replies.{number as refusal-number}
 use Rattle.bits.specs.Bits.{bit, bitAt, bitOf, run, number, digits}
 use Rattle.bits.proofs.Numbers.{digits-length, digits-at, number-digits}
 use Rattle.bits.proofs.Runs.{run-append, run-cong, run-ext}
@@ -102,7 +103,7 @@ record Fits (f : Field) (s : State) (p : List ℕ) : Type 0 where
   short : s .fed + length p ≤ s .size
 
 taken-fits : (f : Field) (s : State) (p : List ℕ) → feedIn f s p .reply ≡ 0 → Fits f s p
-unfolding feedIn
+unfolding feedIn refusal-number
 taken-fits f s p = go (usable f s) (leb (s .fed + length p) (s .size)) refl refl
   where
     go : (a b : Bool) → usable f s ≡ a → leb (s .fed + length p) (s .size) ≡ b → feedIn f s p .reply ≡ 0 → Fits f s p
@@ -127,7 +128,7 @@ feedIn-append f s p q h =
 
 -- the field choice of a state is the same after a piece
 choice-kept : (c : Choice) (s : State) (p : List ℕ) → feedFor c s p .state .choice ≡ s .choice
-unfolding feedFor feedIn after
+unfolding feedFor feedIn after refusal-number
 choice-kept Unknown s p = refl
 choice-kept (Offered f) s p = go (usable f s) (leb (s .fed + length p) (s .size)) refl refl
   where
@@ -137,7 +138,7 @@ choice-kept (Offered f) s p = go (usable f s) (leb (s .fed + length p) (s .size)
     go false b ea eb = rw ea
 
 feedFor-append : (c : Choice) (s : State) (p q : List ℕ) → feedFor c s (p ++ q) .reply ≡ 0 → feedFor c (feedFor c s p .state) q ≡ feedFor c s (p ++ q)
-unfolding feedFor
+unfolding feedFor refusal-number
 feedFor-append (Offered f) s p q h = feedIn-append f s p q h
 feedFor-append Unknown s p q h = absurd (omega arith)
 
@@ -180,11 +181,11 @@ module _ (f : Field) (level n : ℕ) (right : blockReply f level n ≡ 0) where
       )
 
   pub start-state : (s : State) → startOf s level (choiceOf f) n ≡ answered 0 (stateOf f level n [])
-  unfolding startOf startFor
+  unfolding startOf startFor refusal-number
   start-state s = rw (chosen-choice f) (sym (start-done f s level n right refl))
 
   fed-in : (l p : List ℕ) → feedOf (stateOf f level n l) p ≡ feedIn f (stateOf f level n l) p
-  unfolding feedOf feedFor stateOf
+  unfolding feedOf feedFor stateOf refusal-number
   fed-in l p = rw (chosen-choice f)
 
   room-left : (l p : List ℕ) → length (l ++ p) ≤ n → stateOf f level n l .fed + length p ≤ stateOf f level n l .size
@@ -216,7 +217,7 @@ module _ (f : Field) (level n : ℕ) (right : blockReply f level n ≡ 0) where
       rw (feed-state l p (omega arith), e) (feeds-state (l ++ p) ps k)
 
   finished-in : (l b : List ℕ) → finishOf (stateOf f level n l) b ≡ finishIn f (stateOf f level n l) b
-  unfolding finishOf finishFor stateOf
+  unfolding finishOf finishFor stateOf refusal-number
   finished-in l b = rw (chosen-choice f)
 
   number-parity : (l : List ℕ) → number (parity f (2 * level) (bitsOf l)) ≡ remainder f (2 * level) (bitsOf l ++ replicate (degree f * (2 * level)) false)

@@ -9,6 +9,7 @@ use native.Mathlib.Omega.{arith}
 use native.Mathlib.Decide.{decLt}
 use lib.ListN.{length}
 use lib.Dec.{eqb, leb}
+use Rattle.replies.specs.Replies.{number}
 use Rattle.field.specs.declared.Field.{Field}
 use Rattle.field.specs.declared.Choice.{Choice}
 use Rattle.field.specs.declared.Choice.the-variants.{Offered, Unknown}
@@ -86,7 +87,7 @@ startIn-ends f s n m = go (blockReply f n m) refl (block-table f n m)
     go r e choice = rw e (record { table = choice; kept = λ h. refl })
 
 pub start-ends : (s : State) (n c m : ℕ) → StartEnds s (startOf s n c m)
-unfolding startOf startFor
+unfolding startOf startFor number
 start-ends s n c m = go (chosen c)
   where
     go : (k : Choice) → StartEnds s (startFor k s n m)
@@ -96,7 +97,7 @@ start-ends s n c m = go (chosen c)
 -- ---- feeding
 
 feedIn-ends : (f : Field) (s : State) (p : List ℕ) → FeedEnds s (feedIn f s p)
-unfolding feedIn
+unfolding feedIn number
 feedIn-ends f s p = go (usable f s) (leb (s .fed + length p) (s .size)) refl refl
   where
     go : (a b : Bool) → usable f s ≡ a → leb (s .fed + length p) (s .size) ≡ b → FeedEnds s (feedIn f s p)
@@ -105,7 +106,7 @@ feedIn-ends f s p = go (usable f s) (leb (s .fed + length p) (s .size)) refl ref
     go false b ea eb = rw ea (record { table = state; kept = λ h. refl })
 
 pub feed-ends : (s : State) (p : List ℕ) → FeedEnds s (feedOf s p)
-unfolding feedOf feedFor
+unfolding feedOf feedFor number
 feed-ends s p = go (chosen (s .choice))
   where
     go : (k : Choice) → FeedEnds s (feedFor k s p)
@@ -115,7 +116,7 @@ feed-ends s p = go (chosen (s .choice))
 -- ---- finishing
 
 finish-table : (f : Field) (s : State) (n : ℕ) → Piece (finishReply f s n)
-unfolding finishReply
+unfolding finishReply number
 finish-table f s n = go (usable f s) (eqb (s .fed) (s .size)) (eqb n (bytesFor (degree f * (2 * s .level)))) refl refl refl
   where
     go : (a b c : Bool) → usable f s ≡ a → eqb (s .fed) (s .size) ≡ b → eqb n (bytesFor (degree f * (2 * s .level))) ≡ c → Piece (finishReply f s n)
@@ -134,7 +135,7 @@ finishIn-ends f s b = go (finishReply f s (length b)) refl (finish-table f s (le
     go r e state = rw e (record { table = state; state = refl; kept = λ h. refl })
 
 pub finish-ends : (s : State) (b : List ℕ) → FinishEnds s b (finishOf s b)
-unfolding finishOf finishFor finished
+unfolding finishOf finishFor finished number
 finish-ends s b = go (chosen (s .choice))
   where
     go : (k : Choice) → FinishEnds s b (finishFor k s b)

@@ -133,20 +133,20 @@ module _ (f : Field) (s : State) where
 
 module _ (f : Field) (s : State) (n : ℕ) where
   pub finish-unusable : usable f s ≡ false → 7 ≡ finishReply f s n
-  unfolding finishReply
+  unfolding finishReply number
   finish-unusable h = rw h
 
   module _ (going : usable f s ≡ true) where
     pub finish-early : (s .fed ≡ s .size → ⊥) → 6 ≡ finishReply f s n
-    unfolding finishReply
+    unfolding finishReply number
     finish-early h = rw (going, ne-eqb (s .fed) (s .size) h)
 
     pub finish-bytes : s .fed ≡ s .size → (n ≡ bytesFor (degree f * (2 * s .level)) → ⊥) → 6 ≡ finishReply f s n
-    unfolding finishReply
+    unfolding finishReply number
     finish-bytes e h = rw (going, eq-eqb (s .fed) (s .size) e, ne-eqb n (bytesFor (degree f * (2 * s .level))) h)
 
     pub finish-right : s .fed ≡ s .size → n ≡ bytesFor (degree f * (2 * s .level)) → 0 ≡ finishReply f s n
-    unfolding finishReply
+    unfolding finishReply number
     finish-right e h = rw (going, eq-eqb (s .fed) (s .size) e, eq-eqb n (bytesFor (degree f * (2 * s .level))) h)
 
   -- what holds where there is no reply
@@ -156,7 +156,7 @@ module _ (f : Field) (s : State) (n : ℕ) where
     pub bytes : n ≡ bytesFor (degree f * (2 * s .level))
 
   pub finish-whole : finishReply f s n ≡ 0 → Whole
-  unfolding finishReply
+  unfolding finishReply number
   finish-whole = go (usable f s) (eqb (s .fed) (s .size)) (eqb n (bytesFor (degree f * (2 * s .level)))) refl refl refl
     where
       go : (a b c : Bool) → usable f s ≡ a → eqb (s .fed) (s .size) ≡ b → eqb n (bytesFor (degree f * (2 * s .level))) ≡ c → finishReply f s n ≡ 0 → Whole
@@ -185,15 +185,15 @@ module _ (f : Field) (s : State) where
   start-done level n e h = rw (h, eq-eqb (blockReply f level n) 0 e)
 
   pub feed-unusable : (piece : List ℕ) → usable f s ≡ false → answered 7 s ≡ feedIn f s piece
-  unfolding feedIn
+  unfolding feedIn number
   feed-unusable piece h = rw h
 
   pub feed-past : (piece : List ℕ) → usable f s ≡ true → s .size < s .fed + length piece → answered 6 s ≡ feedIn f s piece
-  unfolding feedIn
+  unfolding feedIn number
   feed-past piece h l = rw (h, lt-leb (s .fed + length piece) (s .size) l)
 
   pub feed-taken : (piece : List ℕ) {a : State} → usable f s ≡ true → s .fed + length piece ≤ s .size → a ≡ after f s piece → answered 0 a ≡ feedIn f s piece
-  unfolding feedIn
+  unfolding feedIn number
   feed-taken piece h l e = rw (h, le-leb (s .fed + length piece) (s .size) l, e)
 
   pub finish-refused : (buffer : List ℕ) {r : ℕ} → r ≡ finishReply f s (length buffer) → (r ≡ 0 → ⊥) → finished (answered r s) buffer ≡ finishIn f s buffer

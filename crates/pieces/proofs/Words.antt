@@ -73,10 +73,6 @@ register-words x h =
     ∙ part-bit x (p / 64) (p % 64) (omega arith)
     ∙ ap (bit x) s)
 
--- Fourteen words have room for 896 digits.
-pub register-room : (ws : List ℕ) → length ws ≡ 14 → Words ws → register ws < 2 ^ (64 * 14)
-register-room ws l h = subst (λ n. register ws < 2 ^ (64 * n)) l (register-lt ws h)
-
 pub wordsOf-zero : replicate 14 0 ≡ wordsOf 0
 unfolding wordsOf run
 wordsOf-zero = refl

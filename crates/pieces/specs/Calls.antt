@@ -19,6 +19,8 @@ use Rattle.field.specs.declared.Field.{Field}
 use Rattle.field.specs.declared.Choice.{Choice}
 use Rattle.field.specs.declared.Choice.the-variants.{Offered, Unknown}
 use Rattle.field.specs.Field.{degree, chosen}
+use Rattle.replies.specs.declared.Refusal.the-variants as refusal
+use Rattle.replies.specs.Replies.{number, unless}
 use Rattle.layout.specs.declared.Shape.{Shape}
 use Rattle.layout.specs.declared.Finding.{Finding}
 use Rattle.layout.specs.declared.Finding.the-variants.{Kept, Broken}
@@ -69,7 +71,7 @@ startIn f s level n = cond (eqb (blockReply f level n) 0) (answered 0 (stateOf f
 -- 7: a field choice that is not offered
 unfoldable pub startFor : Choice → State → ℕ → ℕ → Answered
 startFor (Offered f) s level n = startIn f s level n
-startFor Unknown s level n = answered 7 s
+startFor Unknown s level n = answered (number refusal.OutOfRange) s
 
 unfoldable pub startOf : State → ℕ → ℕ → ℕ → Answered
 startOf s level choice n = startFor (chosen choice) s level n
@@ -78,19 +80,23 @@ startOf s level choice n = startFor (chosen choice) s level n
 unfoldable pub feedIn : Field → State → List ℕ → Answered
 feedIn f s piece =
     cond (usable f s)
-    (cond (leb (s .fed + length piece) (s .size)) (answered 0 (after f s piece)) (answered 6 s))
-    (answered 7 s)
+    (cond (leb (s .fed + length piece) (s .size)) (answered 0 (after f s piece)) (answered (number refusal.BufferLength) s))
+    (answered (number refusal.OutOfRange) s)
 
 unfoldable pub feedFor : Choice → State → List ℕ → Answered
 feedFor (Offered f) s piece = feedIn f s piece
-feedFor Unknown s piece = answered 7 s
+feedFor Unknown s piece = answered (number refusal.OutOfRange) s
 
 unfoldable pub feedOf : State → List ℕ → Answered
 feedOf s piece = feedFor (chosen (s .choice)) s piece
 
 -- 7: a state that cannot be gone on with. 6: a message that is not whole, or a buffer of another length than a parity's.
 unfoldable pub finishReply : Field → State → ℕ → ℕ
-finishReply f s n = cond (usable f s) (cond (eqb (s .fed) (s .size)) (cond (eqb n (bytesFor (degree f * (2 * s .level)))) 0 6) 6) 7
+finishReply f s n =
+    unless (usable f s) (number refusal.OutOfRange)
+    (unless (eqb (s .fed) (s .size)) (number refusal.BufferLength)
+    (unless (eqb n (bytesFor (degree f * (2 * s .level)))) (number refusal.BufferLength)
+    0))
 
 -- Document 01's form of a remainder: the highest coefficient first, right-aligned.
 unfoldable pub finishIn : Field → State → List ℕ → Finished
@@ -101,7 +107,7 @@ finishIn f s buffer =
 
 unfoldable pub finishFor : Choice → State → List ℕ → Finished
 finishFor (Offered f) s buffer = finishIn f s buffer
-finishFor Unknown s buffer = finished (answered 7 s) buffer
+finishFor Unknown s buffer = finished (answered (number refusal.OutOfRange) s) buffer
 
 unfoldable pub finishOf : State → List ℕ → Finished
 finishOf s buffer = finishFor (chosen (s .choice)) s buffer

@@ -27,7 +27,7 @@ returns c =
     let told = c .before .before .before .before .before in
     let exported = c .before .before .before .before .before .before .before .before .before in
     let known = c .before .before .before .before .before .before .before .before .before .before .before .before .before .shared-slice-known .given in
-    export-import-done _ _ _ _ _ (exported .export-fragments .ensures) (told .enum-told .given .1) (record { count = refl; small = λ i. known i .fits }) (c .before .before .import-fragments .ensures)
+    export-import-done _ _ _ _ _ (exported .export-fragments .ensures) (told .enum-told .given .1) _ _ (record { count = refl; small = λ i. known i .fits }) (c .before .before .import-fragments .ensures)
 
 same-length-3 : tie.Need-same-length-3
 same-length-3 c = search needs

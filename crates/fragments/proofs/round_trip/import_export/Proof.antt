@@ -26,7 +26,7 @@ returns c =
     let told = c .before .before .before .before .before in
     let imported = c .before .before .before .before .before .before .before .before .before in
     let known = c .before .before .before .before .before .before .before .before .before .before .before .before .before .shared-slice-known .given in
-    import-export-done _ _ _ _ _ (imported .import-fragments .ensures) (told .enum-told .given .1) (λ i. known i .fits) (c .before .before .export-fragments .ensures)
+    import-export-done _ _ _ _ _ (imported .import-fragments .ensures) (told .enum-told .given .1) _ _ (λ i. known i .fits) (c .before .before .export-fragments .ensures)
 
 same-length-3 : tie.Need-same-length-3
 same-length-3 c = search needs

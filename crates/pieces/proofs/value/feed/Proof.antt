@@ -1,4 +1,5 @@
 use mathlib.Core.Path.{sym, _∙_}
+use Rattle.replies.specs.Replies.{number}
 use Rattle.pieces.specs.Calls.{feedFor, feedOf}
 use borrow.Author.Needs.{needs}
 use Rattle.pieces.proofs.value.feed.Statement.{statement}
@@ -17,11 +18,11 @@ enum-told : tie.Need-enum-told
 enum-told c = search needs
 
 returns : tie.Need-returns
-unfolding feedOf feedFor
+unfolding feedOf feedFor number
 returns c = c .feed-in .ensures ∙ simp (sym (c .before .before .before .before .choose .ensures), c .before .before .f .given .1)
 
 returns-2 : tie.Need-returns-2
-unfolding feedOf feedFor
+unfolding feedOf feedFor number
 returns-2 c = simp (sym (c .before .before .choose .ensures), c .enum-told .given .1)
 
 pub feed-spec : {M : Type 1} → statement M

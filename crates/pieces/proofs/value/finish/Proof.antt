@@ -1,4 +1,5 @@
 use mathlib.Core.Path.{sym, _∙_}
+use Rattle.replies.specs.Replies.{number}
 use Rattle.pieces.specs.Calls.{finished, finishFor, finishOf}
 use borrow.Author.Needs.{needs}
 use Rattle.pieces.proofs.value.finish.Statement.{statement}
@@ -20,11 +21,11 @@ same-length : tie.Need-same-length
 same-length c = search needs
 
 returns : tie.Need-returns
-unfolding finishOf finishFor
+unfolding finishOf finishFor number
 returns c = c .before .before .finish-in .ensures ∙ simp (sym (c .before .before .before .before .before .before .before .choose .ensures), c .before .before .before .before .before .f .given .1)
 
 returns-2 : tie.Need-returns-2
-unfolding finishOf finishFor finished
+unfolding finishOf finishFor finished number
 returns-2 c = simp (sym (c .before .before .choose .ensures), c .enum-told .given .1)
 
 pub finish-spec : {M : Type 1} → statement M

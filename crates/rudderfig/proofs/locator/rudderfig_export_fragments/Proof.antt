@@ -1,5 +1,6 @@
--- `rudderfig::locator::rudderfig_export_fragments` meets its contract.
+use mathlib.Core.Path.{refl}
 use borrow.Author.Needs.{needs}
+use Rattle.fragments.specs.Calls.{ending, exportOf}
 use Rattle.rudderfig.proofs.Fragments.{fragments-returns}
 use Rattle.rudderfig.proofs.locator.rudderfig_export_fragments.Statement.{statement}
 use Rattle.rudderfig.proofs.locator.rudderfig_export_fragments.Tie as tie
@@ -17,7 +18,8 @@ same-length : tie.Need-same-length
 same-length c = search needs
 
 returns : tie.Need-returns
-returns c = fragments-returns _ _ (c .before .before .before .before .export-fragments .ensures) (c .before .fragments-reply .ensures) (c .answer-word .ensures)
+unfolding exportOf ending
+returns c = fragments-returns _ _ (c .before .before .before .before .export-fragments .ensures) refl (c .before .fragments-reply .ensures) (c .answer-word .ensures)
 
 pub rudderfig-export-fragments-spec : {M : Type 1} → statement M
 rudderfig-export-fragments-spec =

@@ -1,5 +1,6 @@
--- `rudderfig::locator::rudderfig_import_fragments` meets its contract.
+use mathlib.Core.Path.{refl}
 use borrow.Author.Needs.{needs}
+use Rattle.fragments.specs.Calls.{ending, importOf}
 use Rattle.rudderfig.proofs.Fragments.{fragments-returns}
 use Rattle.rudderfig.proofs.locator.rudderfig_import_fragments.Statement.{statement}
 use Rattle.rudderfig.proofs.locator.rudderfig_import_fragments.Tie as tie
@@ -17,7 +18,8 @@ same-length : tie.Need-same-length
 same-length c = search needs
 
 returns : tie.Need-returns
-returns c = fragments-returns _ _ (c .before .before .before .before .import-fragments .ensures) (c .before .fragments-reply .ensures) (c .answer-word .ensures)
+unfolding importOf ending
+returns c = fragments-returns _ _ (c .before .before .before .before .import-fragments .ensures) refl (c .before .fragments-reply .ensures) (c .answer-word .ensures)
 
 pub rudderfig-import-fragments-spec : {M : Type 1} → statement M
 rudderfig-import-fragments-spec =
