@@ -33,13 +33,15 @@
  * Position p of a page is byte p / 8, bit 7 - p % 8. A block of n bits has the coefficient of x^(n-1) first; exponents run from n - 1 down to 0.
  *
  *
- * What the archive needs
+ * What an archive needs
  *
- * An x86-64 processor with SSE2 switched on, the System V calling convention, memcpy and memset with C's meaning (a boot loader supplies its
- * own), and room on the stack: RUDDERFIG_STACK_.. below, without what memcpy and memset take. It needs nothing else, has no variables, can be
- * linked freestanding and runs at any address. About 190 kB of it are code and constants. The code uses the red zone: an interrupt must not
- * write the 128 bytes below the stack pointer, so one that is taken on the same stack has to step over them. A large frame is touched page by
- * page from above, so that a guard page below the stack is always hit.
+ * The processor that it was compiled for: x86-64 (`make lib`), or AArch64, ARMv7-A or 64-bit RISC-V (`make boards`), little-endian, with the calling
+ * convention of Linux there; memcpy and memset with C's meaning (a boot loader supplies its own), on ARMv7-A also __aeabi_uidiv, which compilers bring
+ * along; and room on the stack: RUDDERFIG_STACK_.. below, without what these functions take. It needs nothing else, has no variables, can be linked
+ * freestanding and runs at any address. On x86-64 it takes SSE2 to be switched on, on AArch64 the SIMD registers; the code for the others has no
+ * floating-point instruction. On x86-64 the code uses the red zone: an interrupt must not write the 128 bytes below the stack pointer, so one that is
+ * taken on the same stack has to step over them. But for ARMv7-A a large frame is touched page by page from above, so that a guard page below the stack
+ * is always hit. For the two ARM processors it makes aligned accesses only, so that it may run before the memory unit is switched on.
  */
 #ifndef RUDDERFIG_H
 #define RUDDERFIG_H
@@ -54,7 +56,18 @@ extern "C" {
 #define RUDDERFIG_CAST(type, value) ((type)(value))
 #endif
 
+#if defined(__BYTE_ORDER__) && defined(__ORDER_LITTLE_ENDIAN__) && __BYTE_ORDER__ != __ORDER_LITTLE_ENDIAN__
+#error "rudderfig.h: the archives are for little-endian processors"
+#endif
+
 #define RUDDERFIG_VERSION "0.2.0"
+
+/* A number of elements: size_t, but 64 bits wide where pointers have 32, since the calls take every number at 64 bits. */
+#if UINTPTR_MAX > 0xFFFFFFFF
+typedef size_t rudderfig_length;
+#else
+typedef uint64_t rudderfig_length;
+#endif
 
 enum rudderfig_reply_number {
     RUDDERFIG_DONE = 0,
@@ -71,7 +84,8 @@ enum rudderfig_reply_number {
 };
 
 /*
- * Bytes of stack that a call takes at most, its return address included. `make lib` compares them with the machine code.
+ * Bytes of stack that a call takes at most on any of the four processors, its return address included. `make lib` and `make boards` compare them with
+ * the code.
  * Most of it are the decoder's tables, which are made only where a block is damaged: reading an undamaged page takes about 66,000 bytes, judging
  * an undamaged block about 32,000.
  */
@@ -105,41 +119,49 @@ static inline unsigned rudderfig_located_exponent(uint64_t answer) { return rudd
 /*
  * Is this layout acceptable? Reads the record. Replies 0 to 4 and 6; no value.
  */
-uint64_t rudderfig_check_layout(const uint8_t *record, size_t record_len);
+uint64_t rudderfig_check_layout(const uint8_t *record, rudderfig_length record_len);
 
 /*
  * Where does the page bit at `position` belong? Reads the record.
  * Kind 0: a covered bit, the value is located block << 16 | exponent. Kind 1: in the tail after the last block, the value is 0.
  * Replies 0 to 4, 6, and 7 for a position of 8 * PAGE_SIZE or more.
  */
-uint64_t rudderfig_locate_bit(const uint8_t *record, size_t record_len, uint64_t position);
+uint64_t rudderfig_locate_bit(const uint8_t *record, rudderfig_length record_len, uint64_t position);
 
 /*
  * Where does the coefficient of x^exponent of a block lie? Reads the record. The value is the position.
  * Replies 0 to 4, 6, and 7 for a block that the layout does not have or an exponent of the block's length or more.
  */
-uint64_t rudderfig_bit_position(const uint8_t *record, size_t record_len, uint64_t block, uint64_t exponent);
+uint64_t rudderfig_bit_position(const uint8_t *record, rudderfig_length record_len,
+                                uint64_t block, uint64_t exponent);
 
 /*
  * Writes a page: every block with its parity, the tail bits as ones. Reads record, metadata and data; writes all of `page`, and only on reply 0.
  * Replies 0 to 6; no value.
  */
-uint64_t rudderfig_write_page(const uint8_t *record, size_t record_len, const uint8_t *metadata, size_t metadata_len, const uint8_t *data,
-                              size_t data_len, uint8_t *page, size_t page_len);
+uint64_t rudderfig_write_page(const uint8_t *record, rudderfig_length record_len,
+                              const uint8_t *metadata, rudderfig_length metadata_len,
+                              const uint8_t *data, rudderfig_length data_len,
+                              uint8_t *page, rudderfig_length page_len);
 
 /*
  * Reads a page: each block is repaired to the codeword within t flips of it. Reads record and page; writes all of `metadata`, `data` and `counts`,
  * and only on reply 0, once every block is decided. counts[b] is the number of covered bits, data or parity, in which block b and its codeword
  * differ. Replies 0 to 6, and 9 with the lowest block that has no codeword within its t flips; no value.
  */
-uint64_t rudderfig_read_page(const uint8_t *record, size_t record_len, const uint8_t *page, size_t page_len, uint8_t *metadata,
-                             size_t metadata_len, uint8_t *data, size_t data_len, uint8_t *counts, size_t counts_len);
+uint64_t rudderfig_read_page(const uint8_t *record, rudderfig_length record_len,
+                             const uint8_t *page, rudderfig_length page_len,
+                             uint8_t *metadata, rudderfig_length metadata_len,
+                             uint8_t *data, rudderfig_length data_len,
+                             uint8_t *counts, rudderfig_length counts_len);
 
 /*
  * Judges one block of a page. Reads record and page, of the page no other bits than the block's; writes nothing. The value is the number of flips.
  * Replies 0 to 6, 7 for a block that the layout does not have, and 9 with that block.
  */
-uint64_t rudderfig_judge_block(const uint8_t *record, size_t record_len, const uint8_t *page, size_t page_len, uint64_t block);
+uint64_t rudderfig_judge_block(const uint8_t *record, rudderfig_length record_len,
+                               const uint8_t *page, rudderfig_length page_len,
+                               uint64_t block);
 
 /*
  * From a remainder alone, which bits are wrong? t is twice level_field, field_choice 0 is m = 13 and 1 is m = 14, n is the code's length in bits.
@@ -148,16 +170,19 @@ uint64_t rudderfig_judge_block(const uint8_t *record, size_t record_len, const u
  * how many; places after them keep what they held. Replies 0; 7 first of all for another field choice; 1; 2 where t = 0 or n is at most m * t; 3 for n above 2^m - 1; 6; 8; and 9,
  * with block 0, where there is no such set of at most t exponents.
  */
-uint64_t rudderfig_locate_errors(uint64_t level_field, uint64_t field_choice, uint64_t n, const uint8_t *remainder, size_t remainder_len,
-                                 uint16_t *places, size_t places_len);
+uint64_t rudderfig_locate_errors(uint64_t level_field, uint64_t field_choice, uint64_t n,
+                                 const uint8_t *remainder, rudderfig_length remainder_len,
+                                 uint16_t *places, rudderfig_length places_len);
 
 /*
  * Are these error locations of a block right? Accepted if they are distinct, each below the block's length, at most t, and flipping them gives a
  * codeword; they may stand in any order. Reads record, page and claims; writes nothing.
  * Replies 0 to 6, 7 for a block that the layout does not have, and 10; no value.
  */
-uint64_t rudderfig_check_claim(const uint8_t *record, size_t record_len, const uint8_t *page, size_t page_len, uint64_t block,
-                               const uint16_t *claims, size_t claims_len);
+uint64_t rudderfig_check_claim(const uint8_t *record, rudderfig_length record_len,
+                               const uint8_t *page, rudderfig_length page_len,
+                               uint64_t block,
+                               const uint16_t *claims, rudderfig_length claims_len);
 
 /*
  * A remainder for a hardware locator that takes seven 32-bit fragments (ELM_SYNDROME_FRAGMENT_0 to 6 of document 004), with m = 13 and t = 4, 8
@@ -170,8 +195,9 @@ uint64_t rudderfig_check_claim(const uint8_t *record, size_t record_len, const u
 #define RUDDERFIG_FRAGMENTS 7
 #define RUDDERFIG_START_BIT UINT32_C(0x10000)
 
-uint64_t rudderfig_export_fragments(uint64_t level_field, const uint8_t *remainder, size_t remainder_len, uint32_t *fragments,
-                                    size_t fragments_len);
+uint64_t rudderfig_export_fragments(uint64_t level_field,
+                                    const uint8_t *remainder, rudderfig_length remainder_len,
+                                    uint32_t *fragments, rudderfig_length fragments_len);
 
 /*
  * The same the other way. Reads the seven fragments; writes all of `remainder`, and only on reply 0. Replies as above, 8 where an unused bit of
@@ -179,8 +205,9 @@ uint64_t rudderfig_export_fragments(uint64_t level_field, const uint8_t *remaind
  * rudderfig_locate_errors takes the remainder, with field choice 0. A locator that is told the message's length alone counts addresses within
  * the message: each is smaller by the 13 * t parity bits than the exponent.
  */
-uint64_t rudderfig_import_fragments(uint64_t level_field, const uint32_t *fragments, size_t fragments_len, uint8_t *remainder,
-                                    size_t remainder_len);
+uint64_t rudderfig_import_fragments(uint64_t level_field,
+                                    const uint32_t *fragments, rudderfig_length fragments_len,
+                                    uint8_t *remainder, rudderfig_length remainder_len);
 
 /*
  * The parity of one block whose message arrives in pieces. The caller keeps the state and lends it to each call; what is in it is the calls' own.
@@ -198,20 +225,21 @@ struct rudderfig_parity {
  * Writes the state, on reply 0 only. Replies 0; 7 first of all for another field choice; 1; 2 where the length is 0; 3 where t > 0 and the
  * message with its m * t bits of parity is longer than 2^m - 1 bits. No value.
  */
-uint64_t rudderfig_parity_start(struct rudderfig_parity *state, uint64_t level_field, uint64_t field_choice, uint64_t length);
+uint64_t rudderfig_parity_start(struct rudderfig_parity *state,
+                                uint64_t level_field, uint64_t field_choice, uint64_t length);
 
 /*
  * Feeds one more piece of the message, of any length, 0 too. Reads the piece; writes the state, on reply 0 only. Replies 0; 7 for a state whose
  * numbers do not fit, which no start has made; 6 for a piece that would pass the length stated at the start, of which no part is taken. No value.
  */
-uint64_t rudderfig_parity_feed(struct rudderfig_parity *state, const uint8_t *piece, size_t piece_len);
+uint64_t rudderfig_parity_feed(struct rudderfig_parity *state, const uint8_t *piece, rudderfig_length piece_len);
 
 /*
  * Finishes: the parity of the message, wherever it was cut, in exactly (m * t + 7) / 8 bytes, highest coefficient first, right-aligned. It is the
  * parity that rudderfig_write_page puts after that message. Writes all of `parity`, on reply 0 only; the state stays as it is. Replies 0; 7 for a
  * state whose numbers do not fit, which no start has made; 6 where the message is not whole yet, or the buffer has another length. No value.
  */
-uint64_t rudderfig_parity_finish(struct rudderfig_parity *state, uint8_t *parity, size_t parity_len);
+uint64_t rudderfig_parity_finish(struct rudderfig_parity *state, uint8_t *parity, rudderfig_length parity_len);
 
 #undef RUDDERFIG_CAST
 

@@ -60,11 +60,55 @@ pub enum Call {
         fragments: Vec<u32>,
         remainder: Vec<u8>,
     },
+    ParityStart {
+        state: Vec<u64>,
+        level_field: u64,
+        field_choice: u64,
+        length: u64,
+    },
+    ParityFeed {
+        state: Vec<u64>,
+        piece: Vec<u8>,
+    },
+    ParityFinish {
+        state: Vec<u64>,
+        parity: Vec<u8>,
+    },
+}
+
+/// How many kinds of calls there are.
+pub const KINDS: usize = 13;
+
+/// The replies that each kind of call can give.
+pub const POSSIBLE: [&[usize]; KINDS] = [
+    &[0, 1, 2, 3, 4, 6],
+    &[0, 1, 2, 3, 4, 6, 7],
+    &[0, 1, 2, 3, 4, 6, 7],
+    &[0, 1, 2, 3, 4, 5, 6],
+    &[0, 1, 2, 3, 4, 5, 6, 9],
+    &[0, 1, 2, 3, 4, 5, 6, 7, 9],
+    &[0, 1, 2, 3, 6, 7, 8, 9],
+    &[0, 1, 2, 3, 4, 5, 6, 7, 10],
+    &[0, 1, 6, 8],
+    &[0, 1, 6, 8],
+    &[0, 1, 2, 3, 7],
+    &[0, 6, 7],
+    &[0, 6, 7],
+];
+
+/// An argument of a call: a number, or a buffer of so many elements of so many bytes each, the lowest
+/// byte of each first. The length of a state is no argument.
+#[derive(Clone, Debug, PartialEq, Eq)]
+pub enum Argument {
+    Number(u64),
+    Buffer { size: usize, content: Vec<u8> },
+    State { content: Vec<u8> },
 }
 
 const GUARD_BYTE: u8 = 0x5C;
 const GUARD_PLACE: u16 = 0x5C5C;
 const GUARD_FRAGMENT: u32 = 0x5C5C_5C5C;
+const GUARD_WORD: u64 = 0x5C5C_5C5C_5C5C_5C5C;
 
 impl Call {
     /// The kinds of calls in order, from 0.
@@ -80,6 +124,117 @@ impl Call {
             Call::CheckClaim { .. } => 7,
             Call::ExportFragments { .. } => 8,
             Call::ImportFragments { .. } => 9,
+            Call::ParityStart { .. } => 10,
+            Call::ParityFeed { .. } => 11,
+            Call::ParityFinish { .. } => 12,
+        }
+    }
+
+    /// The exported function that takes the call.
+    pub fn name(&self) -> &'static str {
+        match self {
+            Call::CheckLayout { .. } => "rudderfig_check_layout",
+            Call::LocateBit { .. } => "rudderfig_locate_bit",
+            Call::BitPosition { .. } => "rudderfig_bit_position",
+            Call::WritePage { .. } => "rudderfig_write_page",
+            Call::ReadPage { .. } => "rudderfig_read_page",
+            Call::JudgeBlock { .. } => "rudderfig_judge_block",
+            Call::LocateErrors { .. } => "rudderfig_locate_errors",
+            Call::CheckClaim { .. } => "rudderfig_check_claim",
+            Call::ExportFragments { .. } => "rudderfig_export_fragments",
+            Call::ImportFragments { .. } => "rudderfig_import_fragments",
+            Call::ParityStart { .. } => "rudderfig_parity_start",
+            Call::ParityFeed { .. } => "rudderfig_parity_feed",
+            Call::ParityFinish { .. } => "rudderfig_parity_finish",
+        }
+    }
+
+    /// The arguments in the order of the exported function.
+    pub fn arguments(&self) -> Vec<Argument> {
+        let bytes = |content: &Vec<u8>| Argument::Buffer {
+            size: 1,
+            content: content.clone(),
+        };
+        let list = |content: &Vec<u16>| Argument::Buffer {
+            size: 2,
+            content: content.iter().flat_map(|x| x.to_le_bytes()).collect(),
+        };
+        let words = |content: &Vec<u32>| Argument::Buffer {
+            size: 4,
+            content: content.iter().flat_map(|x| x.to_le_bytes()).collect(),
+        };
+        let held = |content: &Vec<u64>| Argument::State {
+            content: content.iter().flat_map(|x| x.to_le_bytes()).collect(),
+        };
+        let number = |number: &u64| Argument::Number(*number);
+        match self {
+            Call::CheckLayout { record } => vec![bytes(record)],
+            Call::LocateBit { record, position } => vec![bytes(record), number(position)],
+            Call::BitPosition {
+                record,
+                block,
+                exponent,
+            } => vec![bytes(record), number(block), number(exponent)],
+            Call::WritePage {
+                record,
+                metadata,
+                data,
+                page,
+            } => vec![bytes(record), bytes(metadata), bytes(data), bytes(page)],
+            Call::ReadPage {
+                record,
+                page,
+                metadata,
+                data,
+                counts,
+            } => [record, page, metadata, data, counts].map(bytes).to_vec(),
+            Call::JudgeBlock {
+                record,
+                page,
+                block,
+            } => vec![bytes(record), bytes(page), number(block)],
+            Call::LocateErrors {
+                level_field,
+                field_choice,
+                n,
+                remainder,
+                places,
+            } => vec![
+                number(level_field),
+                number(field_choice),
+                number(n),
+                bytes(remainder),
+                list(places),
+            ],
+            Call::CheckClaim {
+                record,
+                page,
+                block,
+                claims,
+            } => vec![bytes(record), bytes(page), number(block), list(claims)],
+            Call::ExportFragments {
+                level_field,
+                remainder,
+                fragments,
+            } => vec![number(level_field), bytes(remainder), words(fragments)],
+            Call::ImportFragments {
+                level_field,
+                fragments,
+                remainder,
+            } => vec![number(level_field), words(fragments), bytes(remainder)],
+            Call::ParityStart {
+                state,
+                level_field,
+                field_choice,
+                length,
+            } => vec![
+                held(state),
+                number(level_field),
+                number(field_choice),
+                number(length),
+            ],
+            Call::ParityFeed { state, piece } => vec![held(state), bytes(piece)],
+            Call::ParityFinish { state, parity } => vec![held(state), bytes(parity)],
         }
     }
 
@@ -108,6 +263,9 @@ impl Call {
             Call::LocateErrors { remainder, .. }
             | Call::ExportFragments { remainder, .. }
             | Call::ImportFragments { remainder, .. } => vec![remainder],
+            Call::ParityStart { .. } => vec![],
+            Call::ParityFeed { piece, .. } => vec![piece],
+            Call::ParityFinish { parity, .. } => vec![parity],
         }
     }
 
@@ -131,6 +289,16 @@ impl Call {
         }
     }
 
+    /// The state of a block whose message arrives in pieces.
+    fn state(&mut self) -> Option<&mut Vec<u64>> {
+        match self {
+            Call::ParityStart { state, .. }
+            | Call::ParityFeed { state, .. }
+            | Call::ParityFinish { state, .. } => Some(state),
+            _ => None,
+        }
+    }
+
     /// Calls the library with guarded buffers and returns its answer. The buffers of this value
     /// then hold what the library left, those that it may only read too.
     pub fn perform(
@@ -146,7 +314,10 @@ impl Call {
         let mut list = Guarded::new(&content, GUARD_PLACE, random);
         let content = self.fragments().cloned().unwrap_or_default();
         let mut fragments = Guarded::new(&content, GUARD_FRAGMENT, random);
-        let answer = self.lend_to(library, &mut bytes, list.lend(), fragments.lend());
+        let content = self.state().cloned().unwrap_or_default();
+        let mut state = Guarded::new(&content, GUARD_WORD, random);
+        let lists = (list.lend(), fragments.lend(), state.lend());
+        let answer = self.lend_to(library, &mut bytes, lists);
         for (buffer, guarded) in self.bytes().into_iter().zip(bytes) {
             *buffer = guarded.content()?;
         }
@@ -158,6 +329,10 @@ impl Call {
         if let Some(fragments) = self.fragments() {
             *fragments = content;
         }
+        let content = state.content()?;
+        if let Some(state) = self.state() {
+            *state = content;
+        }
         Ok(answer)
     }
 
@@ -165,8 +340,7 @@ impl Call {
         &self,
         library: &dyn Library,
         bytes: &mut [Guarded<u8>],
-        list: &mut [u16],
-        fragments: &mut [u32],
+        (list, fragments, state): (&mut [u16], &mut [u32], &mut [u64]),
     ) -> u64 {
         let mut lent = bytes.iter_mut().map(Guarded::lend);
         let mut next = || lent.next().unwrap();
@@ -192,6 +366,14 @@ impl Call {
             Call::ImportFragments { level_field, .. } => {
                 library.import_fragments(level_field, fragments, next())
             }
+            Call::ParityStart {
+                level_field,
+                field_choice,
+                length,
+                ..
+            } => library.parity_start(state, level_field, field_choice, length),
+            Call::ParityFeed { .. } => library.parity_feed(state, next()),
+            Call::ParityFinish { .. } => library.parity_finish(state, next()),
         }
     }
 
@@ -220,6 +402,7 @@ impl Call {
                     .for_each(|fragment| *fragment = random.number() as u32);
             }
             Call::ImportFragments { remainder, .. } => *remainder = random.bytes(remainder.len()),
+            Call::ParityFinish { parity, .. } => *parity = random.bytes(parity.len()),
             _ => (),
         }
     }

@@ -1,6 +1,6 @@
 //! Comparing a library with the model on seeded calls.
 
-use crate::call::Call;
+use crate::call::{Call, KINDS};
 use crate::field::FieldChoice;
 use crate::guarded::GuardBroken;
 use crate::layout::{LayoutWords, check_layout};
@@ -9,14 +9,25 @@ use crate::random::Random;
 use crate::samples::fragments::{round_trips, spoilt as spoilt_fragments};
 use crate::samples::layouts::{CASE_A, accepted_words, code_bits, positions, records};
 use crate::samples::pages::{WrittenPage, damage_tail, spoil};
+use crate::samples::pieces::{Message, random_state, spoilt as spoilt_pieces};
 use crate::samples::remainders::{document_cases, random_remainder, spoilt, sums};
 
 /// A library beside the model.
 pub struct Comparison<'a> {
     library: &'a dyn Library,
     random: Random,
+    keeping: bool,
+    /// The calls before and after with their answers, if they are kept.
+    pub seen: Vec<Seen>,
     /// How many calls of each kind got each reply, in the order of the kinds of [`Call`].
-    pub replies: [[usize; 11]; 10],
+    pub replies: [[usize; 11]; KINDS],
+}
+
+/// A call, its answer, and the call with what it left in its buffers.
+pub struct Seen {
+    pub call: Call,
+    pub answer: u64,
+    pub after: Call,
 }
 
 /// A call in which the library and the model differ.
@@ -32,15 +43,23 @@ impl<'a> Comparison<'a> {
         Comparison {
             library,
             random: Random::new(seed),
-            replies: [[0; 11]; 10],
+            replies: [[0; 11]; KINDS],
+            seen: Vec::new(),
+            keeping: false,
         }
     }
 
-    /// One round of calls of every kind, some 9,000.
+    /// Keeps the calls from now on.
+    pub fn keep(&mut self) {
+        self.keeping = true;
+    }
+
+    /// One round of calls of every kind, some 10,000.
     pub fn round(&mut self) -> Result<(), Box<Difference>> {
         self.layouts()?;
         self.remainders()?;
         self.fragments()?;
+        self.pieces()?;
         self.pages()
     }
 
@@ -51,6 +70,13 @@ impl<'a> Comparison<'a> {
         let found_answer = found.perform(self.library, &mut self.random);
         if found_answer == Ok(expected_answer) && found == expected {
             self.replies[expected.kind()][(expected_answer & 0xFF) as usize] += 1;
+            if self.keeping {
+                self.seen.push(Seen {
+                    call,
+                    answer: expected_answer,
+                    after: expected,
+                });
+            }
             return Ok(found);
         }
         Err(Box::new(Difference {
@@ -122,6 +148,38 @@ impl<'a> Comparison<'a> {
         calls
             .into_iter()
             .try_for_each(|call| self.perform_filled(call).map(|_| ()))
+    }
+
+    /// Messages in pieces, and states that no start has made.
+    pub fn pieces(&mut self) -> Result<(), Box<Difference>> {
+        for _ in 0..60 {
+            let message = Message::new(&mut self.random);
+            let before = random_state(&mut self.random);
+            let mut state = self.stated(message.start(before))?;
+            for piece in message.pieces(&mut self.random) {
+                state = self.stated(Call::ParityFeed { state, piece })?;
+                if self.random.chance(4) {
+                    let parity = message.parity_buffer(&mut self.random);
+                    state = self.stated(Call::ParityFinish { state, parity })?;
+                }
+            }
+            let parity = vec![0; message.parity_bytes()];
+            self.stated(Call::ParityFinish { state, parity })?;
+        }
+        (0..150).try_for_each(|_| {
+            let call = spoilt_pieces(&mut self.random);
+            self.perform_filled(call).map(|_| ())
+        })
+    }
+
+    /// Performs a call on a state and returns the state.
+    fn stated(&mut self, call: Call) -> Result<Vec<u64>, Box<Difference>> {
+        match self.perform_filled(call)? {
+            Call::ParityStart { state, .. }
+            | Call::ParityFeed { state, .. }
+            | Call::ParityFinish { state, .. } => Ok(state),
+            _ => unreachable!("a call on a state"),
+        }
     }
 
     /// Pages of many layouts, most of them small.

@@ -31,6 +31,7 @@ pub mod decoder;
 pub mod field;
 pub mod fragments;
 pub mod guarded;
+pub mod header;
 #[cfg(feature = "archive")]
 pub mod interface;
 pub mod layout;

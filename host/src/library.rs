@@ -4,6 +4,7 @@ use crate::fragments::{export_fragments, import_fragments};
 use crate::layout::{BitPlace, bit_position, check_layout, locate_bit};
 use crate::locate::locate_errors;
 use crate::page::{check_claim, judge_block, read_page, write_page};
+use crate::pieces::{feed_state, finish_state, start_state};
 use crate::reply::Refusal;
 
 /// The exported calls, on slices. Each answers one word: the reply in bits 0 to 7, its block in
@@ -47,6 +48,12 @@ pub trait Library {
     fn export_fragments(&self, level_field: u64, remainder: &[u8], fragments: &mut [u32]) -> u64;
 
     fn import_fragments(&self, level_field: u64, fragments: &[u32], remainder: &mut [u8]) -> u64;
+
+    fn parity_start(&self, state: &mut [u64], level: u64, choice: u64, length: u64) -> u64;
+
+    fn parity_feed(&self, state: &mut [u64], piece: &[u8]) -> u64;
+
+    fn parity_finish(&self, state: &mut [u64], parity: &mut [u8]) -> u64;
 }
 
 /// The answer word of a call that is done with a kind and a value, or refused.
@@ -117,5 +124,17 @@ impl Library for Model {
 
     fn import_fragments(&self, level_field: u64, fragments: &[u32], remainder: &mut [u8]) -> u64 {
         answer(import_fragments(level_field, fragments, remainder).map(|()| (0, 0)))
+    }
+
+    fn parity_start(&self, state: &mut [u64], level: u64, choice: u64, length: u64) -> u64 {
+        answer(start_state(state, level, choice, length).map(|()| (0, 0)))
+    }
+
+    fn parity_feed(&self, state: &mut [u64], piece: &[u8]) -> u64 {
+        answer(feed_state(state, piece).map(|()| (0, 0)))
+    }
+
+    fn parity_finish(&self, state: &mut [u64], parity: &mut [u8]) -> u64 {
+        answer(finish_state(state, parity).map(|()| (0, 0)))
     }
 }

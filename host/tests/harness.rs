@@ -2,23 +2,10 @@
 //! libraries out.
 
 use model::bits::flip;
+use model::call::POSSIBLE;
 use model::check_layout;
 use model::compare::Comparison;
 use model::library::{Library, Model};
-
-/// The replies that each kind of call can give.
-const POSSIBLE: [&[usize]; 10] = [
-    &[0, 1, 2, 3, 4, 6],
-    &[0, 1, 2, 3, 4, 6, 7],
-    &[0, 1, 2, 3, 4, 6, 7],
-    &[0, 1, 2, 3, 4, 5, 6],
-    &[0, 1, 2, 3, 4, 5, 6, 9],
-    &[0, 1, 2, 3, 4, 5, 6, 7, 9],
-    &[0, 1, 2, 3, 6, 7, 8, 9],
-    &[0, 1, 2, 3, 4, 5, 6, 7, 10],
-    &[0, 1, 6, 8],
-    &[0, 1, 6, 8],
-];
 
 #[test]
 fn the_model_is_itself() {
@@ -59,11 +46,15 @@ enum Fault {
     StartBitSet,
     StartBitPassed,
     RemainderWrittenOnRefusal,
+    StateWrittenOnRefusal,
+    StateWrittenByFinish,
+    PieceTakenInPart,
 }
 
 /// The model with a fault.
 struct Faulty(Fault);
 
+const BUFFER_LENGTH: u64 = 6;
 const TOO_WIDE: u64 = 8;
 const UNCORRECTABLE: u64 = 9;
 const START_BIT: u32 = 0x1_0000;
@@ -178,6 +169,31 @@ impl Library for Faulty {
         }
         answer
     }
+
+    fn parity_start(&self, state: &mut [u64], level: u64, choice: u64, length: u64) -> u64 {
+        let answer = Model.parity_start(state, level, choice, length);
+        if self.0 == Fault::StateWrittenOnRefusal && answer != 0 {
+            state[0] ^= 1;
+        }
+        answer
+    }
+
+    fn parity_feed(&self, state: &mut [u64], piece: &[u8]) -> u64 {
+        let answer = Model.parity_feed(state, piece);
+        if self.0 == Fault::PieceTakenInPart && answer == BUFFER_LENGTH {
+            let left = (state[2] - state[3]) as usize;
+            Model.parity_feed(state, &piece[..left]);
+        }
+        answer
+    }
+
+    fn parity_finish(&self, state: &mut [u64], parity: &mut [u8]) -> u64 {
+        let answer = Model.parity_finish(state, parity);
+        if self.0 == Fault::StateWrittenByFinish && answer == 0 {
+            state[3] = 0;
+        }
+        answer
+    }
 }
 
 #[test]
@@ -215,6 +231,15 @@ fn faulty_libraries_are_found_out() {
     ];
     for fault in fragments {
         let found_out = Comparison::new(&Faulty(fault), 12).fragments().is_err();
+        assert!(found_out, "{fault:?}");
+    }
+    let pieces = [
+        Fault::StateWrittenOnRefusal,
+        Fault::StateWrittenByFinish,
+        Fault::PieceTakenInPart,
+    ];
+    for fault in pieces {
+        let found_out = Comparison::new(&Faulty(fault), 12).pieces().is_err();
         assert!(found_out, "{fault:?}");
     }
     for fault in pages {

@@ -1,6 +1,7 @@
 //! The header, the declarations of these tests and the exported functions of the library say the same of
 //! every call, and a C program that includes the header gets the right answers.
 
+use model::header::{header_calls, library_calls, test_calls};
 use std::fs;
 use std::path::PathBuf;
 use std::process::Command;
@@ -9,129 +10,6 @@ const ROOT: &str = concat!(env!("CARGO_MANIFEST_DIR"), "/..");
 
 fn read(path: &str) -> String {
     fs::read_to_string(format!("{ROOT}/{path}")).unwrap()
-}
-
-/// A call with its parameters in order. A parameter is its name and its kind: "u64", or "u8 read" and
-/// "u8 written" for a lent buffer, which in C is a pointer and a length.
-#[derive(Clone, Debug, PartialEq, Eq, PartialOrd, Ord)]
-struct Declared {
-    name: String,
-    parameters: Vec<(String, String)>,
-}
-
-/// The calls that a text declares: what stands between `before` and a name that starts with
-/// `rudderfig_`, and the parameters in the brackets after it, each read by `parameter`.
-fn declared(text: &str, before: &str, parameter: fn(&str) -> (String, String)) -> Vec<Declared> {
-    let mut calls = Vec::new();
-    for part in text.split(&format!("{before} rudderfig_")).skip(1) {
-        let (name, rest) = part.split_once('(').unwrap();
-        let (inside, _) = rest.split_once(')').unwrap();
-        let parameters = inside.split(',').map(str::trim);
-        calls.push(Declared {
-            name: format!("rudderfig_{name}"),
-            parameters: parameters
-                .filter(|p| !p.is_empty())
-                .map(parameter)
-                .collect(),
-        });
-    }
-    calls.sort();
-    calls
-}
-
-/// Puts each pointer and the length after it together. A length must bear its pointer's name.
-fn joined(calls: Vec<Declared>) -> Vec<Declared> {
-    let join = |call: Declared| {
-        let mut parameters: Vec<(String, String)> = Vec::new();
-        for (name, kind) in call.parameters {
-            match parameters.last_mut() {
-                Some((pointer, of)) if kind == "length" && name == format!("{pointer}_len") => {
-                    *of = of.replace("pointer", "buffer");
-                }
-                _ => parameters.push((name, kind)),
-            }
-        }
-        Declared { parameters, ..call }
-    };
-    calls.into_iter().map(join).collect()
-}
-
-fn without_comments(text: &str) -> String {
-    let mut left = String::new();
-    for (i, part) in text.split("/*").enumerate() {
-        let after = if i == 0 {
-            part
-        } else {
-            part.split_once("*/").unwrap().1
-        };
-        left.push_str(after);
-    }
-    left
-}
-
-/// The functions that the header declares; its inline functions take an answer and are no calls.
-fn header_calls(header: &str) -> Vec<Declared> {
-    let parameter = |text: &str| {
-        let split = text
-            .rfind(|c: char| !c.is_alphanumeric() && c != '_')
-            .unwrap();
-        let (kind, name) = text.split_at(split + 1);
-        let kind = match kind.replace(' ', "").as_str() {
-            "uint64_t" => "u64",
-            "size_t" => "length",
-            "constuint8_t*" => "read u8 pointer",
-            "constuint16_t*" => "read u16 pointer",
-            "constuint32_t*" => "read u32 pointer",
-            "uint8_t*" => "written u8 pointer",
-            "uint16_t*" => "written u16 pointer",
-            "uint32_t*" => "written u32 pointer",
-            "structrudderfig_parity*" => "state",
-            other => panic!("a parameter of the kind {other}"),
-        };
-        (name.to_string(), kind.to_string())
-    };
-    let text = without_comments(header);
-    let calls = text
-        .lines()
-        .filter(|line| !line.starts_with("static inline"))
-        .collect::<Vec<_>>()
-        .join("\n");
-    joined(declared(&calls, "uint64_t", parameter))
-}
-
-/// The functions that the tests declare.
-fn rust_calls(text: &str) -> Vec<Declared> {
-    let parameter = |text: &str| {
-        let (name, kind) = text.split_once(':').unwrap();
-        let kind = match kind.trim() {
-            "u64" => "u64".to_string(),
-            "usize" => "length".to_string(),
-            "*mut Parity" => "state".to_string(),
-            kind if kind.starts_with("*const ") => format!("read {} pointer", &kind[7..]),
-            kind if kind.starts_with("*mut ") => format!("written {} pointer", &kind[5..]),
-            other => panic!("a parameter of the kind {other}"),
-        };
-        (name.trim().to_string(), kind)
-    };
-    joined(declared(text, "fn", parameter))
-}
-
-/// The functions that the library exports. Its name for the layout record is `words`.
-fn library_calls(text: &str) -> Vec<Declared> {
-    let parameter = |text: &str| {
-        let (name, kind) = text.split_once(':').unwrap();
-        let name = if name == "words" { "record" } else { name };
-        let element = |kind: &str| kind.trim_end_matches(']').to_string();
-        let kind = match kind.trim() {
-            "u64" => "u64".to_string(),
-            "&mut State" => "state".to_string(),
-            kind if kind.starts_with("&mut [") => format!("written {} buffer", element(&kind[6..])),
-            kind if kind.starts_with("&[") => format!("read {} buffer", element(&kind[2..])),
-            other => panic!("a parameter of the kind {other}"),
-        };
-        (name.trim().to_string(), kind)
-    };
-    declared(text, "pub extern \"C\" fn", parameter)
 }
 
 fn library_text() -> String {
@@ -150,7 +28,7 @@ fn library_text() -> String {
 fn header_declarations_and_library_agree() {
     let header = header_calls(&read("include/rudderfig.h"));
     assert!(header.len() >= 13);
-    assert_eq!(header, rust_calls(&read("host/src/interface.rs")));
+    assert_eq!(header, test_calls(&read("host/src/interface.rs")));
     assert_eq!(header, library_calls(&library_text()));
 }
 
@@ -192,24 +70,33 @@ fn the_readme_states_the_stack_of_the_header() {
     }
 }
 
+/// The header with two lines of a declaration the other way round.
+fn exchanged(header: &str, first: &str, second: &str) -> String {
+    let indent = |call: &str| " ".repeat("uint64_t (".len() + call.len());
+    let call = header_calls(header)
+        .into_iter()
+        .find(|call| header.contains(&format!("{first},\n{}{second}", indent(&call.name))))
+        .expect(first);
+    let between = format!(",\n{}", indent(&call.name));
+    let right = format!("{first}{between}{second}");
+    assert_eq!(header.matches(&right).count(), 1);
+    header.replace(&right, &format!("{second}{between}{first}"))
+}
+
 /// The buffers of rudderfig_locate_errors the other way round.
 fn swapped(header: &str) -> String {
-    let right = "const uint8_t *remainder, size_t remainder_len,\n                                 uint16_t *places, size_t places_len";
-    let wrong =
-        "uint16_t *places, size_t places_len, const uint8_t *remainder, size_t remainder_len";
-    assert_eq!(header.matches(right).count(), 1);
-    header.replace(right, wrong)
+    let remainder = "const uint8_t *remainder, rudderfig_length remainder_len";
+    exchanged(
+        header,
+        remainder,
+        "uint16_t *places, rudderfig_length places_len",
+    )
 }
 
 /// Two buffers of one kind the other way round, which no C compiler can see.
 fn renamed(header: &str) -> String {
-    let (metadata, data) = (
-        "uint8_t *metadata,\n                             size_t metadata_len",
-        "uint8_t *data, size_t data_len",
-    );
-    let right = format!("{metadata}, {data}");
-    assert_eq!(header.matches(&right).count(), 1);
-    header.replace(&right, &format!("{data}, {metadata}"))
+    let metadata = "uint8_t *metadata, rudderfig_length metadata_len";
+    exchanged(header, metadata, "uint8_t *data, rudderfig_length data_len")
 }
 
 #[test]
@@ -278,4 +165,24 @@ fn every_call_finds_a_spoiled_header_out() {
     );
     assert_ne!(numbers, header);
     assert!(every_call("numbers", &C, &numbers).is_err());
+}
+
+/// The words of an answer are put together for one order of bytes.
+#[test]
+fn a_big_endian_processor_is_refused() {
+    let compile = |order: &str| {
+        let mut compiler = Command::new("cc");
+        compiler.args(["-fsyntax-only", "-U__BYTE_ORDER__", order]);
+        let output = compiler
+            .arg("include/rudderfig.h")
+            .current_dir(ROOT)
+            .output();
+        let output = output.unwrap();
+        let said = String::from_utf8_lossy(&output.stderr).into_owned();
+        (output.status.success(), said)
+    };
+    let little = compile("-D__BYTE_ORDER__=__ORDER_LITTLE_ENDIAN__");
+    assert!(little.0, "{}", little.1);
+    let big = compile("-D__BYTE_ORDER__=__ORDER_BIG_ENDIAN__");
+    assert!(!big.0 && big.1.contains("little-endian"), "{}", big.1);
 }

@@ -3,4 +3,5 @@
 pub mod fragments;
 pub mod layouts;
 pub mod pages;
+pub mod pieces;
 pub mod remainders;

@@ -35,7 +35,8 @@ impl Archive {
     }
 }
 
-// SAFETY of all calls: each pointer comes with the length of the slice it was taken from.
+// SAFETY of all calls: each pointer comes with the length of the slice it was taken from; a state has
+// as many words as struct rudderfig_parity.
 impl Library for Archive {
     fn check_layout(&self, record: &[u8]) -> u64 {
         unsafe { interface::rudderfig_check_layout(self.of(record), record.len()) }
@@ -157,5 +158,20 @@ impl Library for Archive {
                 remainder.len(),
             )
         }
+    }
+
+    fn parity_start(&self, state: &mut [u64], level: u64, choice: u64, length: u64) -> u64 {
+        let state = state.as_mut_ptr().cast();
+        unsafe { interface::rudderfig_parity_start(state, level, choice, length) }
+    }
+
+    fn parity_feed(&self, state: &mut [u64], piece: &[u8]) -> u64 {
+        let state = state.as_mut_ptr().cast();
+        unsafe { interface::rudderfig_parity_feed(state, self.of(piece), piece.len()) }
+    }
+
+    fn parity_finish(&self, state: &mut [u64], parity: &mut [u8]) -> u64 {
+        let state = state.as_mut_ptr().cast();
+        unsafe { interface::rudderfig_parity_finish(state, self.of_mut(parity), parity.len()) }
     }
 }
