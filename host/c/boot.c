@@ -1,25 +1,40 @@
 /*
- * The library as a boot loader has it: freestanding, with no C library, on a stack of its own that is as large as the header says. Writes a page of two
- * blocks (case E of document 01), damages it, reads it back, then ruins it, and takes a message in pieces. The exit status is 0 where every byte is as it should be, and else
- * the number of the first step that was not.
+ * The library as a boot loader has it: freestanding, with no C library, on a stack of its own that is as large as the header says, on x86-64, AArch64,
+ * ARMv7-A and RISC-V. Writes a page of two blocks (case E of document 01), damages it, reads it back, then ruins it, and takes a message in pieces. The
+ * exit status is 0 where every byte is as it should be, and else the number of the first step that was not.
  */
 #include "rudderfig.h"
 
-/* What the archive needs from its surroundings. */
+/* What the archive needs from its surroundings. The empty statements keep the compiler from making calls of memcpy and memset out of these loops. */
 
 void *memcpy(void *restrict to, const void *restrict from, size_t n)
 {
-    void *start = to;
-    __asm__ volatile("rep movsb" : "+D"(to), "+S"(from), "+c"(n) : : "memory");
-    return start;
+    uint8_t *out = to;
+    const uint8_t *in = from;
+    for (; n > 0; n--) {
+        *out++ = *in++;
+        __asm__ volatile("" : : : "memory");
+    }
+    return to;
 }
 
 void *memset(void *to, int value, size_t n)
 {
-    void *start = to;
-    __asm__ volatile("rep stosb" : "+D"(to), "+c"(n) : "a"(value) : "memory");
-    return start;
+    uint8_t *out = to;
+    for (; n > 0; n--) {
+        *out++ = (uint8_t)value;
+        __asm__ volatile("" : : : "memory");
+    }
+    return to;
 }
+
+#if defined(__arm__)
+/* Where a processor has no instruction to divide, the compiler's own function does it, and would call this for a divisor of 0; the library has none. */
+int raise(int signal)
+{
+    return signal;
+}
+#endif
 
 static int same(const uint8_t *found, const uint8_t *wanted, size_t n)
 {
@@ -133,8 +148,11 @@ static int untouched(const uint8_t *area)
     return i == AROUND;
 }
 
+/* boot_on_own_stack calls run_boot with the stack pointer at top; the program starts at _start and ends with start's answer as its status. */
+
 int boot_on_own_stack(uint8_t *top);
 
+#if defined(__x86_64__)
 __asm__(
     ".globl boot_on_own_stack\n"
     "boot_on_own_stack:\n"
@@ -144,7 +162,73 @@ __asm__(
     "    call run_boot\n"
     "    mov %rbx, %rsp\n"
     "    pop %rbx\n"
-    "    ret\n");
+    "    ret\n"
+    ".globl _start\n"
+    "_start:\n"
+    "    call start\n"
+    "    mov %eax, %edi\n"
+    "    mov $60, %eax\n"
+    "    syscall\n");
+#elif defined(__aarch64__)
+__asm__(
+    ".globl boot_on_own_stack\n"
+    "boot_on_own_stack:\n"
+    "    stp x29, x30, [sp, #-16]!\n"
+    "    mov x29, sp\n"
+    "    mov sp, x0\n"
+    "    bl run_boot\n"
+    "    mov sp, x29\n"
+    "    ldp x29, x30, [sp], #16\n"
+    "    ret\n"
+    ".globl _start\n"
+    "_start:\n"
+    "    bl start\n"
+    "    mov x8, #93\n"
+    "    svc #0\n");
+#elif defined(__arm__)
+__asm__(
+    ".syntax unified\n"
+    ".arm\n"
+    ".globl boot_on_own_stack\n"
+    ".type boot_on_own_stack, %function\n"
+    "boot_on_own_stack:\n"
+    "    push {r4, lr}\n"
+    "    mov r4, sp\n"
+    "    mov sp, r0\n"
+    "    bl run_boot\n"
+    "    mov sp, r4\n"
+    "    pop {r4, pc}\n"
+    ".globl _start\n"
+    ".type _start, %function\n"
+    "_start:\n"
+    "    bl start\n"
+    "    mov r7, #1\n"
+    "    svc #0\n");
+#elif defined(__riscv) && __riscv_xlen == 64
+__asm__(
+    ".globl boot_on_own_stack\n"
+    "boot_on_own_stack:\n"
+    "    addi sp, sp, -16\n"
+    "    sd ra, 8(sp)\n"
+    "    sd s0, 0(sp)\n"
+    "    mv s0, sp\n"
+    "    mv sp, a0\n"
+    "    call run_boot\n"
+    "    mv sp, s0\n"
+    "    ld ra, 8(sp)\n"
+    "    ld s0, 0(sp)\n"
+    "    addi sp, sp, 16\n"
+    "    ret\n"
+    ".globl _start\n"
+    "_start:\n"
+    ".option push\n"
+    ".option norelax\n"
+    "    la gp, __global_pointer$\n"
+    ".option pop\n"
+    "    call start\n"
+    "    li a7, 93\n"
+    "    ecall\n");
+#endif
 
 int run_boot(void)
 {
@@ -160,11 +244,3 @@ int start(void)
         return step;
     return untouched(stack) && untouched(stack + sizeof stack - AROUND) ? 0 : 11;
 }
-
-__asm__(
-    ".globl _start\n"
-    "_start:\n"
-    "    call start\n"
-    "    mov %eax, %edi\n"
-    "    mov $60, %eax\n"
-    "    syscall\n");
