@@ -1,11 +1,13 @@
 #!/usr/bin/env python3
-"""Reads off an archive's machine code how much stack each exported call takes, and holds the header's figures to it.
+"""Reads off an archive how much stack each exported call takes, and holds the header's figures to it.
 
-    scripts/stack.py ARCHIVE            the bytes of stack that each rudderfig_ call takes, return address included
-    scripts/stack.py ARCHIVE HEADER     the same beside the figures RUDDERFIG_STACK_.. of the header; the exit status is 0 only where each is enough
+    scripts/stack.py ARCHIVE                     the bytes of stack that each rudderfig_ call takes, return address included
+    scripts/stack.py ARCHIVE HEADER              the same beside the figures RUDDERFIG_STACK_.. of the header; the exit status is 0 only where each is enough
+    scripts/stack.py ARCHIVE HEADER FRAMES       for any processor: FRAMES is what the compiler says of each function's frame (-fstack-usage)
 
-A function's frame is its return address, its pushes and what it takes from the stack pointer; a call is as deep as its frame and the deepest
-function that it calls, or the bytes below the stack pointer that it writes (the red zone). memcpy and memset are the caller's and count as nothing.
+For x86-64 a function's frame is read off the machine code: its return address, its pushes and what it takes from the stack pointer. A call is as deep as
+its frame and the deepest function that it calls, or the bytes below the stack pointer that it writes (the red zone, which x86-64 alone has). memcpy and
+memset are the caller's and count as nothing.
 """
 import re
 import subprocess
@@ -44,8 +46,23 @@ def taken(line):
 
 
 class Depths:
+    """The depth of each function: its frame, and the red zone or the deepest function that it calls. A processor tells frame, red_zone and calls."""
+
+    def depth(self, name, above=()):
+        if name in above:
+            sys.exit(f"stack.py: {name} calls itself, so its depth cannot be read off the code")
+        below = [self.depth(called, above + (name,)) for called in self.calls(name)]
+        return self.frame(name) + max([self.red_zone(name)] + below)
+
+
+class MachineCode(Depths):
+    """x86-64, read off the machine code."""
+
     def __init__(self, archive):
         self.code = functions(archive)
+
+    def names(self):
+        return self.code
 
     def frame(self, name):
         return WORD + sum(taken(line) for line in self.code[name])
@@ -57,11 +74,32 @@ class Depths:
         targets = (re.search(r"R_X86_64_(?:PLT32|PC32)\t(?:\.text\.)?(\S+?)-0x4$", line) for line in self.code[name])
         return {m.group(1) for m in targets if m} & set(self.code)
 
-    def depth(self, name, above=()):
-        if name in above:
-            sys.exit(f"stack.py: {name} calls itself, so its depth cannot be read off the code")
-        below = [self.depth(called, above + (name,)) for called in self.calls(name)]
-        return self.frame(name) + max([self.red_zone(name)] + below)
+
+class Frames(Depths):
+    """Frames as the compiler states them, and calls as the relocations of each function's section name them."""
+
+    def __init__(self, archive, frames):
+        lines = (line.split("\t") for line in open(frames))
+        self.frames = {place.split(":", 1)[1]: int(size) for place, size, _ in lines}
+        text = subprocess.run(["readelf", "-rW", archive], capture_output=True, text=True, check=True).stdout
+        self.called, at = {}, None
+        for line in text.splitlines():
+            if section := re.match(r"Relocation section '(\S+)' at", line):
+                at = re.sub(r"^\.rela?\.text\.", "", section.group(1))
+            elif relocation := re.match(r"[0-9a-f]+ +[0-9a-f]+ +R_\S+ +[0-9a-f]+ +(?:\.text\.)?(\S+)", line):
+                self.called.setdefault(at, set()).add(relocation.group(1))
+
+    def names(self):
+        return self.frames
+
+    def frame(self, name):
+        return self.frames[name]
+
+    def red_zone(self, name):
+        return 0
+
+    def calls(self, name):
+        return (self.called.get(name, set()) & set(self.frames)) - {name}
 
 
 def figures(header):
@@ -69,12 +107,12 @@ def figures(header):
 
 
 if __name__ == "__main__":
-    if len(sys.argv) not in (2, 3):
+    if len(sys.argv) not in (2, 3, 4):
         sys.exit(__doc__)
-    depths = Depths(sys.argv[1])
-    stated = figures(sys.argv[2]) if len(sys.argv) == 3 else {}
+    depths = Frames(sys.argv[1], sys.argv[3]) if len(sys.argv) == 4 else MachineCode(sys.argv[1])
+    stated = figures(sys.argv[2]) if len(sys.argv) > 2 else {}
     enough = True
-    for name in sorted(n for n in depths.code if n.startswith("rudderfig_")):
+    for name in sorted(n for n in depths.names() if n.startswith("rudderfig_")):
         depth = depths.depth(name)
         figure = stated.get(name.removeprefix("rudderfig_").upper())
         enough &= not stated or (figure is not None and depth <= figure)
