@@ -41,7 +41,7 @@
  * freestanding and runs at any address. On x86-64 it takes SSE2 to be switched on, on AArch64 the SIMD registers; the code for the others has no
  * floating-point instruction. On x86-64 the code uses the red zone: an interrupt must not write the 128 bytes below the stack pointer, so one that is
  * taken on the same stack has to step over them. But for ARMv7-A a large frame is touched page by page from above, so that a guard page below the stack
- * is always hit. For the two ARM processors it makes aligned accesses only, so that it may run before the memory unit is switched on.
+ * is always hit. The two ARM processors must let unaligned accesses to memory pass, as they do once the memory unit is switched on.
  */
 #ifndef RUDDERFIG_H
 #define RUDDERFIG_H

@@ -28,8 +28,8 @@ emulator() {
 flags() {
     case $1 in
     x86_64-*) echo -march=x86-64 ;;
-    aarch64-*) echo -march=armv8-a -mno-unaligned-access ;;
-    armv7-*) echo -march=armv7-a -mfpu=vfpv3-d16 -mno-unaligned-access ;;
+    aarch64-*) echo -march=armv8-a ;;
+    armv7-*) echo -march=armv7-a -mfpu=vfpv3-d16 ;;
     riscv64-*) echo -march=rv64gc ;;
     esac
 }
