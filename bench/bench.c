@@ -1,12 +1,14 @@
 /*
- * Reading and writing pages: this library and lib/bch.c of the Linux kernel side by side in one run.
+ * Reading and writing pages: this library and lib/bch.c of the Linux kernel, built with -O2 and with -O3, side by side in one run.
  *
- *   bench            times a page, in microseconds, and the ratio of the two
- *   bench count      runs each row once between callgrind's marks; scripts/bench reads the counts
+ *   bench times      a line 'LAYOUT|ROW|OURS|O2|O3' for each row: microseconds of processor time of one page, the best of many short runs that the
+ *                    three take in turn
+ *   bench count      runs each row once between callgrind's marks 'LAYOUT|ROW|SIDE'; scripts/bench reads the counts
  *   bench growth     the same for pages that grow by a factor of eight in one respect: bytes of a block, blocks, flips
  *
- * Both sides work on warm buffers. A page of the kernel's is its blocks' data and parity bytes side by side, as a driver keeps
- * them; it decodes each block from data and parity and turns the found bits over. Flips are placed by a seeded generator.
+ * All work on warm buffers. A page of the kernel's is its blocks' data and parity bytes side by side, as a driver keeps them; it decodes each block from
+ * data and parity and turns the found bits over, and where it finds no codeword it counts the zeros of the block, as its drivers do for erased flash.
+ * Flips are placed by a seeded generator. Rows for erased pages are left out while this library refuses such a page.
  */
 #include <stdbool.h>
 #include <stdint.h>
@@ -20,7 +22,30 @@
 #include "rudderfig.h"
 #include "linux/bch.h"
 
-enum { MAX_PAGE = 8192, MAX_BLOCKS = 256, MAX_ECC = 128 };
+enum { MAX_PAGE = 8192, MAX_BLOCKS = 256, MAX_ECC = 128, BUILDS = 2, SIDES = 1 + BUILDS, RUNS = 25, RUN_MICROSECONDS = 3000 };
+
+/* The kernel's library twice: scripts/bench gives the functions of each build these names. */
+#define BUILD(level)                                                                                                        \
+	struct bch_control *bch_init_##level(int m, int t, unsigned prim_poly, bool swap_bits);                             \
+	void bch_free_##level(struct bch_control *bch);                                                                     \
+	void bch_encode_##level(struct bch_control *bch, const uint8_t *data, unsigned len, uint8_t *ecc);                  \
+	int bch_decode_##level(struct bch_control *bch, const uint8_t *data, unsigned len, const uint8_t *recv_ecc, const uint8_t *calc_ecc, \
+			       const unsigned *syn, unsigned *errloc);
+BUILD(O2)
+BUILD(O3)
+
+struct build {
+	struct bch_control *(*init)(int, int, unsigned, bool);
+	void (*release)(struct bch_control *);
+	void (*encode)(struct bch_control *, const uint8_t *, unsigned, uint8_t *);
+	int (*decode)(struct bch_control *, const uint8_t *, unsigned, const uint8_t *, const uint8_t *, const unsigned *, unsigned *);
+};
+
+static const struct build builds[BUILDS] = {
+	{ bch_init_O2, bch_free_O2, bch_encode_O2, bch_decode_O2 },
+	{ bch_init_O3, bch_free_O3, bch_encode_O3, bch_decode_O3 },
+};
+static const char *const side_names[SIDES] = { "ours", "O2", "O3" };
 
 struct layout {
 	const char *name;
@@ -56,7 +81,7 @@ static uint32_t next_random(void)
 
 struct bench {
 	struct layout l;
-	struct bch_control *kernel;
+	struct bch_control *control[BUILDS];
 	uint8_t data[MAX_PAGE], out[MAX_PAGE], counts[MAX_BLOCKS];
 	uint8_t clean[MAX_PAGE], page[MAX_PAGE];
 	uint8_t kernel_clean[MAX_PAGE], kernel_data[MAX_PAGE], kernel_out[MAX_PAGE];
@@ -69,87 +94,157 @@ static void fail(const char *what)
 	exit(1);
 }
 
-static uint64_t write_ours(struct bench *b)
+static unsigned data_length(const struct bench *b)
 {
-	return rudderfig_write_page(b->l.record, 8, NULL, 0, b->data, b->l.blocks * b->l.data_bytes, b->clean, b->l.page_bytes);
+	return b->l.blocks * b->l.data_bytes;
 }
 
-static void write_kernel(struct bench *b)
+static uint64_t write_ours(struct bench *b)
+{
+	return rudderfig_write_page(b->l.record, 8, NULL, 0, b->data, data_length(b), b->clean, b->l.page_bytes);
+}
+
+static void write_kernel(struct bench *b, unsigned build)
 {
 	for (unsigned i = 0; i < b->l.blocks; i++) {
-		memset(b->ecc_clean[i], 0, b->kernel->ecc_bytes);
-		bch_encode(b->kernel, b->data + i * b->l.data_bytes, b->l.data_bytes, b->ecc_clean[i]);
+		memset(b->ecc_clean[i], 0, b->control[build]->ecc_bytes);
+		builds[build].encode(b->control[build], b->data + i * b->l.data_bytes, b->l.data_bytes, b->ecc_clean[i]);
 	}
-	memcpy(b->kernel_clean, b->data, b->l.blocks * b->l.data_bytes);
+	memcpy(b->kernel_clean, b->data, data_length(b));
 }
 
 static uint64_t read_ours(struct bench *b)
 {
-	return rudderfig_read_page(b->l.record, 8, b->page, b->l.page_bytes, NULL, 0, b->out, b->l.blocks * b->l.data_bytes, b->counts, b->l.blocks);
+	return rudderfig_read_page(b->l.record, 8, b->page, b->l.page_bytes, NULL, 0, b->out, data_length(b), b->counts, b->l.blocks);
 }
 
-static int read_kernel(struct bench *b)
+/* The zeros of some bytes, eight bytes at a time. */
+static unsigned zeros_of(const uint8_t *bytes, unsigned length)
 {
-	unsigned places[64];
+	unsigned zeros = 0;
+	uint64_t word;
+
+	for (; length >= 8; length -= 8, bytes += 8) {
+		memcpy(&word, bytes, 8);
+		zeros += __builtin_popcountll(~word);
+	}
+	for (; length > 0; length--, bytes++)
+		zeros += __builtin_popcount(0xFF & ~*bytes);
+	return zeros;
+}
+
+/* Decodes one block in place; the flips, 128 and its zeros where it is erased, or a negative number. */
+static int decode_kernel(struct bench *b, unsigned build, unsigned i, uint8_t *block)
+{
+	unsigned places[64], zeros;
+	int found = builds[build].decode(b->control[build], block, b->l.data_bytes, b->ecc[i], NULL, NULL, places);
+
+	if (found < 0) {
+		zeros = zeros_of(block, b->l.data_bytes) + zeros_of(b->ecc[i], b->control[build]->ecc_bytes);
+		if (zeros > b->l.t)
+			return found;
+		memset(block, 0xFF, b->l.data_bytes);
+		return 128 + zeros;
+	}
+	for (int k = 0; k < found; k++)
+		if (places[k] < 8 * b->l.data_bytes)
+			block[places[k] / 8] ^= 1 << places[k] % 8;
+	return found;
+}
+
+/* The flips of the worst block, or a negative number where one cannot be read. */
+static int read_kernel(struct bench *b, unsigned build)
+{
 	int worst = 0;
 
-	memcpy(b->kernel_out, b->kernel_data, b->l.blocks * b->l.data_bytes);
+	memcpy(b->kernel_out, b->kernel_data, data_length(b));
 	for (unsigned i = 0; i < b->l.blocks; i++) {
-		uint8_t *block = b->kernel_out + i * b->l.data_bytes;
-		int found = bch_decode(b->kernel, block, b->l.data_bytes, b->ecc[i], NULL, NULL, places);
+		int found = decode_kernel(b, build, i, b->kernel_out + i * b->l.data_bytes);
 
 		if (found < 0)
 			return found;
-		for (int k = 0; k < found; k++)
-			if (places[k] < 8 * b->l.data_bytes)
-				block[places[k] / 8] ^= 1 << places[k] % 8;
 		if (found > worst)
 			worst = found;
 	}
 	return worst;
 }
 
-/* Turns over the same data bits of both pages, `flips` different ones in each block. */
-static void damage(struct bench *b, unsigned flips)
+static void unharmed(struct bench *b)
+{
+	memcpy(b->page, b->clean, b->l.page_bytes);
+	memcpy(b->kernel_data, b->kernel_clean, data_length(b));
+	memcpy(b->ecc, b->ecc_clean, sizeof b->ecc);
+}
+
+/* Turns over the same data bits of a block of both pages, `flips` different ones. */
+static void damage_block(struct bench *b, unsigned i, unsigned flips)
 {
 	unsigned covered = 8 * b->l.data_bytes + b->l.parity_bits;
+	bool turned[8 * MAX_PAGE] = { false };
 
-	memcpy(b->page, b->clean, b->l.page_bytes);
-	memcpy(b->kernel_data, b->kernel_clean, b->l.blocks * b->l.data_bytes);
-	memcpy(b->ecc, b->ecc_clean, sizeof b->ecc);
-	for (unsigned i = 0; i < b->l.blocks; i++) {
-		bool turned[8 * MAX_PAGE] = { false };
+	for (unsigned k = 0; k < flips;) {
+		unsigned bit = next_random() % (8 * b->l.data_bytes), at = i * covered + bit;
 
-		for (unsigned k = 0; k < flips;) {
-			unsigned bit = next_random() % (8 * b->l.data_bytes), at = i * covered + bit;
-
-			if (turned[bit])
-				continue;
-			turned[bit] = true;
-			b->page[at / 8] ^= 1 << (7 - at % 8);
-			b->kernel_data[i * b->l.data_bytes + bit / 8] ^= 1 << (7 - bit % 8);
-			k++;
-		}
+		if (turned[bit])
+			continue;
+		turned[bit] = true;
+		b->page[at / 8] ^= 1 << (7 - at % 8);
+		b->kernel_data[i * b->l.data_bytes + bit / 8] ^= 1 << (7 - bit % 8);
+		k++;
 	}
 }
 
-/* Without ruin every block must come back; with it the first block must be refused. */
-static void check(struct bench *b, unsigned flips, bool ruined)
+static void damage(struct bench *b, unsigned flips)
 {
-	uint64_t answer = read_ours(b);
+	unharmed(b);
+	for (unsigned i = 0; i < b->l.blocks; i++)
+		damage_block(b, i, flips);
+}
 
-	if (ruined) {
-		if (rudderfig_reply(answer) != 9 || read_kernel(b) >= 0)
-			fail("a ruined page was read");
-		return;
-	}
-	if (rudderfig_reply(answer) != 0 || memcmp(b->out, b->data, b->l.blocks * b->l.data_bytes) != 0)
+/* Pages as erased flash has them, with so many zeros in each block. */
+static void erase(struct bench *b, unsigned zeros)
+{
+	memset(b->page, 0xFF, b->l.page_bytes);
+	memset(b->kernel_data, 0xFF, data_length(b));
+	memset(b->ecc, 0xFF, sizeof b->ecc);
+	for (unsigned i = 0; i < b->l.blocks; i++)
+		damage_block(b, i, zeros);
+}
+
+/* Every block must come back on all sides, the counts adding up to `sum` and the worst being `worst`. */
+static void check(struct bench *b, const uint8_t *data, unsigned sum, unsigned worst)
+{
+	if (rudderfig_reply(read_ours(b)) != 0 || memcmp(b->out, data, data_length(b)) != 0)
 		fail("a page did not read back");
 	for (unsigned i = 0; i < b->l.blocks; i++)
-		if (b->counts[i] != flips)
-			fail("a count is wrong");
-	if (read_kernel(b) != (int)flips || memcmp(b->kernel_out, b->data, b->l.blocks * b->l.data_bytes) != 0)
-		fail("the kernel's page did not read back");
+		sum -= b->counts[i];
+	if (sum != 0)
+		fail("a count is wrong");
+	for (unsigned build = 0; build < BUILDS; build++)
+		if (read_kernel(b, build) != (int)worst || memcmp(b->kernel_out, data, data_length(b)) != 0)
+			fail("the kernel's page did not read back");
+}
+
+static void check_ruined(struct bench *b)
+{
+	if (rudderfig_reply(read_ours(b)) != 9)
+		fail("a ruined page was read");
+	for (unsigned build = 0; build < BUILDS; build++)
+		if (read_kernel(b, build) >= 0)
+			fail("a ruined page was read by the kernel");
+}
+
+/* Side 0 is ours, the others are the builds of the kernel's. */
+static void once(struct bench *b, bool writes, unsigned side)
+{
+	if (side == 0 && writes)
+		write_ours(b);
+	else if (side == 0)
+		read_ours(b);
+	else if (writes)
+		write_kernel(b, side - 1);
+	else
+		read_kernel(b, side - 1);
 }
 
 /* Microseconds of processor time, so that other work on the machine counts as little as can be. */
@@ -161,69 +256,56 @@ static double now(void)
 	return t.tv_sec * 1e6 + t.tv_nsec / 1e3;
 }
 
-static void ours_once(struct bench *b, bool writes)
+static double run(struct bench *b, bool writes, unsigned side)
 {
-	if (writes)
-		write_ours(b);
-	else
-		read_ours(b);
+	double start = now(), spent;
+	unsigned n = 0;
+
+	do {
+		once(b, writes, side);
+		n++;
+		spent = now() - start;
+	} while (spent < RUN_MICROSECONDS);
+	return spent / n;
 }
 
-static void kernel_once(struct bench *b, bool writes)
+static void time_row(struct bench *b, const char *what, bool writes)
 {
-	if (writes)
-		write_kernel(b);
-	else
-		read_kernel(b);
-}
+	double best[SIDES];
 
-/* The best of several runs, each of at least ten milliseconds. */
-static double time_of(struct bench *b, bool writes, void (*once)(struct bench *, bool))
-{
-	double best = 1e18;
+	for (unsigned side = 0; side < SIDES; side++)
+		best[side] = 1e18;
+	for (unsigned i = 0; i < RUNS; i++)
+		for (unsigned side = 0; side < SIDES; side++) {
+			double took = run(b, writes, side);
 
-	for (int run = 0; run < 7; run++) {
-		double start = now(), spent;
-		unsigned n = 0;
-
-		do {
-			once(b, writes);
-			n++;
-			spent = now() - start;
-		} while (spent < 10000);
-		if (spent / n < best)
-			best = spent / n;
-	}
-	return best;
+			if (took < best[side])
+				best[side] = took;
+		}
+	printf("%s|%s|%.2f|%.2f|%.2f\n", b->l.name, what, best[0], best[1], best[2]);
+	fflush(stdout);
 }
 
 /* One page of each side between callgrind's marks. */
-static void count(struct bench *b, const char *what, bool writes)
+static void count_row(struct bench *b, const char *what, bool writes)
 {
 	char label[96];
 
-	snprintf(label, sizeof label, "%s|%s|ours", b->l.name, what);
-	CALLGRIND_ZERO_STATS;
-	ours_once(b, writes);
-	CALLGRIND_DUMP_STATS_AT(label);
-	snprintf(label, sizeof label, "%s|%s|linux", b->l.name, what);
-	CALLGRIND_ZERO_STATS;
-	kernel_once(b, writes);
-	CALLGRIND_DUMP_STATS_AT(label);
+	for (unsigned side = 0; side < SIDES; side++) {
+		once(b, writes, side);
+		snprintf(label, sizeof label, "%s|%s|%s", b->l.name, what, side_names[side]);
+		CALLGRIND_ZERO_STATS;
+		once(b, writes, side);
+		CALLGRIND_DUMP_STATS_AT(label);
+	}
 }
 
 static void row(struct bench *b, const char *what, bool writes, bool counting)
 {
-	ours_once(b, writes);
-	kernel_once(b, writes);
-	if (counting) {
-		count(b, what, writes);
-		return;
-	}
-	double ours = time_of(b, writes, ours_once), kernel = time_of(b, writes, kernel_once);
-
-	printf("| %s | %s | %.1f | %.1f | %.2f |\n", b->l.name, what, ours, kernel, ours / kernel);
-	fflush(stdout);
+	if (counting)
+		count_row(b, what, writes);
+	else
+		time_row(b, what, writes);
 }
 
 static void read_row(struct bench *b, unsigned flips, bool counting)
@@ -231,45 +313,70 @@ static void read_row(struct bench *b, unsigned flips, bool counting)
 	char what[32];
 
 	damage(b, flips);
-	check(b, flips, false);
+	check(b, b->data, b->l.blocks * flips, flips);
 	snprintf(what, sizeof what, flips == 0 ? "read, clean" : flips == 1 ? "read, 1 flip a block" : "read, %u flips a block", flips);
 	row(b, what, false, counting);
 }
 
-/* A written page of the layout on each side. Returns the time that the kernel's set-up took. */
-static double start(struct bench *b, struct layout l)
+/* The commonest damage: one flip in one block. */
+static void single_row(struct bench *b, bool counting)
 {
-	double begun, took;
+	unharmed(b);
+	damage_block(b, b->l.blocks / 2, 1);
+	check(b, b->data, 1, 1);
+	row(b, "read, 1 flip in all", false, counting);
+}
 
+static void erased_row(struct bench *b, const char *what, unsigned zeros, bool counting)
+{
+	static uint8_t ones[MAX_PAGE];
+
+	memset(ones, 0xFF, sizeof ones);
+	erase(b, zeros);
+	if (rudderfig_reply(read_ours(b)) == 9)
+		return;
+	check(b, ones, b->l.blocks * (128 + zeros), 128 + zeros);
+	row(b, what, false, counting);
+}
+
+static void start(struct bench *b, struct layout l)
+{
 	memset(b, 0, sizeof *b);
 	b->l = l;
-	begun = now();
-	b->kernel = bch_init(l.m, l.t, 0, false);
-	took = now() - begun;
-	if (!b->kernel)
-		fail("bch_init failed");
-	for (unsigned i = 0; i < l.blocks * l.data_bytes; i++)
+	for (unsigned build = 0; build < BUILDS; build++) {
+		b->control[build] = builds[build].init(l.m, l.t, 0, false);
+		if (!b->control[build])
+			fail("bch_init failed");
+	}
+	for (unsigned i = 0; i < data_length(b); i++)
 		b->data[i] = next_random();
 	if (rudderfig_reply(write_ours(b)) != 0)
 		fail("the page was not written");
-	write_kernel(b);
-	return took;
+	write_kernel(b, 0);
+}
+
+static void end(struct bench *b)
+{
+	for (unsigned build = 0; build < BUILDS; build++)
+		builds[build].release(b->control[build]);
 }
 
 static void bench_layout(struct layout l, const unsigned *flips, unsigned rows, bool counting)
 {
 	static struct bench b;
-	double set_up = start(&b, l);
 
-	if (!counting)
-		printf("| %s | set-up (tables) | 0 | %.1f | |\n", l.name, set_up);
+	start(&b, l);
 	row(&b, "write", true, counting);
+	read_row(&b, 0, counting);
+	single_row(&b, counting);
 	for (unsigned i = 0; i < rows; i++)
 		read_row(&b, flips[i], counting);
 	damage(&b, l.t + 5);
-	check(&b, 0, true);
+	check_ruined(&b);
 	row(&b, "read, first block ruined", false, counting);
-	bch_free(b.kernel);
+	erased_row(&b, "read, all ones", 0, counting);
+	erased_row(&b, "read, erased, 1 zero a block", 1, counting);
+	end(&b);
 }
 
 /* Counts the rows of one size on the way up. */
@@ -281,16 +388,16 @@ static void grow(const char *name, unsigned m, unsigned t, unsigned blocks, unsi
 	row(&b, "write", true, true);
 	read_row(&b, 0, true);
 	damage(&b, flips);
-	check(&b, flips, false);
+	check(&b, b.data, blocks * flips, flips);
 	row(&b, "read, damaged", false, true);
-	bch_free(b.kernel);
+	end(&b);
 }
 
 static void growth(void)
 {
 	char name[64];
 
-	for (unsigned bytes = 64; bytes <= 512; bytes *= 2) {
+	for (unsigned bytes = 16; bytes <= 512; bytes *= 2) {
 		snprintf(name, sizeof name, "%u bytes a block", bytes);
 		grow(name, 13, 16, 8, bytes, 4);
 	}
@@ -306,18 +413,17 @@ static void growth(void)
 
 int main(int argc, char **argv)
 {
-	static const unsigned flips_a[] = { 0, 1, 4, 8, 16 }, flips_b[] = { 0, 1, 4, 8, 16, 40 };
-	bool counting = argc == 2 && strcmp(argv[1], "count") == 0;
+	static const unsigned flips_a[] = { 1, 4, 8, 16 }, flips_b[] = { 1, 4, 8, 16, 40 };
+	const char *mode = argc == 2 ? argv[1] : "";
+	bool counting = strcmp(mode, "count") == 0;
 
-	if (argc == 2 && strcmp(argv[1], "growth") == 0) {
+	if (strcmp(mode, "growth") == 0) {
 		growth();
 		return 0;
 	}
-	if (argc > 1 && !counting)
-		fail("usage: bench [count | growth]");
-	if (!counting)
-		printf("| Layout | Row | Rudderfig, us | Linux, us | ratio |\n|---|---|---|---|---|\n");
-	bench_layout(make_layout("A", 13, 16, 8, 512), flips_a, 5, counting);
-	bench_layout(make_layout("B", 14, 40, 4, 1024), flips_b, 6, counting);
+	if (!counting && strcmp(mode, "times") != 0)
+		fail("usage: bench times | count | growth");
+	bench_layout(make_layout("A", 13, 16, 8, 512), flips_a, 4, counting);
+	bench_layout(make_layout("B", 14, 40, 4, 1024), flips_b, 5, counting);
 	return 0;
 }
