@@ -1,5 +1,5 @@
 -- Laws behind the claim check: pairs of exponents, exponents flipped one after the other, codewords by their remainder.
-use mathlib.Core.Path.{_≡_, refl, sym, ap, _∙_, subst}
+use mathlib.Core.Path.{_≡_, refl, sym, ap, _∙_}
 use mathlib.Core.Bool.{Bool, true, false, not, cond}
 use mathlib.Core.List.{List, [], _∷_, _++_}
 use Prim.Native.Nat.{ℕ, zero, suc, _+_, _-_, _*_, _≤_, _<_}
@@ -11,6 +11,7 @@ use lib.ListN.{length, getD, take}
 use lib.Seq.{take-suc}
 use lib.Dec.{eqb}
 use borrow.Author.Tests.{eqb-true, eqb-false, eq-eqb, ne-eqb}
+use Rattle.bits.specs.Decides.{Decides}
 use Rattle.bits.specs.Bits.{bitOf, run, placed}
 use Rattle.bits.proofs.Runs.{run-length, run-at}
 use Rattle.bits.proofs.Placed.{placed-inside, placed-outside, placed-run}
@@ -18,6 +19,8 @@ use Rattle.field.specs.declared.Field.{Field}
 use Rattle.field.specs.declared.Field.the-variants.{Thirteen, Fourteen}
 use Rattle.field.specs.Field.{longest}
 use Rattle.algebra.specs.Word.{flip, differ}
+use Rattle.replies.specs.declared.Refusal.{Refusal}
+use Rattle.replies.specs.Replies.{number}
 use Rattle.layout.specs.declared.Shape.{Shape}
 use Rattle.layout.specs.declared.Plan.{Plan}
 use Rattle.layout.specs.Plan.{coveredOf, shape, field, level, start}
@@ -31,21 +34,8 @@ use Rattle.page_theory.specs.Page.{blockWord}
 use Rattle.page_theory.specs.Claim.{Right}
 use Rattle.page_theory.specs.Calls.{blockReply, claimEnded, claimIn}
 use Rattle.page_theory.proofs.Claims.{claim-right, claim-wrong}
-use Rattle.page_claim.specs.Claims.{Decides, Distinct, Within}
-use Rattle.page_plan.proofs.Asking.{Asked}
-
-abbrev True : Bool → Type 0
-True true = Unit {0}
-True false = ⊥
-
-pub true-false : {b : Bool} → b ≡ true → b ≡ false → ⊥
-true-false p q = subst True (sym p ∙ q) tt
-
-pub decides-true : {P : Type 0} → P → Decides true P
-decides-true p = record { holds = λ e. p; fails = λ e. absurd (true-false refl e) }
-
-pub decides-false : {P : Type 0} → (P → ⊥) → Decides false P
-decides-false n = record { holds = λ e. absurd (true-false e refl); fails = λ e. n }
+use Rattle.page_claim.specs.Claims.{Distinct, Within}
+use Rattle.page_plan.proofs.Asking.{number-some}
 
 -- ---- pairs
 
@@ -168,19 +158,19 @@ longest-room Fourteen t n h z = let l = h .short (omega arith) in omega arith
 
 -- ---- the claim
 
-pub claim-refused : (q : Plan) (page : List ℕ) (b : ℕ) (claims : List ℕ) {r : ℕ} → r ≡ blockReply q (length page) b → (r ≡ 0 → ⊥)
-    → claimEnded r ≡ claimIn q page b claims
+pub claim-refused : (q : Plan) (page : List ℕ) (b : ℕ) (claims : List ℕ) (r : Refusal) → number r ≡ blockReply q (length page) b
+    → claimEnded (number r) ≡ claimIn q page b claims
 unfolding claimIn
-claim-refused q page b claims e n = rw (← e, ne-eqb _ 0 n)
+claim-refused q page b claims r e = rw (← e, ne-eqb _ 0 (number-some r))
 
-module _ (q : Plan) (page : List ℕ) (b : ℕ) (asked : Asked q (length page) b) (claims : List ℕ) {s : Shape} {position : ℕ} (es : s ≡ shape q b)
+module _ (q : Plan) (page : List ℕ) (b : ℕ) (size : length page ≡ q .size) (inside : b < q .blocks) (claims : List ℕ) {s : Shape} {position : ℕ} (es : s ≡ shape q b)
     (ep : position ≡ start q b) {r : Bool} (h : Decides r (Right (s .field) (s .level) (run (bitOf page) position (coveredOf s)) claims)) where
   block-decided : Decides r (Right (field q b) (level q b) (blockWord q page b) claims)
   unfolding blockWord
   block-decided = rw (es, ep) at h
 
   pub claim-accepted : r ≡ true → claimEnded 0 ≡ claimIn q page b claims
-  claim-accepted e = sym (claim-right q page b (asked .size) (asked .inside) claims (block-decided .holds e))
+  claim-accepted e = sym (claim-right q page b size inside claims (block-decided .holds e))
 
   pub claim-rejected : r ≡ false → claimEnded 10 ≡ claimIn q page b claims
-  claim-rejected e = sym (claim-wrong q page b (asked .size) (asked .inside) claims (block-decided .fails e))
+  claim-rejected e = sym (claim-wrong q page b size inside claims (block-decided .fails e))

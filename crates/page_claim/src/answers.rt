@@ -1,5 +1,6 @@
 // Document 01's reply of an answer.
 use crate::ClaimAnswer;
+use replies::refusal_number;
 ghost use mathlib.Core.Path.{_≡_};
 ghost use Rattle.page_claim.specs.Answers.{claimNumber};
 
@@ -9,6 +10,6 @@ pub fn claim_number(answer: ClaimAnswer) -> u8
 {
     match answer {
         ClaimAnswer::Accepted => 0,
-        ClaimAnswer::Refused(reply) => reply,
+        ClaimAnswer::Refused(refusal) => refusal_number(refusal),
     }
 }

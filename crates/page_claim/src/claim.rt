@@ -12,21 +12,24 @@ use layout::block_start;
 use layout::check_layout;
 use layout::covered;
 use layout::plan_of;
-use layout::refusal_reply;
+use layout::refusal_of;
 use page_plan::block_reply;
 use remainder::coefficients::is_zero;
+use replies::Refusal;
+use replies::Verdict;
 ghost use mathlib.Core.Path.{_≡_};
 ghost use Prim.Native.Nat.{_+_, _*_, _≤_, _<_};
 ghost use lib.ListN.{length};
+ghost use Rattle.bits.specs.Decides.{Decides};
 ghost use Rattle.bits.specs.Bits.{bitOf, run, Inside};
 ghost use Rattle.layout.specs.Plan.{coveredOf};
 ghost use Rattle.code.specs.Word.{flipped};
 ghost use Rattle.code.specs.Code.{Codeword, Fits};
 ghost use Rattle.page_theory.specs.Claim.{Right};
 ghost use Rattle.page_theory.specs.Calls.{claimEnded, claimIn, claimOf};
-ghost use Rattle.page_plan.specs.Plans.{Stored, Planned};
+ghost use Rattle.page_plan.specs.Plans.{Stored, Planned, Ready};
 ghost use Rattle.page_claim.specs.Answers.{claimNumber};
-ghost use Rattle.page_claim.specs.Claims.{Decides, Distinct, Within};
+ghost use Rattle.page_claim.specs.Claims.{Distinct, Within};
 
 // Whether no two places of the list hold the same exponent.
 fn distinct(claims: &[u16]) -> bool
@@ -136,22 +139,28 @@ fn is_right(shape: Shape, page: &[u8], position: usize, claims: &[u16]) -> bool
     leads_to_code(shape, page, position, claims)
 }
 
-// Answers to a claim under a plan, where the page's length and the block number are right.
+// Answers to a claim about a block of a page of the right length.
+fn claim_lent(plan: Plan, page: &[u8], block: u16, claims: &[u16]) -> ClaimAnswer
+    requires { ⌜ (Ready plan (now page)) × (block < plan .blocks) ⌝ }
+    ensures { λ r. ⌜ claimEnded (claimNumber r) ≡ claimIn plan (now (page .entry)) block (now (claims .entry)) ⌝ }
+{
+    let shape = block_shape(plan, block);
+    let position = block_start(plan, block);
+    if is_right(shape, page, position, claims) {
+        return ClaimAnswer::Accepted;
+    }
+    ClaimAnswer::Refused(Refusal::ClaimWrong)
+}
+
+// Answers to a claim under the plan of an accepted layout.
 fn claim_in(plan: Plan, page: &[u8], block: u64, claims: &[u16]) -> ClaimAnswer
     requires { ⌜ Planned plan ⌝ }
     ensures { λ r. ⌜ claimEnded (claimNumber r) ≡ claimIn plan (now (page .entry)) block (now (claims .entry)) ⌝ }
 {
-    let reply = block_reply(plan, page.len(), block);
-    if reply != 0 {
-        return ClaimAnswer::Refused(reply);
+    match block_reply(plan, page.len(), block) {
+        Verdict::Refused(refusal) => ClaimAnswer::Refused(refusal),
+        Verdict::Passed => claim_lent(plan, page, block as u16, claims),
     }
-    let number = block as u16;
-    let shape = block_shape(plan, number);
-    let position = block_start(plan, number);
-    if is_right(shape, page, position, claims) {
-        return ClaimAnswer::Accepted;
-    }
-    ClaimAnswer::Refused(10)
 }
 
 // Are these error locations, reported by a hardware locator, right?
@@ -160,6 +169,6 @@ pub fn check_claim(words: &[u8], page: &[u8], block: u64, claims: &[u16]) -> Cla
 {
     match check_layout(words) {
         Acceptance::Accepted(layout) => claim_in(plan_of(layout), page, block, claims),
-        Acceptance::Refused(refusal) => ClaimAnswer::Refused(refusal_reply(refusal)),
+        Acceptance::Refused(refusal) => ClaimAnswer::Refused(refusal_of(refusal)),
     }
 }

@@ -12,9 +12,10 @@ mod claim;
 
 pub use answers::claim_number;
 pub use claim::check_claim;
+use replies::Refusal;
 
-// The answer to claimed locations: they are right, or this is the reply; 10 where they are wrong.
+// The answer to claimed locations: they are right, or this is why not.
 pub enum ClaimAnswer {
     Accepted,
-    Refused(u8),
+    Refused(Refusal),
 }

@@ -3,6 +3,7 @@ use files::Got;
 use layout::Plan;
 use page_claim::ClaimAnswer;
 use plans::Planned;
+use replies::refusal_number;
 use text::Number;
 
 fn exponent(word: u32) -> u16 {
@@ -32,7 +33,11 @@ fn right(claims: usize) {
 fn answer(record: &[u8], plan: Plan, page: &[u8], block: u64, claims: &[u16]) {
     match page_claim::check_claim(record, page, block, claims) {
         ClaimAnswer::Accepted => right(claims.len()),
-        ClaimAnswer::Refused(reply) => say::page_refused(reply, plan, page.len()),
+        ClaimAnswer::Refused(refusal) => say::page_refused(
+            refusal_number(refusal),
+            plan,
+            page.len(),
+        ),
     }
 }
 

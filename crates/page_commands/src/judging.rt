@@ -3,6 +3,8 @@ use files::Got;
 use layout::Plan;
 use page_judge::JudgeAnswer;
 use plans::Planned;
+use replies::Refusal;
+use replies::refusal_number;
 use text::Number;
 
 fn flips(block: u64, n: u8) {
@@ -11,14 +13,19 @@ fn flips(block: u64, n: u8) {
     say::fact(b"corrected bits ", n as u64, b"\n");
 }
 
+fn refused(plan: Plan, page: usize, refusal: Refusal) {
+    if let Refusal::Uncorrectable(block) = refusal {
+        say::ruined(block);
+        say::text(b"\n");
+        return;
+    }
+    say::page_refused(refusal_number(refusal), plan, page);
+}
+
 fn answer(record: &[u8], plan: Plan, page: &[u8], block: u64) {
     match page_judge::judge_block(record, page, block) {
         JudgeAnswer::Flips(n) => flips(block, n),
-        JudgeAnswer::Refused(reply) => say::page_refused(reply, plan, page.len()),
-        JudgeAnswer::Ruined(b) => {
-            say::ruined(b);
-            say::text(b"\n");
-        }
+        JudgeAnswer::Refused(refusal) => refused(plan, page.len(), refusal),
     }
 }
 

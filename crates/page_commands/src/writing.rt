@@ -3,6 +3,7 @@ use files::Got;
 use layout::Plan;
 use page_write::WriteAnswer;
 use plans::Planned;
+use replies::refusal_number;
 
 // A page was written into the buffer: it goes to the file that argument 6 names.
 fn written(page: &[u8]) {
@@ -30,7 +31,9 @@ fn write_from(record: &[u8], plan: Plan, metadata: &[u8], data: &[u8]) {
     let answer = page_write::write_page(record, metadata, data, text::front_mut(&mut page, size));
     match answer {
         WriteAnswer::Done => written(text::front(&page, size)),
-        WriteAnswer::Refused(reply) => refused(reply, plan, metadata.len(), data.len()),
+        WriteAnswer::Refused(refusal) => {
+            refused(refusal_number(refusal), plan, metadata.len(), data.len())
+        }
     }
 }
 

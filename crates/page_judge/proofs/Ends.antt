@@ -7,23 +7,33 @@ use native.Mathlib.Omega.{arith}
 use lib.ListN.{length, take}
 use lib.Seq.{length-take-le}
 use borrow.Author.Tests.{ne-eqb}
+use Rattle.replies.specs.declared.Refusal.{Refusal}
+use Rattle.replies.specs.Replies.{number, block}
 use Rattle.layout.specs.declared.Plan.{Plan}
+use Rattle.layout.specs.declared.Refusal as kinds
+use Rattle.layout.specs.declared.Acceptance.{Acceptance}
+use Rattle.layout.specs.declared.Acceptance.the-variants.{Refused}
+use Rattle.layout.specs.Acceptance.{refusalOf, refusalReply}
 use Rattle.layout.specs.Plan.{covered, field, level}
 use Rattle.bch.specs.declared.Found.{Found}
 use Rattle.bch.specs.Locating.{answer, Finds}
-use Rattle.page_theory.specs.Calls.{blockReply, judgeEnded, judgeIn}
+use Rattle.page_theory.specs.Calls.{blockReply, judgeEnded, judgeIn, judgeFor}
 use Rattle.page_theory.proofs.OneBlock.{judge-gives, judge-refuses}
-use Rattle.page_plan.specs.Plans.{Planned, Ready}
-use Rattle.page_plan.proofs.Asking.{reply-asked}
+use Rattle.page_plan.specs.Plans.{Ready}
+use Rattle.page_plan.proofs.Asking.{number-some, number-bare, layout-bare, block-bare}
 use Rattle.page_decide.specs.Looking.{remainderAt}
 use Rattle.page_decide.proofs.Remainders.{located-clean, located-gives, located-ruined}
 
-pub judge-refused : (q : Plan) (page : List ℕ) (b : ℕ) {r : ℕ} → r ≡ blockReply q (length page) b → (r ≡ 0 → ⊥) → judgeEnded r 0 0 ≡ judgeIn q page b
-unfolding judgeIn
-judge-refused q page b e n = rw (← e, ne-eqb _ 0 n)
+-- the layout record is refused
+pub judge-layout : (page : List ℕ) (b : ℕ) {a : Acceptance} {x : kinds.Refusal} {y : Refusal} → y ≡ refusalOf x → a ≡ Refused x
+    → judgeEnded (number y) (block y) 0 ≡ judgeFor a page b
+unfolding judgeFor refusalReply
+judge-layout page b {x = x} e f = rw (e, f, layout-bare x)
 
-pub reply-block : (q : Plan) (page : List ℕ) (b : ℕ) → Planned q → blockReply q (length page) b ≡ 0 → Ready q page × (b < q .blocks)
-reply-block q page b p e = let a = reply-asked q (length page) b e in (record { plan = p; size = a .size }, a .inside)
+pub judge-refused : (q : Plan) (page : List ℕ) (b : ℕ) (r : Refusal) → number r ≡ blockReply q (length page) b
+    → judgeEnded (number r) (block r) 0 ≡ judgeIn q page b
+unfolding judgeIn
+judge-refused q page b r e = rw (number-bare r (omega (arith, block-bare q (length page) b)), ← e, ne-eqb _ 0 (number-some r))
 
 module _ (q : Plan) (page : List ℕ) (ready : Ready q page) (b : ℕ) (inside : b < q .blocks) where
   pub judge-clean : remainderAt q page b ≡ 0 → judgeEnded 0 0 0 ≡ judgeIn q page b

@@ -3,20 +3,18 @@
 --
 -- judgeNumber r, judgeBlock r, judgeFlips r    the reply, the block and the flip count of an answer
 use Prim.Native.Nat.{ℕ}
+use Rattle.replies.specs.Replies.{number, block}
 use Rattle.page_judge.specs.declared.JudgeAnswer.{JudgeAnswer}
-use Rattle.page_judge.specs.declared.JudgeAnswer.the-variants.{Flips, Refused, Ruined}
+use Rattle.page_judge.specs.declared.JudgeAnswer.the-variants.{Flips, Refused}
 
 unfoldable pub judgeNumber : JudgeAnswer → ℕ
 judgeNumber (Flips n) = 0
-judgeNumber (Refused n) = n
-judgeNumber (Ruined b) = 9
+judgeNumber (Refused r) = number r
 
 unfoldable pub judgeBlock : JudgeAnswer → ℕ
 judgeBlock (Flips n) = 0
-judgeBlock (Refused n) = 0
-judgeBlock (Ruined b) = b
+judgeBlock (Refused r) = block r
 
 unfoldable pub judgeFlips : JudgeAnswer → ℕ
 judgeFlips (Flips n) = n
-judgeFlips (Refused n) = 0
-judgeFlips (Ruined b) = 0
+judgeFlips (Refused r) = 0

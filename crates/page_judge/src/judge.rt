@@ -17,7 +17,7 @@ use layout::Plan;
 use layout::block_shape;
 use layout::check_layout;
 use layout::plan_of;
-use layout::refusal_reply;
+use layout::refusal_of;
 use page_decide::decide::block_outcome;
 use page_decide::decide::flip_count;
 use page_decide::look::block_remainder;
@@ -25,6 +25,8 @@ use page_plan::block_reply;
 use powers::fill_tables;
 use remainder::Register;
 use remainder::coefficients::is_zero;
+use replies::Refusal;
+use replies::Verdict;
 
 // The remainder of one block, by a table that is made for it alone.
 fn own_remainder(plan: Plan, page: &[u8], block: u16) -> Register
@@ -66,7 +68,7 @@ fn judge_lent(plan: Plan, page: &[u8], block: u16) -> JudgeAnswer
     let found = damaged_outcome(plan, block, remainder);
     let located = found.located;
     if !located {
-        return JudgeAnswer::Ruined(block);
+        return JudgeAnswer::Refused(Refusal::Uncorrectable(block));
     }
     let count = flip_count(found);
     JudgeAnswer::Flips(count)
@@ -77,11 +79,10 @@ fn judge_in(plan: Plan, page: &[u8], block: u64) -> JudgeAnswer
     requires { ⌜ Planned plan ⌝ }
     ensures { λ r. ⌜ judgeEnded (judgeNumber r) (judgeBlock r) (judgeFlips r) ≡ judgeIn plan (now (page .entry)) block ⌝ }
 {
-    let reply = block_reply(plan, page.len(), block);
-    if reply != 0 {
-        return JudgeAnswer::Refused(reply);
+    match block_reply(plan, page.len(), block) {
+        Verdict::Refused(refusal) => JudgeAnswer::Refused(refusal),
+        Verdict::Passed => judge_lent(plan, page, block as u16),
     }
-    judge_lent(plan, page, block as u16)
 }
 
 // Judges one block of a page: its flip count. `words` is the layout record.
@@ -90,6 +91,6 @@ pub fn judge_block(words: &[u8], page: &[u8], block: u64) -> JudgeAnswer
 {
     match check_layout(words) {
         Acceptance::Accepted(layout) => judge_in(plan_of(layout), page, block),
-        Acceptance::Refused(refusal) => JudgeAnswer::Refused(refusal_reply(refusal)),
+        Acceptance::Refused(refusal) => JudgeAnswer::Refused(refusal_of(refusal)),
     }
 }

@@ -9,10 +9,11 @@
 mod judge;
 
 pub use judge::judge_block;
+use replies::Refusal;
 
-// The answer to one block: how many of its covered bits are flipped, a reply, or that block where it has no codeword within t flips.
+// The answer to one block: how many of its covered bits are flipped, or why there is no count. A block that has no codeword within t
+// flips is named itself.
 pub enum JudgeAnswer {
     Flips(u8),
-    Refused(u8),
-    Ruined(u16),
+    Refused(Refusal),
 }

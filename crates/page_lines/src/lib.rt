@@ -6,6 +6,8 @@
 use layout::Plan;
 use page_judge::JudgeAnswer;
 use page_read::ReadAnswer;
+use replies::Refusal;
+use replies::refusal_number;
 
 // Reads a page into the first bytes of the buffers, as many as the plan says.
 pub fn read_into(
@@ -52,6 +54,16 @@ pub fn corrected(plan: Plan, counts: &[u8; 256]) {
     say::text(b"\n");
 }
 
+// A block in a list that has no count. Says how many ruined blocks that is.
+fn refused(refusal: Refusal) -> u64 {
+    if let Refusal::Uncorrectable(_) = refusal {
+        say::text(b" ruined");
+        return 1;
+    }
+    say::fact(b" reply ", refusal_number(refusal) as u64, b"");
+    0
+}
+
 // One block in a list: its corrected bits, or that it is ruined. Says how many ruined blocks that is.
 fn entry(answer: JudgeAnswer) -> u64 {
     match answer {
@@ -59,14 +71,7 @@ fn entry(answer: JudgeAnswer) -> u64 {
             say::fact(b" ", n as u64, b"");
             0
         }
-        JudgeAnswer::Refused(reply) => {
-            say::fact(b" reply ", reply as u64, b"");
-            0
-        }
-        JudgeAnswer::Ruined(_) => {
-            say::text(b" ruined");
-            1
-        }
+        JudgeAnswer::Refused(refusal) => refused(refusal),
     }
 }
 

@@ -10,6 +10,7 @@ ghost use mathlib.Core.Bool.{cond, false};
 ghost use Prim.Native.Nat.{_≤_, _<_};
 ghost use lib.ListN.{length};
 ghost use lib.Dec.{eqb};
+ghost use Rattle.replies.specs.Replies.{verdictNumber};
 ghost use Rattle.field.specs.Field.{degree};
 ghost use Rattle.layout.specs.Plan.{from};
 ghost use Rattle.division_table.specs.Table.{Table};
@@ -18,18 +19,20 @@ ghost use Rattle.page_plan.specs.Plans.{Planned};
 use division_table::make_table;
 use layout::Plan;
 use layout::Shape;
+use replies::Refusal;
+use replies::Verdict;
 
-// The reply to a page's length and a block number (document 01, "Replies"). 0 is given where they are right.
-pub fn block_reply(plan: Plan, page: usize, block: u64) -> u8
-    ensures { λ r. ⌜ r ≡ blockReply plan page block ⌝ }
+// What a page's length and a block number are refused for (document 01, "Replies").
+pub fn block_reply(plan: Plan, page: usize, block: u64) -> Verdict
+    ensures { λ r. ⌜ verdictNumber r ≡ blockReply plan page block ⌝ }
 {
     if page != plan.size as usize {
-        return 5;
+        return Verdict::Refused(Refusal::PageLength);
     }
     if plan.blocks as u64 <= block {
-        return 7;
+        return Verdict::Refused(Refusal::OutOfRange);
     }
-    0
+    Verdict::Passed
 }
 
 // Where the message of a block starts in the payload.

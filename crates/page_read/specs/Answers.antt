@@ -2,15 +2,14 @@
 --
 -- readNumber r, readBlock r    the reply and the block of an answer
 use Prim.Native.Nat.{ℕ}
+use Rattle.replies.specs.Replies.{number, block}
 use Rattle.page_read.specs.declared.ReadAnswer.{ReadAnswer}
-use Rattle.page_read.specs.declared.ReadAnswer.the-variants.{Done, Refused, Ruined}
+use Rattle.page_read.specs.declared.ReadAnswer.the-variants.{Done, Refused}
 
 unfoldable pub readNumber : ReadAnswer → ℕ
 readNumber Done = 0
-readNumber (Refused n) = n
-readNumber (Ruined b) = 9
+readNumber (Refused r) = number r
 
 unfoldable pub readBlock : ReadAnswer → ℕ
 readBlock Done = 0
-readBlock (Refused n) = 0
-readBlock (Ruined b) = b
+readBlock (Refused r) = block r

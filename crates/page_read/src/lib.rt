@@ -12,10 +12,11 @@
 mod read;
 
 pub use read::read_page;
+use replies::Refusal;
 
-// The answer to a page. `Refused` has the reply; `Ruined` the lowest block that has no codeword within t flips, which is reply 9.
+// The answer to a page: it is read, or what was lent is as it was and this is why. A ruined page names its lowest block that has no
+// codeword within t flips.
 pub enum ReadAnswer {
     Done,
-    Refused(u8),
-    Ruined(u16),
+    Refused(Refusal),
 }

@@ -1,6 +1,7 @@
 // Reading a page: every block is decided before any byte is written.
 ghost use mathlib.Core.Path.{_≡_};
 ghost use Rattle.division_table.specs.Table.{Table};
+ghost use Rattle.replies.specs.Replies.{verdictNumber};
 ghost use Rattle.page_theory.specs.Damage.{Outputs};
 ghost use Rattle.page_theory.specs.Calls.{readEnded, readReply, readIn, readOf};
 ghost use Rattle.page_read.specs.Answers.{readNumber, readBlock};
@@ -12,7 +13,7 @@ use layout::Acceptance;
 use layout::Plan;
 use layout::check_layout;
 use layout::plan_of;
-use layout::refusal_reply;
+use layout::refusal_of;
 use page_decide::Decision;
 use page_decide::Scan;
 use page_decide::decide::decide;
@@ -21,24 +22,26 @@ use page_decide::look::first_damaged;
 use page_plan::later_table;
 use page_take::take_clean;
 use page_take::take_decided;
+use replies::Refusal;
+use replies::Verdict;
 
-// The reply to the lengths that a reader is lent.
-fn read_reply(plan: Plan, page: usize, metadata: usize, data: usize, counts: usize) -> u8
-    ensures { λ r. ⌜ r ≡ readReply plan page metadata «data» counts ⌝ }
+// What the lengths that a reader is lent are refused for.
+fn read_reply(plan: Plan, page: usize, metadata: usize, data: usize, counts: usize) -> Verdict
+    ensures { λ r. ⌜ verdictNumber r ≡ readReply plan page metadata «data» counts ⌝ }
 {
     if page != plan.size as usize {
-        return 5;
+        return Verdict::Refused(Refusal::PageLength);
     }
     if metadata != plan.metadata as usize {
-        return 6;
+        return Verdict::Refused(Refusal::BufferLength);
     }
     if data != plan.data as usize {
-        return 6;
+        return Verdict::Refused(Refusal::BufferLength);
     }
     if counts != plan.blocks as usize {
-        return 6;
+        return Verdict::Refused(Refusal::BufferLength);
     }
-    0
+    Verdict::Passed
 }
 
 // Reads a page of which `scan` is the first damaged block; `table` is that of the later blocks' generator. The places are here, since
@@ -60,7 +63,7 @@ fn read_damaged(
     let mut places = [0u16; 16384];
     let mut flips = [0u8; 256];
     match decide(plan, page, scan, table, &mut places, &mut flips) {
-        Decision::Ruined(block) => ReadAnswer::Ruined(block),
+        Decision::Ruined(block) => ReadAnswer::Refused(Refusal::Uncorrectable(block)),
         Decision::Sound => {
             take_decided(plan, page, &places, &flips, metadata, data, counts);
             ReadAnswer::Done
@@ -127,11 +130,10 @@ fn read_in(
     ensures { λ r. ⌜ readEnded (readNumber r) (readBlock r) (now (metadata .exit)) (now («data» .exit)) (now (counts .exit))
         ≡ readIn plan (now (page .entry)) (now (metadata .entry)) (now («data» .entry)) (now (counts .entry)) ⌝ }
 {
-    let reply = read_reply(plan, page.len(), metadata.len(), data.len(), counts.len());
-    if reply != 0 {
-        return ReadAnswer::Refused(reply);
+    match read_reply(plan, page.len(), metadata.len(), data.len(), counts.len()) {
+        Verdict::Refused(refusal) => ReadAnswer::Refused(refusal),
+        Verdict::Passed => read_lent(plan, page, metadata, data, counts),
     }
-    read_lent(plan, page, metadata, data, counts)
 }
 
 // Reads a page into metadata, data and flip counts. `words` is the layout record.
@@ -147,6 +149,6 @@ pub fn read_page(
 {
     match check_layout(words) {
         Acceptance::Accepted(layout) => read_in(plan_of(layout), page, metadata, data, counts),
-        Acceptance::Refused(refusal) => ReadAnswer::Refused(refusal_reply(refusal)),
+        Acceptance::Refused(refusal) => ReadAnswer::Refused(refusal_of(refusal)),
     }
 }

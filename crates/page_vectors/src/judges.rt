@@ -10,8 +10,7 @@ fn put_flips(line: &mut [u8], flips: u8) -> usize {
 fn put_answer(line: &mut [u8], answer: JudgeAnswer) -> usize {
     match answer {
         JudgeAnswer::Flips(flips) => put_flips(line, flips),
-        JudgeAnswer::Refused(reply) => lines::put_reply(line, reply, 0),
-        JudgeAnswer::Ruined(block) => lines::put_reply(line, 9, block as u64),
+        JudgeAnswer::Refused(refusal) => lines::put_refusal(line, refusal),
     }
 }
 

@@ -1,4 +1,7 @@
 // What a line is made of, and the lengths that a head gives.
+use replies::Refusal;
+use replies::refusal_block;
+use replies::refusal_number;
 
 // The length in four bytes of the head.
 pub fn length(head: &[u8], at: usize) -> usize {
@@ -9,6 +12,13 @@ pub fn length(head: &[u8], at: usize) -> usize {
 pub fn put_reply(line: &mut [u8], reply: u8, block: u64) -> usize {
     let at = vector_io::put_number(line, 0, reply as u64);
     vector_io::put_number(line, at, block)
+}
+
+// The start of a line that shows a refusal.
+pub fn put_refusal(line: &mut [u8], refusal: Refusal) -> usize {
+    let reply = refusal_number(refusal);
+    let block = refusal_block(refusal);
+    put_reply(line, reply, block as u64)
 }
 
 // A hexadecimal digit.

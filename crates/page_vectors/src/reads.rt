@@ -5,8 +5,7 @@ use page_read::ReadAnswer;
 fn put_answer(line: &mut [u8], answer: ReadAnswer) -> usize {
     match answer {
         ReadAnswer::Done => lines::put_reply(line, 0, 0),
-        ReadAnswer::Refused(reply) => lines::put_reply(line, reply, 0),
-        ReadAnswer::Ruined(block) => lines::put_reply(line, 9, block as u64),
+        ReadAnswer::Refused(refusal) => lines::put_refusal(line, refusal),
     }
 }
 

@@ -13,16 +13,23 @@ use Rattle.bits.specs.Bits.{bitOf, run, ones, digits, Bytes, placed, Inside}
 use Rattle.bits.proofs.Placed.{placed-length, placed-run, placed-empty, placed-append}
 use Rattle.field.specs.declared.Field.{Field}
 use Rattle.field.specs.Field.{degree}
+use Rattle.replies.specs.declared.Refusal.{Refusal}
+use Rattle.replies.specs.Replies.{number, block}
 use Rattle.layout.specs.declared.Shape.{Shape}
 use Rattle.layout.specs.declared.Plan.{Plan}
+use Rattle.layout.specs.declared.Refusal as kinds
+use Rattle.layout.specs.declared.Acceptance.{Acceptance}
+use Rattle.layout.specs.declared.Acceptance.the-variants.{Refused}
+use Rattle.layout.specs.Acceptance.{refusalOf, refusalReply}
 use Rattle.layout.specs.Plan.{shape, start, used, from, payload, Valid}
 use Rattle.code.specs.Word.{Word}
 use Rattle.code.specs.Generator.{parity}
 use Rattle.page_theory.specs.Page.{message, written, pageOf}
-use Rattle.page_theory.specs.Calls.{writeEnded, writeReply, writeIn}
+use Rattle.page_theory.specs.Calls.{writeEnded, writeReply, writeIn, writeFor}
 use Rattle.page_theory.proofs.Calls.{writeReply-right}
 use Rattle.page_theory.proofs.Writing.{stream, stream-length, filled, filled-page}
 use Rattle.page_plan.proofs.Plans.{message-inside}
+use Rattle.page_plan.proofs.Asking.{number-some, number-bare, layout-bare}
 use Rattle.page_write.specs.Writing.{Lent, encoded}
 
 -- ---- one block
@@ -55,10 +62,27 @@ reply-lent q m d page e = go (eqb (length page) (q .size)) refl (eqb (length m) 
     go true ex false ey z ez e = absurd (omega arith)
     go false ex y ey z ez e = absurd (omega arith)
 
-pub write-refused : (q : Plan) (m d page : List ℕ) {r : ℕ} → r ≡ writeReply q (length m) (length d) (length page) → (r ≡ 0 → ⊥)
-    → writeEnded r 0 page ≡ writeIn q m d page
+reply-bare : (q : Plan) (m d page : ℕ) → writeReply q m d page < 9
+unfolding writeReply
+reply-bare q m d page = go (eqb page (q .size)) (eqb m (q .metadata)) (eqb d (q .«data»))
+  where
+    go : (x y z : Bool) → cond x (cond y (cond z zero 6) 6) 5 < 9
+    go true true true = omega arith
+    go true true false = omega arith
+    go true false z = omega arith
+    go false y z = omega arith
+
+-- the layout record is refused
+pub write-layout : (m d page : List ℕ) {a : Acceptance} {x : kinds.Refusal} {y : Refusal} → y ≡ refusalOf x → a ≡ Refused x
+    → writeEnded (number y) (block y) page ≡ writeFor a m d page
+unfolding writeFor refusalReply
+write-layout m d page {x = x} e f = rw (e, f, layout-bare x)
+
+pub write-refused : (q : Plan) (m d page : List ℕ) (r : Refusal) → number r ≡ writeReply q (length m) (length d) (length page)
+    → writeEnded (number r) (block r) page ≡ writeIn q m d page
 unfolding writeIn
-write-refused q m d page e n = rw (← e, ne-eqb _ 0 n)
+write-refused q m d page r e =
+    rw (number-bare r (omega (arith, reply-bare q (length m) (length d) (length page))), ← e, ne-eqb _ 0 (number-some r))
 
 pub write-done : (q : Plan) (m d page : List ℕ) {after : List ℕ} → Lent q m d page → after ≡ pageOf q (m ++ d)
     → writeEnded 0 0 after ≡ writeIn q m d page

@@ -3,13 +3,14 @@
 -- writeNumber r    the reply of an answer
 -- writeBlock r     the block of an answer
 use Prim.Native.Nat.{ℕ}
+use Rattle.replies.specs.Replies.{number, block}
 use Rattle.page_write.specs.declared.WriteAnswer.{WriteAnswer}
 use Rattle.page_write.specs.declared.WriteAnswer.the-variants.{Done, Refused}
 
 unfoldable pub writeNumber : WriteAnswer → ℕ
 writeNumber Done = 0
-writeNumber (Refused n) = n
+writeNumber (Refused r) = number r
 
--- A writer names no block.
 unfoldable pub writeBlock : WriteAnswer → ℕ
-writeBlock r = 0
+writeBlock Done = 0
+writeBlock (Refused r) = block r

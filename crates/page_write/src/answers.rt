@@ -1,5 +1,6 @@
 // Document 01's reply of an answer.
 use crate::WriteAnswer;
+use replies::refusal_number;
 ghost use mathlib.Core.Path.{_≡_};
 ghost use Rattle.page_write.specs.Answers.{writeNumber};
 
@@ -9,6 +10,6 @@ pub fn write_number(answer: WriteAnswer) -> u8
 {
     match answer {
         WriteAnswer::Done => 0,
-        WriteAnswer::Refused(reply) => reply,
+        WriteAnswer::Refused(refusal) => refusal_number(refusal),
     }
 }

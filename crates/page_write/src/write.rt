@@ -1,6 +1,6 @@
 // Writing a page: block after block its message and its parity, then ones into the tail.
 use crate::WriteAnswer;
-use crate::replies::write_reply;
+use crate::lengths::write_reply;
 use bits::fill::fill_ones;
 use division::runs::parity_of;
 use division_table::make_table;
@@ -10,11 +10,12 @@ use layout::Shape;
 use layout::block_start;
 use layout::check_layout;
 use layout::plan_of;
-use layout::refusal_reply;
+use layout::refusal_of;
 use page_plan::later_table;
 use payload::copy_from;
 use remainder::coefficients::parity_bits;
 use remainder::digits::place_parity;
+use replies::Verdict;
 ghost use mathlib.Core.Path.{_≡_};
 ghost use mathlib.Core.List.{_++_};
 ghost use Prim.Native.Nat.{_+_, _≤_, _<_};
@@ -111,12 +112,13 @@ fn write_in(plan: Plan, metadata: &[u8], data: &[u8], page: &mut [u8]) -> WriteA
     ensures { λ r. ⌜ writeEnded (writeNumber r) (writeBlock r) (now (page .exit))
         ≡ writeIn plan (now (metadata .entry)) (now («data» .entry)) (now (page .entry)) ⌝ }
 {
-    let reply = write_reply(plan, metadata.len(), data.len(), page.len());
-    if reply != 0 {
-        return WriteAnswer::Refused(reply);
+    match write_reply(plan, metadata.len(), data.len(), page.len()) {
+        Verdict::Refused(refusal) => WriteAnswer::Refused(refusal),
+        Verdict::Passed => {
+            write_blocks(plan, metadata, data, page);
+            WriteAnswer::Done
+        }
     }
-    write_blocks(plan, metadata, data, page);
-    WriteAnswer::Done
 }
 
 // Writes a page from metadata and data.
@@ -126,6 +128,6 @@ pub fn write_page(words: &[u8], metadata: &[u8], data: &[u8], page: &mut [u8]) -
 {
     match check_layout(words) {
         Acceptance::Accepted(layout) => write_in(plan_of(layout), metadata, data, page),
-        Acceptance::Refused(refusal) => WriteAnswer::Refused(refusal_reply(refusal)),
+        Acceptance::Refused(refusal) => WriteAnswer::Refused(refusal_of(refusal)),
     }
 }

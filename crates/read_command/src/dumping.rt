@@ -4,6 +4,8 @@ use files::File;
 use files::Got;
 use layout::Plan;
 use page_read::ReadAnswer;
+use replies::Refusal;
+use replies::refusal_number;
 
 // Where metadata and data go: a descriptor each, below 0 where the output is not wanted.
 struct Outputs {
@@ -97,6 +99,24 @@ fn ended(totals: Totals, failed: bool) -> Totals {
     }
 }
 
+// A page that is refused. The place of one with a ruined block is filled.
+fn refused(
+    record: &[u8],
+    plan: Plan,
+    page: &[u8],
+    outputs: Outputs,
+    totals: Totals,
+    refusal: Refusal,
+) -> Totals {
+    page_number(totals);
+    if let Refusal::Uncorrectable(block) = refusal {
+        let n = page_lines::ruined(record, plan, page, block);
+        return not_read(totals, n, put_blank(outputs, plan));
+    }
+    say::page_refused(refusal_number(refusal), plan, page.len());
+    not_read(totals, 0, true)
+}
+
 // Reads the next page of a dump.
 fn read_next(record: &[u8], plan: Plan, page: &[u8], outputs: Outputs, totals: Totals) -> Totals {
     let mut metadata = [0u8; 256];
@@ -109,16 +129,7 @@ fn read_next(record: &[u8], plan: Plan, page: &[u8], outputs: Outputs, totals: T
             &counts,
             put_page(outputs, plan, &metadata, &data),
         ),
-        ReadAnswer::Refused(reply) => {
-            page_number(totals);
-            say::page_refused(reply, plan, page.len());
-            not_read(totals, 0, true)
-        }
-        ReadAnswer::Ruined(block) => {
-            page_number(totals);
-            let n = page_lines::ruined(record, plan, page, block);
-            not_read(totals, n, put_blank(outputs, plan))
-        }
+        ReadAnswer::Refused(refusal) => refused(record, plan, page, outputs, totals, refusal),
     }
 }
 

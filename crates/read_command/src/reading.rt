@@ -6,6 +6,8 @@ use layout::Plan;
 use libc::STDIN_FILENO;
 use page_read::ReadAnswer;
 use plans::Planned;
+use replies::Refusal;
+use replies::refusal_number;
 
 // One page that was read: it goes to the files of arguments 5 and 6.
 fn save(plan: Plan, metadata: &[u8], data: &[u8], counts: &[u8; 256]) {
@@ -24,16 +26,21 @@ fn save(plan: Plan, metadata: &[u8], data: &[u8], counts: &[u8; 256]) {
     page_lines::corrected(plan, counts);
 }
 
+fn refused(record: &[u8], plan: Plan, page: &[u8], refusal: Refusal) {
+    if let Refusal::Uncorrectable(block) = refusal {
+        page_lines::ruined(record, plan, page, block);
+        return;
+    }
+    say::page_refused(refusal_number(refusal), plan, page.len());
+}
+
 fn read_one(record: &[u8], plan: Plan, page: &[u8]) {
     let mut metadata = [0u8; 256];
     let mut data = io::large_buffer();
     let mut counts = [0u8; 256];
     match page_lines::read_into(record, plan, page, &mut metadata, &mut data, &mut counts) {
         ReadAnswer::Done => save(plan, &metadata, &data, &counts),
-        ReadAnswer::Refused(reply) => say::page_refused(reply, plan, page.len()),
-        ReadAnswer::Ruined(block) => {
-            page_lines::ruined(record, plan, page, block);
-        }
+        ReadAnswer::Refused(refusal) => refused(record, plan, page, refusal),
     }
 }
 

@@ -53,10 +53,11 @@ back e = record {
 
 -- the calls, by their answers
 
-pub write-told : {r x : WriteAnswer} {page : List ℕ} {w : Written} → r ≡ x → writeEnded (writeNumber r) (writeBlock r) page ≡ w
+pub write-told : {r x : WriteAnswer} {page : List ℕ} {w : Written} → w .block ≡ 0 → r ≡ x → writeEnded (writeNumber r) (writeBlock r) page ≡ w
     → writeEnded (writeNumber x) 0 page ≡ w
-unfolding writeBlock
-write-told {r} {x} {page} e h = ap (λ y. writeEnded (writeNumber y) 0 page) (sym e) ∙ h
+write-told {r} {x} {page} b e h =
+    let z : writeBlock r ≡ 0 = ap (λ (w : Written). w .block) h ∙ b in
+    ap (λ y. writeEnded (writeNumber y) 0 page) (sym e) ∙ ap (λ k. writeEnded (writeNumber r) k page) (sym z) ∙ h
 
 pub read-told : {r x : ReadAnswer} {m d c : List ℕ} {read : Read} → r ≡ x → readEnded (readNumber r) (readBlock r) m d c ≡ read
     → ReadBack (readNumber x) m d c read

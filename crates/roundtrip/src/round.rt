@@ -11,6 +11,7 @@ use page_read::ReadAnswer;
 use page_read::read_page;
 use page_write::WriteAnswer;
 use page_write::write_page;
+use replies::refusal_number;
 ghost use mathlib.Core.Path.{_≡_};
 ghost use Rattle.page_theory.specs.Damage.{Accepts};
 ghost use Rattle.page_theory.specs.Calls.{writeEnded, writeOf, readOf};
@@ -23,7 +24,7 @@ fn write(words: &[u8], metadata: &[u8], data: &[u8], page: &mut [u8]) -> u8
 {
     match write_page(words, metadata, data, page) {
         WriteAnswer::Done => 0,
-        WriteAnswer::Refused(reply) => reply,
+        WriteAnswer::Refused(refusal) => refusal_number(refusal),
     }
 }
 
@@ -34,8 +35,7 @@ fn read(words: &[u8], page: &[u8], metadata: &mut [u8], data: &mut [u8], counts:
 {
     match read_page(words, page, metadata, data, counts) {
         ReadAnswer::Done => 0,
-        ReadAnswer::Refused(reply) => reply,
-        ReadAnswer::Ruined(block) => 9,
+        ReadAnswer::Refused(refusal) => refusal_number(refusal),
     }
 }
 

@@ -2,6 +2,8 @@
 use mathlib.Core.Path.{_≡_, sym, ap, _∙_}
 use mathlib.Core.List.{List}
 use Prim.Native.Nat.{ℕ}
+use Rattle.replies.specs.declared.Refusal.{Refusal}
+use Rattle.replies.specs.Replies.{number, block}
 use Rattle.page_write.specs.declared.WriteAnswer.{WriteAnswer}
 use Rattle.page_write.specs.declared.WriteAnswer.the-variants as write
 use Rattle.page_claim.specs.declared.ClaimAnswer.{ClaimAnswer}
@@ -23,7 +25,7 @@ module _ {a : WriteAnswer} {w : Written} {p : List ℕ} {r : ℕ} (e : writeEnde
   unfolding doneWord writeNumber writeBlock
   write-done h k = record { word = k ∙ simp (sym e, h); page = ap (λ w. w .page) e }
 
-  pub write-refused : {x : ℕ} → a ≡ write.Refused x → r ≡ refusedWord x 0 → WriteReturns w r p
+  pub write-refused : {x : Refusal} → a ≡ write.Refused x → r ≡ refusedWord (number x) (block x) → WriteReturns w r p
   unfolding refusedWord writeNumber writeBlock
   write-refused h k = record { word = k ∙ simp (sym e, h); page = ap (λ w. w .page) e }
 
@@ -42,32 +44,24 @@ module _ {a : ReadAnswer} {w : Read} {m d c : List ℕ} {r : ℕ} (e : readEnded
   unfolding doneWord readNumber readBlock
   read-done h k = read-left e (k ∙ simp h)
 
-  pub read-refused : {x : ℕ} → a ≡ read.Refused x → r ≡ refusedWord x 0 → ReadReturns w r m d c
+  pub read-refused : {x : Refusal} → a ≡ read.Refused x → r ≡ refusedWord (number x) (block x) → ReadReturns w r m d c
   unfolding refusedWord readNumber readBlock
   read-refused h k = read-left e (k ∙ simp h)
-
-  pub read-ruined : {b : ℕ} → a ≡ read.Ruined b → r ≡ refusedWord 9 b → ReadReturns w r m d c
-  unfolding refusedWord readNumber readBlock
-  read-ruined h k = read-left e (k ∙ simp h)
 
 module _ {a : JudgeAnswer} {w : Judged} {r : ℕ} (e : judgeEnded (judgeNumber a) (judgeBlock a) (judgeFlips a) ≡ w) where
   pub judge-flips : {n : ℕ} → a ≡ judge.Flips n → r ≡ doneWord 0 n → r ≡ judgeWord w
   unfolding doneWord judgeWord judgeNumber judgeBlock judgeFlips
   judge-flips h k = k ∙ simp (sym e, h)
 
-  pub judge-refused : {x : ℕ} → a ≡ judge.Refused x → r ≡ refusedWord x 0 → r ≡ judgeWord w
+  pub judge-refused : {x : Refusal} → a ≡ judge.Refused x → r ≡ refusedWord (number x) (block x) → r ≡ judgeWord w
   unfolding refusedWord judgeWord judgeNumber judgeBlock judgeFlips
   judge-refused h k = k ∙ simp (sym e, h)
-
-  pub judge-ruined : {b : ℕ} → a ≡ judge.Ruined b → r ≡ refusedWord 9 b → r ≡ judgeWord w
-  unfolding refusedWord judgeWord judgeNumber judgeBlock judgeFlips
-  judge-ruined h k = k ∙ simp (sym e, h)
 
 module _ {a : ClaimAnswer} {w : Claimed} {r : ℕ} (e : claimEnded (claimNumber a) ≡ w) where
   pub claim-accepted : a ≡ claim.Accepted → r ≡ doneWord 0 0 → r ≡ claimWord w
   unfolding doneWord claimWord claimNumber
   claim-accepted h k = k ∙ simp (sym e, h)
 
-  pub claim-refused : {x : ℕ} → a ≡ claim.Refused x → r ≡ refusedWord x 0 → r ≡ claimWord w
+  pub claim-refused : {x : Refusal} {n : ℕ} → a ≡ claim.Refused x → n ≡ number x → r ≡ refusedWord n 0 → r ≡ claimWord w
   unfolding refusedWord claimWord claimNumber
-  claim-refused h k = k ∙ simp (sym e, h)
+  claim-refused h l k = k ∙ simp (l, sym e, h)

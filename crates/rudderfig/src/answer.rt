@@ -1,5 +1,9 @@
 // The answer word: four numbers in 64 bits.
 ghost use mathlib.Core.Path.{_≡_};
+use replies::Refusal;
+use replies::refusal_block;
+use replies::refusal_number;
+ghost use Rattle.replies.specs.Replies.{number, block};
 ghost use Rattle.rudderfig.specs.Answer.{answerWord, doneWord, refusedWord};
 
 // Reply in bits 0 to 7, its block in bits 8 to 23, kind in bits 24 to 31, value in bits 32 to 63.
@@ -16,9 +20,16 @@ pub fn done(kind: u8, value: u32) -> u64
     answer_word(0, 0, kind, value)
 }
 
-// The word of a refusal.
+// The word of a refusal, by its number and its block.
 pub fn refused(reply: u8, block: u16) -> u64
     ensures { λ r. ⌜ r ≡ refusedWord reply block ⌝ }
 {
     answer_word(reply, block, 0, 0)
+}
+
+// The word of a refusal of document 01's table.
+pub fn refused_by(refusal: Refusal) -> u64
+    ensures { λ r. ⌜ r ≡ refusedWord (number refusal) (block refusal) ⌝ }
+{
+    refused(refusal_number(refusal), refusal_block(refusal))
 }

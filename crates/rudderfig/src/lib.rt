@@ -20,6 +20,7 @@ mod parity;
 
 use answer::done;
 use answer::refused;
+use answer::refused_by;
 use bch::LocateAnswer;
 use layout::Acceptance;
 use layout::BitAnswer;
@@ -84,7 +85,7 @@ pub extern "C" fn rudderfig_write_page(
 {
     match page_write::write_page(words, metadata, data, page) {
         WriteAnswer::Done => done(0, 0),
-        WriteAnswer::Refused(reply) => refused(reply, 0),
+        WriteAnswer::Refused(refusal) => refused_by(refusal),
     }
 }
 
@@ -103,8 +104,7 @@ pub extern "C" fn rudderfig_read_page(
 {
     match page_read::read_page(words, page, metadata, data, counts) {
         ReadAnswer::Done => done(0, 0),
-        ReadAnswer::Refused(reply) => refused(reply, 0),
-        ReadAnswer::Ruined(block) => refused(9, block),
+        ReadAnswer::Refused(refusal) => refused_by(refusal),
     }
 }
 
@@ -115,8 +115,7 @@ pub extern "C" fn rudderfig_judge_block(words: &[u8], page: &[u8], block: u64) -
 {
     match page_judge::judge_block(words, page, block) {
         JudgeAnswer::Flips(flips) => done(0, flips as u32),
-        JudgeAnswer::Refused(reply) => refused(reply, 0),
-        JudgeAnswer::Ruined(ruined) => refused(9, ruined),
+        JudgeAnswer::Refused(refusal) => refused_by(refusal),
     }
 }
 
@@ -132,7 +131,7 @@ pub extern "C" fn rudderfig_check_claim(
 {
     match page_claim::check_claim(words, page, block, claims) {
         ClaimAnswer::Accepted => done(0, 0),
-        ClaimAnswer::Refused(reply) => refused(reply, 0),
+        ClaimAnswer::Refused(refusal) => refused(replies::refusal_number(refusal), 0),
     }
 }
 

@@ -13,8 +13,11 @@ enum-told c = search needs
 done-requires : tie.Need-done-requires
 done-requires c κs = search needs
 
-enum-known-reply : tie.Need-enum-known-reply
-enum-known-reply c = search needs
+enum-known-refusal : tie.Need-enum-known-refusal
+enum-known-refusal c = search needs
+
+refusal-number-requires : tie.Need-refusal-number-requires
+refusal-number-requires c κs = search needs
 
 refused-requires : tie.Need-refused-requires
 refused-requires c κs = search needs
@@ -26,8 +29,8 @@ returns c =
 
 returns-2 : tie.Need-returns-2
 returns-2 c =
-    let known = c .before .before in
-    claim-refused (known .before .before .check-claim .ensures) (known .reply .given .1) (c .refused .ensures)
+    let known = c .before .before .before in
+    claim-refused (known .before .before .check-claim .ensures) (known .refusal .given .1) (c .before .refusal-number .ensures) (c .refused .ensures)
 
 pub rudderfig-check-claim-spec : {M : Type 1} → statement M
 rudderfig-check-claim-spec =
@@ -36,7 +39,8 @@ rudderfig-check-claim-spec =
     check-claim-requires
     enum-told
     done-requires
-    enum-known-reply
+    enum-known-refusal
+    refusal-number-requires
     refused-requires
     returns
     returns-2)

@@ -1,6 +1,6 @@
 -- `rudderfig::rudderfig_judge_block` meets its contract.
 use borrow.Author.Needs.{needs}
-use Rattle.rudderfig.proofs.Returns.{judge-flips, judge-refused, judge-ruined}
+use Rattle.rudderfig.proofs.Returns.{judge-flips, judge-refused}
 use Rattle.rudderfig.proofs.rudderfig_judge_block.Statement.{statement}
 use Rattle.rudderfig.proofs.rudderfig_judge_block.Tie as tie
 
@@ -16,17 +16,11 @@ cast-done c = search needs
 done-requires : tie.Need-done-requires
 done-requires c κs = search needs
 
-enum-known-reply : tie.Need-enum-known-reply
-enum-known-reply c = search needs
+enum-known-refusal : tie.Need-enum-known-refusal
+enum-known-refusal c = search needs
 
-refused-requires : tie.Need-refused-requires
-refused-requires c κs = search needs
-
-enum-known-ruined : tie.Need-enum-known-ruined
-enum-known-ruined c = search needs
-
-refused-requires-2 : tie.Need-refused-requires-2
-refused-requires-2 c κs = search needs
+refused-by-requires : tie.Need-refused-by-requires
+refused-by-requires c κs = search needs
 
 returns : tie.Need-returns
 returns c =
@@ -36,12 +30,7 @@ returns c =
 returns-2 : tie.Need-returns-2
 returns-2 c =
     let known = c .before .before in
-    judge-refused (known .before .before .judge-block .ensures) (known .reply .given .1) (c .refused .ensures)
-
-returns-3 : tie.Need-returns-3
-returns-3 c =
-    let known = c .before .before in
-    judge-ruined (known .before .before .judge-block .ensures) (known .ruined .given .1) (c .refused2 .ensures)
+    judge-refused (known .before .before .judge-block .ensures) (known .refusal .given .1) (c .refused-by .ensures)
 
 pub rudderfig-judge-block-spec : {M : Type 1} → statement M
 rudderfig-judge-block-spec =
@@ -51,10 +40,7 @@ rudderfig-judge-block-spec =
     enum-known-flips
     cast-done
     done-requires
-    enum-known-reply
-    refused-requires
-    enum-known-ruined
-    refused-requires-2
+    enum-known-refusal
+    refused-by-requires
     returns
-    returns-2
-    returns-3)
+    returns-2)

@@ -1,6 +1,6 @@
 -- `rudderfig::rudderfig_read_page` meets its contract.
 use borrow.Author.Needs.{needs}
-use Rattle.rudderfig.proofs.Returns.{read-done, read-refused, read-ruined}
+use Rattle.rudderfig.proofs.Returns.{read-done, read-refused}
 use Rattle.rudderfig.proofs.rudderfig_read_page.Statement.{statement}
 use Rattle.rudderfig.proofs.rudderfig_read_page.Tie as tie
 
@@ -13,17 +13,11 @@ enum-told c = search needs
 done-requires : tie.Need-done-requires
 done-requires c κs = search needs
 
-enum-known-reply : tie.Need-enum-known-reply
-enum-known-reply c = search needs
+enum-known-refusal : tie.Need-enum-known-refusal
+enum-known-refusal c = search needs
 
-refused-requires : tie.Need-refused-requires
-refused-requires c κs = search needs
-
-enum-known-block : tie.Need-enum-known-block
-enum-known-block c = search needs
-
-refused-requires-2 : tie.Need-refused-requires-2
-refused-requires-2 c κs = search needs
+refused-by-requires : tie.Need-refused-by-requires
+refused-by-requires c κs = search needs
 
 same-length : tie.Need-same-length
 same-length c = search needs
@@ -51,21 +45,7 @@ same-length-6 c = search needs
 returns-2 : tie.Need-returns-2
 returns-2 c =
     let known = c .before .before in
-    read-refused (known .before .before .before .before .before .before .before .before .read-page .ensures) (known .reply .given .1) (c .refused .ensures)
-
-same-length-7 : tie.Need-same-length-7
-same-length-7 c = search needs
-
-same-length-8 : tie.Need-same-length-8
-same-length-8 c = search needs
-
-same-length-9 : tie.Need-same-length-9
-same-length-9 c = search needs
-
-returns-3 : tie.Need-returns-3
-returns-3 c =
-    let known = c .before .before in
-    read-ruined (known .before .before .before .before .before .before .before .before .read-page .ensures) (known .block .given .1) (c .refused2 .ensures)
+    read-refused (known .before .before .before .before .before .before .before .before .read-page .ensures) (known .refusal .given .1) (c .refused-by .ensures)
 
 pub rudderfig-read-page-spec : {M : Type 1} → statement M
 rudderfig-read-page-spec =
@@ -74,10 +54,8 @@ rudderfig-read-page-spec =
     read-page-requires
     enum-told
     done-requires
-    enum-known-reply
-    refused-requires
-    enum-known-block
-    refused-requires-2
+    enum-known-refusal
+    refused-by-requires
     same-length
     same-length-2
     same-length-3
@@ -85,8 +63,4 @@ rudderfig-read-page-spec =
     same-length-4
     same-length-5
     same-length-6
-    returns-2
-    same-length-7
-    same-length-8
-    same-length-9
-    returns-3)
+    returns-2)

@@ -13,11 +13,11 @@ enum-told c = search needs
 done-requires : tie.Need-done-requires
 done-requires c κs = search needs
 
-enum-known-reply : tie.Need-enum-known-reply
-enum-known-reply c = search needs
+enum-known-refusal : tie.Need-enum-known-refusal
+enum-known-refusal c = search needs
 
-refused-requires : tie.Need-refused-requires
-refused-requires c κs = search needs
+refused-by-requires : tie.Need-refused-by-requires
+refused-by-requires c κs = search needs
 
 same-length : tie.Need-same-length
 same-length c = search needs
@@ -33,7 +33,7 @@ same-length-2 c = search needs
 returns-2 : tie.Need-returns-2
 returns-2 c =
     let known = c .before .before in
-    write-refused (known .before .before .before .before .write-page .ensures) (known .reply .given .1) (c .refused .ensures)
+    write-refused (known .before .before .before .before .write-page .ensures) (known .refusal .given .1) (c .refused-by .ensures)
 
 pub rudderfig-write-page-spec : {M : Type 1} → statement M
 rudderfig-write-page-spec =
@@ -42,8 +42,8 @@ rudderfig-write-page-spec =
     write-page-requires
     enum-told
     done-requires
-    enum-known-reply
-    refused-requires
+    enum-known-refusal
+    refused-by-requires
     same-length
     returns
     same-length-2

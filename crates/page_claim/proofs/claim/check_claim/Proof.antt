@@ -2,6 +2,7 @@
 use mathlib.Core.Path.{sym, _∙_}
 use Rattle.page_theory.specs.Calls.{claimFor, claimOf}
 use Rattle.page_claim.specs.Answers.{claimNumber}
+use Rattle.layout.specs.Acceptance.{refusalReply}
 use Rattle.page_plan.proofs.Plans.{accepted-planned}
 use borrow.Author.Needs.{needs}
 use Rattle.page_claim.proofs.claim.check_claim.Statement.{statement}
@@ -27,8 +28,8 @@ claim-in-requires c κs =
 enum-known-refusal : tie.Need-enum-known-refusal
 enum-known-refusal c = search needs
 
-refusal-reply-requires : tie.Need-refusal-reply-requires
-refusal-reply-requires c κs = search needs
+refusal-of-requires : tie.Need-refusal-of-requires
+refusal-of-requires c κs = search needs
 
 returns : tie.Need-returns
 unfolding claimOf claimFor
@@ -38,10 +39,10 @@ returns c =
     ∙ simp (c .before .plan-of .ensures, sym (known .before .before .check-layout .ensures), known .layout .given .1)
 
 returns-2 : tie.Need-returns-2
-unfolding claimNumber claimOf claimFor
+unfolding claimNumber claimOf claimFor refusalReply
 returns-2 c =
     let known = c .before .before in
-    simp (c .refusal-reply .ensures, sym (known .before .before .check-layout .ensures), known .refusal .given .1)
+    simp (c .refusal-of .ensures, sym (known .before .before .check-layout .ensures), known .refusal .given .1)
 
 pub check-claim-spec : {M : Type 1} → statement M
 check-claim-spec =
@@ -52,6 +53,6 @@ check-claim-spec =
     plan-of-requires
     claim-in-requires
     enum-known-refusal
-    refusal-reply-requires
+    refusal-of-requires
     returns
     returns-2)

@@ -5,7 +5,8 @@ use mathlib.Core.Bool.{true, false}
 use lib.ListN.{length, getD}
 use native.Mathlib.Omega.{arith}
 use borrow.Author.Needs.{needs}
-use Rattle.page_claim.proofs.Claims.{Row, Rows, true-false, decides-false, row-start, row-next, rows-start, rows-next, rows-end}
+use Rattle.bits.proofs.Decides.{decides-true, decides-false}
+use Rattle.page_claim.proofs.Claims.{Row, Rows, row-start, row-next, rows-start, rows-next, rows-end}
 use Rattle.page_claim.proofs.claim.distinct.Statement.{statement}
 use Rattle.page_claim.proofs.claim.distinct.Tie as tie
 
@@ -65,7 +66,7 @@ pairs-again c = (omega arith, c .before .loop .inv .2, rows-next _ _ _ (c .befor
 returns : tie.Need-returns Inv-loop μ-loop Inv-pairs μ-pairs
 returns c =
     let s = c .before .pairs in
-    record { holds = λ e. rows-end _ _ (s .inv .2) (c .pairs-test .left); fails = λ e d. true-false (s .inv .1) e }
+    rw (s .inv .1) (decides-true (rows-end _ _ (s .inv .2) (c .pairs-test .left)))
 
 returns-2 : tie.Need-returns-2 Inv-loop μ-loop Inv-pairs μ-pairs
 returns-2 c =

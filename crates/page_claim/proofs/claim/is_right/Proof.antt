@@ -4,9 +4,9 @@ use mathlib.Core.Path.{_≡_, sym}
 use native.Mathlib.Omega.{arith}
 use borrow.Author.Tests.{not-true, not-false}
 use Rattle.bits.specs.Bits.{bitOf}
+use Rattle.bits.proofs.Decides.{decides-false}
 use Rattle.bits.proofs.Runs.{run-length}
 use Rattle.layout.specs.Plan.{coveredOf}
-use Rattle.page_claim.proofs.Claims.{decides-false}
 use borrow.Author.Needs.{needs}
 use Rattle.page_claim.proofs.claim.is_right.Statement.{statement}
 use Rattle.page_claim.proofs.claim.is_right.Tie as tie

@@ -1,7 +1,8 @@
 -- `page_claim::claim::leads_to_code` meets its contract.
 use Prim.Native.Nat.{_≤_}
 use native.Mathlib.Omega.{arith}
-use Rattle.page_claim.proofs.Claims.{decides-true, code-every, longest-room}
+use Rattle.bits.proofs.Decides.{decides-true}
+use Rattle.page_claim.proofs.Claims.{code-every, longest-room}
 use borrow.Author.Needs.{needs}
 use Rattle.page_claim.proofs.claim.leads_to_code.Statement.{statement}
 use Rattle.page_claim.proofs.claim.leads_to_code.Tie as tie

@@ -4,7 +4,8 @@ use mathlib.Core.Path.{_≡_}
 use native.Mathlib.Omega.{arith}
 use borrow.Author.Needs.{needs}
 use lib.ListN.{length, getD}
-use Rattle.page_claim.proofs.Claims.{decides-true, decides-false, within-next}
+use Rattle.bits.proofs.Decides.{decides-true, decides-false}
+use Rattle.page_claim.proofs.Claims.{within-next}
 use Rattle.page_claim.proofs.claim.within.Statement.{statement}
 use Rattle.page_claim.proofs.claim.within.Tie as tie
 

@@ -4,6 +4,7 @@ use borrow.Author.Needs.{needs}
 use Rattle.page_theory.specs.Calls.{judgeFor, judgeOf}
 use Rattle.page_judge.specs.Answers.{judgeNumber, judgeBlock, judgeFlips}
 use Rattle.page_plan.proofs.Plans.{accepted-planned}
+use Rattle.page_judge.proofs.Ends.{judge-layout}
 use Rattle.page_judge.proofs.judge.judge_block.Statement.{statement}
 use Rattle.page_judge.proofs.judge.judge_block.Tie as tie
 
@@ -25,8 +26,8 @@ judge-in-requires c κs =
 enum-known-refusal : tie.Need-enum-known-refusal
 enum-known-refusal c = search needs
 
-refusal-reply-requires : tie.Need-refusal-reply-requires
-refusal-reply-requires c κs = search needs
+refusal-of-requires : tie.Need-refusal-of-requires
+refusal-of-requires c κs = search needs
 
 returns : tie.Need-returns
 unfolding judgeOf judgeFor
@@ -35,10 +36,10 @@ returns c =
     c .judge-in .ensures ∙ simp (c .before .plan-of .ensures, sym (known .before .before .check-layout .ensures), known .layout .given .1)
 
 returns-2 : tie.Need-returns-2
-unfolding judgeNumber judgeBlock judgeFlips judgeOf judgeFor
+unfolding judgeNumber judgeBlock judgeFlips judgeOf
 returns-2 c =
     let known = c .before .before in
-    simp (c .refusal-reply .ensures, sym (known .before .before .check-layout .ensures), known .refusal .given .1)
+    judge-layout _ _ (c .refusal-of .ensures) (sym (known .before .before .check-layout .ensures) ∙ known .refusal .given .1)
 
 pub judge-block-spec : {M : Type 1} → statement M
 judge-block-spec =
@@ -49,6 +50,6 @@ judge-block-spec =
     plan-of-requires
     judge-in-requires
     enum-known-refusal
-    refusal-reply-requires
+    refusal-of-requires
     returns
     returns-2)

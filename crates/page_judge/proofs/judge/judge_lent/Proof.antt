@@ -3,6 +3,7 @@ use mathlib.Core.Path.{sym, _∙_}
 use native.Mathlib.Omega.{arith}
 use borrow.Author.Needs.{needs}
 use borrow.Author.Tests.{eqb-true, not-true, not-false}
+use Rattle.replies.specs.Replies.{number, block}
 use Rattle.page_judge.specs.Answers.{judgeNumber, judgeBlock, judgeFlips}
 use Rattle.page_decide.proofs.Remainders.{remainderAt-below}
 use Rattle.page_judge.proofs.Ends.{judge-clean, judge-ruined, judge-found}
@@ -29,7 +30,7 @@ damaged-outcome-requires c κs =
     ((p .0 .plan, p .1), rw (r .own-remainder .ensures) (remainderAt-below _ _ (p .0 .plan .valid) _ (p .1)))
 
 returns-2 : tie.Need-returns-2
-unfolding judgeNumber judgeBlock judgeFlips
+unfolding judgeNumber judgeBlock judgeFlips number block
 returns-2 c =
     let r = c .before .before .before .before in
     let p = r .before .before .pre in

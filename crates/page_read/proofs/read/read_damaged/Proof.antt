@@ -2,6 +2,7 @@
 use Prim.Native.Nat.{ℕ}
 use borrow.Author.Needs.{needs}
 use lib.ListN.{length-replicate}
+use Rattle.replies.specs.Replies.{number, block}
 use Rattle.page_read.specs.Answers.{readNumber, readBlock}
 use Rattle.page_decide.specs.Deciding.{Settles}
 use Rattle.page_decide.proofs.Deciding.{underway-start, zeros-at}
@@ -33,7 +34,7 @@ take-decided-requires c κs =
     (p .0, rw (told .enum-told .given .1) at (d .decide .ensures))
 
 returns : tie.Need-returns
-unfolding Settles readNumber readBlock
+unfolding Settles readNumber readBlock number block
 returns c =
     let d = c .before .before .before in
     let p = d .before .before .before .before .before .before .before .before .pre in

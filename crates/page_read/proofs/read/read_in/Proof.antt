@@ -1,6 +1,6 @@
 -- `page_read::read::read_in` meets its contract.
-use mathlib.Core.Path.{sym, _∙_}
 use borrow.Author.Needs.{needs}
+use Rattle.page_plan.proofs.Asking.{told-passed, told-number}
 use Rattle.page_read.specs.Answers.{readNumber, readBlock}
 use Rattle.page_read.proofs.Ends.{read-refused, reply-ready}
 use Rattle.page_read.proofs.read.read_in.Statement.{statement}
@@ -9,19 +9,29 @@ use Rattle.page_read.proofs.read.read_in.Tie as tie
 read-reply-requires : tie.Need-read-reply-requires
 read-reply-requires c κs = search needs
 
-returns : tie.Need-returns
-unfolding readNumber readBlock
-returns c =
-    let a = c .before .before .before .before .before .before .args in
-    read-refused (a .plan) (a .page .now) (a .metadata .now) (a .«data» .now) (a .counts .now) (c .before .read-reply .ensures) (c .if1 .taken)
+enum-known-refusal : tie.Need-enum-known-refusal
+enum-known-refusal c = search needs
+
+enum-told : tie.Need-enum-told
+enum-told c = search needs
 
 read-lent-requires : tie.Need-read-lent-requires
 read-lent-requires c κs =
-    let k = c .before .before .before in
-    let s = k .before .before .before .before .before .before in
+    let told = c .before .before .before in
+    let replied = told .before .before in
+    let s = replied .before .before .before .before .before in
     let a = s .args in
     reply-ready (a .plan) (a .page .now) (a .metadata .now) (a .«data» .now) (a .counts .now) (s .pre)
-    (sym (k .before .read-reply .ensures) ∙ k .if1 .left)
+    (told-passed (told .enum-told .given .1) (replied .read-reply .ensures))
+
+returns : tie.Need-returns
+unfolding readNumber readBlock
+returns c =
+    let known = c .before in
+    let replied = known .before .before in
+    let a = replied .before .before .before .before .before .args in
+    read-refused (a .plan) (a .page .now) (a .metadata .now) (a .«data» .now) (a .counts .now) _
+    (told-number (known .refusal .given .1) (replied .read-reply .ensures))
 
 same-length : tie.Need-same-length
 same-length c = search needs
@@ -40,8 +50,10 @@ read-in-spec =
     tie.close
     (tie.spec
     read-reply-requires
-    returns
+    enum-known-refusal
+    enum-told
     read-lent-requires
+    returns
     same-length
     same-length-2
     same-length-3

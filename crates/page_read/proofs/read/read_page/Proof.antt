@@ -4,6 +4,7 @@ use borrow.Author.Needs.{needs}
 use Rattle.page_theory.specs.Calls.{readFor, readOf}
 use Rattle.page_read.specs.Answers.{readNumber, readBlock}
 use Rattle.page_plan.proofs.Plans.{accepted-planned}
+use Rattle.page_read.proofs.Ends.{read-layout}
 use Rattle.page_read.proofs.read.read_page.Statement.{statement}
 use Rattle.page_read.proofs.read.read_page.Tie as tie
 
@@ -28,8 +29,8 @@ read-in-requires c κs =
 enum-known-refusal : tie.Need-enum-known-refusal
 enum-known-refusal c = search needs
 
-refusal-reply-requires : tie.Need-refusal-reply-requires
-refusal-reply-requires c κs = search needs
+refusal-of-requires : tie.Need-refusal-of-requires
+refusal-of-requires c κs = search needs
 
 same-length : tie.Need-same-length
 same-length c = search needs
@@ -49,10 +50,10 @@ returns c =
     done .read-in .ensures ∙ simp (planned .plan-of .ensures, sym (known .before .before .check-layout .ensures), known .layout .given .1)
 
 returns-2 : tie.Need-returns-2
-unfolding readNumber readBlock readOf readFor
+unfolding readNumber readBlock readOf
 returns-2 c =
     let known = c .before .before in
-    simp (c .refusal-reply .ensures, sym (known .before .before .check-layout .ensures), known .refusal .given .1)
+    read-layout _ _ _ _ (c .refusal-of .ensures) (sym (known .before .before .check-layout .ensures) ∙ known .refusal .given .1)
 
 pub read-page-spec : {M : Type 1} → statement M
 read-page-spec =
@@ -63,7 +64,7 @@ read-page-spec =
     plan-of-requires
     read-in-requires
     enum-known-refusal
-    refusal-reply-requires
+    refusal-of-requires
     same-length
     same-length-2
     same-length-3

@@ -1,6 +1,7 @@
 -- `page_read::read::read_reply` meets its contract.
 use borrow.Author.Tests.{eq-eqb, ne-eqb}
 use borrow.Author.Needs.{needs}
+use Rattle.replies.specs.Replies.{number, verdictNumber}
 use Rattle.page_theory.specs.Calls.{readReply}
 use Rattle.page_read.proofs.read.read_reply.Statement.{statement}
 use Rattle.page_read.proofs.read.read_reply.Tie as tie
@@ -9,21 +10,21 @@ cast-if1 : tie.Need-cast-if1
 cast-if1 c = search needs
 
 returns : tie.Need-returns
-unfolding readReply
+unfolding readReply verdictNumber number
 returns c = simp (ne-eqb _ _ (c .if1 .taken))
 
 cast-if2 : tie.Need-cast-if2
 cast-if2 c = search needs
 
 returns-2 : tie.Need-returns-2
-unfolding readReply
+unfolding readReply verdictNumber number
 returns-2 c = simp (eq-eqb _ _ (c .before .before .if1 .left), ne-eqb _ _ (c .if2 .taken))
 
 cast-if3 : tie.Need-cast-if3
 cast-if3 c = search needs
 
 returns-3 : tie.Need-returns-3
-unfolding readReply
+unfolding readReply verdictNumber number
 returns-3 c =
     let s = c .before .before in
     simp (eq-eqb _ _ (s .before .before .if1 .left), eq-eqb _ _ (s .if2 .left), ne-eqb _ _ (c .if3 .taken))
@@ -32,13 +33,13 @@ cast-if4 : tie.Need-cast-if4
 cast-if4 c = search needs
 
 returns-4 : tie.Need-returns-4
-unfolding readReply
+unfolding readReply verdictNumber number
 returns-4 c =
     let s = c .before .before .before .before in
     simp (eq-eqb _ _ (s .before .before .if1 .left), eq-eqb _ _ (s .if2 .left), eq-eqb _ _ (c .before .before .if3 .left), ne-eqb _ _ (c .if4 .taken))
 
 returns-5 : tie.Need-returns-5
-unfolding readReply
+unfolding readReply verdictNumber number
 returns-5 c =
     let s = c .before .before .before .before in
     simp (eq-eqb _ _ (s .before .before .if1 .left), eq-eqb _ _ (s .if2 .left), eq-eqb _ _ (c .before .before .if3 .left), eq-eqb _ _ (c .if4 .left))

@@ -4,6 +4,7 @@ use Rattle.page_theory.specs.Calls.{writeFor, writeOf}
 use Rattle.page_write.specs.Answers.{writeNumber, writeBlock}
 use Rattle.page_plan.proofs.Plans.{accepted-planned}
 use borrow.Author.Needs.{needs}
+use Rattle.page_write.proofs.Writing.{write-layout}
 use Rattle.page_write.proofs.write.write_page.Statement.{statement}
 use Rattle.page_write.proofs.write.write_page.Tie as tie
 
@@ -27,8 +28,8 @@ write-in-requires c κs =
 enum-known-refusal : tie.Need-enum-known-refusal
 enum-known-refusal c = search needs
 
-refusal-reply-requires : tie.Need-refusal-reply-requires
-refusal-reply-requires c κs = search needs
+refusal-of-requires : tie.Need-refusal-of-requires
+refusal-of-requires c κs = search needs
 
 same-length : tie.Need-same-length
 same-length c = search needs
@@ -42,10 +43,10 @@ returns c =
     ∙ simp (done .before .before .plan-of .ensures, sym (known .before .before .check-layout .ensures), known .layout .given .1)
 
 returns-2 : tie.Need-returns-2
-unfolding writeNumber writeBlock writeOf writeFor
+unfolding writeNumber writeBlock writeOf
 returns-2 c =
     let known = c .before .before in
-    simp (c .refusal-reply .ensures, sym (known .before .before .check-layout .ensures), known .refusal .given .1)
+    write-layout _ _ _ (c .refusal-of .ensures) (sym (known .before .before .check-layout .ensures) ∙ known .refusal .given .1)
 
 pub write-page-spec : {M : Type 1} → statement M
 write-page-spec =
@@ -56,7 +57,7 @@ write-page-spec =
     plan-of-requires
     write-in-requires
     enum-known-refusal
-    refusal-reply-requires
+    refusal-of-requires
     same-length
     returns
     returns-2)

@@ -11,11 +11,8 @@ read-page-requires c κs = search needs
 enum-told : tie.Need-enum-told
 enum-told c = search needs
 
-enum-known-reply : tie.Need-enum-known-reply
-enum-known-reply c = search needs
-
-enum-known-block : tie.Need-enum-known-block
-enum-known-block c = search needs
+enum-known-refusal : tie.Need-enum-known-refusal
+enum-known-refusal c = search needs
 
 same-length : tie.Need-same-length
 same-length c = search needs
@@ -47,29 +44,13 @@ returns-2 c =
     let done = c .before .before .before .before .before .before .before .before .before in
     read-told (c .before .reply .given .1) (done .read-page .ensures)
 
-same-length-7 : tie.Need-same-length-7
-same-length-7 c = search needs
-
-same-length-8 : tie.Need-same-length-8
-same-length-8 c = search needs
-
-same-length-9 : tie.Need-same-length-9
-same-length-9 c = search needs
-
-returns-3 : tie.Need-returns-3
-unfolding readNumber
-returns-3 c =
-    let done = c .before .before .before .before .before .before .before .before .before in
-    read-told (c .before .block .given .1) (done .read-page .ensures)
-
 pub read-spec : {M : Type 1} → statement M
 read-spec =
     tie.close
     (tie.spec
     read-page-requires
     enum-told
-    enum-known-reply
-    enum-known-block
+    enum-known-refusal
     same-length
     same-length-2
     same-length-3
@@ -77,8 +58,4 @@ read-spec =
     same-length-4
     same-length-5
     same-length-6
-    returns-2
-    same-length-7
-    same-length-8
-    same-length-9
-    returns-3)
+    returns-2)

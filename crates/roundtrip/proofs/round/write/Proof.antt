@@ -1,5 +1,6 @@
 -- `roundtrip::round::write` meets its contract.
-use Rattle.page_write.specs.Answers.{writeNumber, writeBlock}
+use Rattle.page_theory.proofs.Demand1.{write-ends}
+use Rattle.page_write.specs.Answers.{writeNumber}
 use Rattle.roundtrip.proofs.Trips.{write-told}
 use borrow.Author.Needs.{needs}
 use Rattle.roundtrip.proofs.round.write.Statement.{statement}
@@ -11,24 +12,24 @@ write-page-requires c κs = search needs
 enum-told : tie.Need-enum-told
 enum-told c = search needs
 
-enum-known-reply : tie.Need-enum-known-reply
-enum-known-reply c = search needs
+enum-known-refusal : tie.Need-enum-known-refusal
+enum-known-refusal c = search needs
 
 same-length : tie.Need-same-length
 same-length c = search needs
 
 returns : tie.Need-returns
-unfolding writeNumber writeBlock
+unfolding writeNumber
 returns c = write-told (c .enum-told .given .1) (c .before .before .before .before .write-page .ensures)
 
 same-length-2 : tie.Need-same-length-2
 same-length-2 c = search needs
 
 returns-2 : tie.Need-returns-2
-unfolding writeNumber writeBlock
+unfolding writeNumber
 returns-2 c = write-told (c .before .reply .given .1) (c .before .before .before .before .before .write-page .ensures)
 
 pub write-spec : {M : Type 1} → statement M
 write-spec =
     tie.close
-    (tie.spec write-page-requires enum-told enum-known-reply same-length returns same-length-2 returns-2)
+    (tie.spec write-page-requires enum-told enum-known-refusal same-length returns same-length-2 returns-2)
