@@ -14,6 +14,9 @@ enum-told c = search needs
 enum-known-refusal : tie.Need-enum-known-refusal
 enum-known-refusal c = search needs
 
+refusal-number-requires : tie.Need-refusal-number-requires
+refusal-number-requires c κs = search needs
+
 same-length : tie.Need-same-length
 same-length c = search needs
 
@@ -41,8 +44,9 @@ same-length-6 c = search needs
 returns-2 : tie.Need-returns-2
 unfolding readNumber
 returns-2 c =
-    let done = c .before .before .before .before .before .before .before .before .before in
-    read-told (c .before .reply .given .1) (done .read-page .ensures)
+    let done = c .before .before .before .before .before .before .before .before .before .before in
+    let told = read-told (c .before .before .refusal .given .1) (done .read-page .ensures) in
+    rw (c .refusal-number .ensures) told
 
 pub read-spec : {M : Type 1} → statement M
 read-spec =
@@ -51,6 +55,7 @@ read-spec =
     read-page-requires
     enum-told
     enum-known-refusal
+    refusal-number-requires
     same-length
     same-length-2
     same-length-3
