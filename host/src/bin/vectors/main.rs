@@ -1,6 +1,6 @@
 //! Writes test vectors and the model's answers to them:
 //!
-//!     vectors layout|locate|fragments|pages INPUT OUTPUT
+//!     vectors layout|locate|fragments|pages|roots INPUT OUTPUT
 //!
 //! INPUT is what a program reads on its standard input, OUTPUT what it is to print.
 
@@ -8,6 +8,7 @@ mod fragments;
 mod layout;
 mod locate;
 mod pages;
+mod roots;
 
 use model::{Refusal, Reply};
 use std::fmt::Display;
@@ -99,6 +100,7 @@ fn main() -> ExitCode {
         "locate" => locate::vectors(),
         "fragments" => fragments::vectors(),
         "pages" => pages::vectors(),
+        "roots" => roots::vectors(),
         _ => return usage(),
     };
     for (path, bytes) in [
@@ -116,6 +118,6 @@ fn main() -> ExitCode {
 }
 
 fn usage() -> ExitCode {
-    eprintln!("usage: vectors layout|locate|fragments|pages INPUT OUTPUT");
+    eprintln!("usage: vectors layout|locate|fragments|pages|roots INPUT OUTPUT");
     ExitCode::FAILURE
 }
