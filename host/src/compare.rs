@@ -54,7 +54,7 @@ impl<'a> Comparison<'a> {
         self.keeping = true;
     }
 
-    /// One round of calls of every kind, some 10,000.
+    /// One round of calls of every kind, some 14,000.
     pub fn round(&mut self) -> Result<(), Box<Difference>> {
         self.layouts()?;
         self.remainders()?;

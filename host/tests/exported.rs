@@ -22,10 +22,10 @@ fn compare(empty: EmptyPointer, rounds: u64, seed: u64) -> Vec<usize> {
     calls
 }
 
-/// RUDDERFIG_ROUNDS asks for more rounds than the usual twelve, of some 9,000 calls each.
+/// RUDDERFIG_ROUNDS asks for more rounds than the usual eight, of some 14,000 calls each.
 #[test]
 fn exported_calls_are_those_of_the_model() {
-    let rounds = std::env::var("RUDDERFIG_ROUNDS").map_or(12, |text| text.parse().unwrap());
+    let rounds = std::env::var("RUDDERFIG_ROUNDS").map_or(8, |text| text.parse().unwrap());
     let calls = compare(EmptyPointer::Own, rounds, 1000);
     println!(
         "{} calls compared, by kind {calls:?}",
