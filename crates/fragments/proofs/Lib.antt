@@ -3,3 +3,4 @@ pub mod Replies
 pub mod Meaning
 pub mod Back
 pub mod Trips
+pub mod ReplyRules

@@ -2,3 +2,4 @@
 pub mod Fragments
 pub mod Calls
 pub mod RoundTrip
+pub mod ReplyRules

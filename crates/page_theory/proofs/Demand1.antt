@@ -9,6 +9,7 @@ use Prim.Native.Nat.{ℕ, zero, suc, _<_}
 use native.Mathlib.Omega.{arith}
 use lib.ListN.{length}
 use lib.Dec.{eqb, ltb}
+use Rattle.replies.specs.Replies.{among}
 use Rattle.layout.specs.declared.Plan.{Plan}
 use Rattle.layout.specs.declared.Acceptance.{Acceptance}
 use Rattle.layout.specs.declared.Acceptance.the-variants.{Accepted, Refused}
@@ -19,7 +20,7 @@ use Rattle.layout.proofs.Numbers.{acceptance-refused-reply}
 use Rattle.page_theory.specs.Page.{pageOf, blockWord}
 use Rattle.page_theory.specs.Reading.{Reading, done, refused, outcome, reading}
 use Rattle.page_theory.specs.Claim.{Right, right?}
-use Rattle.page_theory.specs.Demands.{among, WriteEnds, ReadEnds, JudgeEnds, ClaimEnds}
+use Rattle.page_theory.specs.Demands.{WriteEnds, ReadEnds, JudgeEnds, ClaimEnds}
 use Rattle.page_theory.specs.Calls.{
   writeEnded,
   writeReply,

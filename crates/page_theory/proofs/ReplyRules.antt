@@ -6,15 +6,15 @@ use mathlib.Core.Bool.{Bool, true, false, cond}
 use mathlib.Core.List.{List, [], _∷_, _++_}
 use Prim.Native.Nat.{ℕ, zero, suc, _≤_}
 use native.Mathlib.Omega.{arith}
-use native.Mathlib.Decide.{decLt}
 use lib.ListN.{length, drop}
-use lib.Dec.{eqb, ltb, leb}
-use borrow.Author.Tests.{lt-ltb, le-ltb, le-leb, lt-leb}
+use lib.Dec.{eqb, ltb}
+use borrow.Author.Tests.{le-leb}
 use Rattle.replies.specs.declared.Refusal.the-variants.{PageLength, BufferLength, OutOfRange, Uncorrectable, ClaimWrong}
 use Rattle.replies.specs.declared.Verdict.the-variants.{Refused}
 use Rattle.replies.specs.Replies.{number, block, verdictNumber, verdictBlock, unequal, Rule, rule, verdict, reply, replyBlock}
 use Rattle.replies.specs.Given as none
 use Rattle.replies.specs.Given.{None, Follows, Exactly, atMost, ascending}
+use Rattle.replies.proofs.Tests.{leb-not}
 use Rattle.replies.proofs.Given.{follows-next, none-verdict, verdict-none, append-kept, append-refused, exactly}
 use Rattle.layout.specs.declared.Plan.{Plan}
 use Rattle.layout.specs.declared.Acceptance.{Acceptance}
@@ -162,12 +162,6 @@ read-ascending rec page m d c =
     rw (nines-least 6 (omega arith) h, nines-ascending h)
 
 -- ---- judging one block, and claims
-
-leb-not : (a b : ℕ) → leb a b ≡ cond (ltb b a) false true
-leb-not a b = elim (decLt b a) [
-  | yes h ↦ rw (lt-ltb b a h, lt-leb a b h)
-  | no h ↦ rw (le-ltb b a (omega arith), le-leb a b (omega arith))
-]
 
 module _ (q : Plan) (page : List ℕ) (b : ℕ) where
   judge-in : Follows (rules.judgeIn q page b) (call.judgeIn q page b .reply) (call.judgeIn q page b .block)

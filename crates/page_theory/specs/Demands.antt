@@ -1,29 +1,24 @@
 -- What the owner's demands 1 and 2 say of a call (the demands are quoted in proofs/Demand1, Demand2 and Demand3; what demand 3 speaks of is
 -- in Damage and Reading).
 --
--- among x xs                        x is one of the numbers of a list
 -- WriteEnds page r                  demand 1, writing: r is an answer of the table, and a refusal leaves the page as it was lent
 -- ReadEnds metadata body counts r   demand 1, reading: r is an answer of the table, and a refusal leaves the outputs as they were lent
 -- JudgeEnds b r, ClaimEnds r        demand 1, judging block b and a claim, which are lent nothing to write to
 -- Stands q payload page             demand 2: the page holds the written blocks of a payload, and ones in the tail
 -- Reads q page r                    demand 2: what a page that was read gives, block by block
 use mathlib.Core.Path.{_≡_}
-use mathlib.Core.Bool.{Bool, true, false, cond}
+use mathlib.Core.Bool.{true}
 use mathlib.Core.List.{List, [], _∷_, _++_}
 use Prim.Native.Nat.{ℕ, _*_, _≤_, _<_}
 use lib.ListN.{length, getD}
-use lib.Dec.{eqb}
 use Rattle.bits.specs.Bits.{bitOf, Bytes}
+use Rattle.replies.specs.Replies.{among}
 use Rattle.layout.specs.declared.Plan.{Plan}
 use Rattle.layout.specs.Plan.{used}
 use Rattle.page_theory.specs.Page.{message, written, blockWord}
 use Rattle.page_theory.specs.Reading.{GivesAt}
 use Rattle.page_theory.specs.Calls.{Written, writeEnded, Read, readEnded, Judged, Claimed}
 use Rattle.page_theory.specs.Damage.{Payload}
-
-unfoldable pub among : ℕ → List ℕ → Bool
-among x [] = false
-among x (y ∷ ys) = cond (eqb x y) true (among x ys)
 
 -- How writing ends: with a reply of the table, about block 0, and after a refusal the page is as it was lent.
 pub record WriteEnds (page : List ℕ) (r : Written) : Type 0 where

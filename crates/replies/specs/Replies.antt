@@ -3,6 +3,7 @@
 -- number r             the number of a refusal; 0, done, is none of them
 -- block r              the block that goes with it: 0 except in reply 9
 -- verdictNumber v      the reply of a verdict: 0 where all rules are kept; verdictBlock v: the block beside it
+-- among n ns           n is one of the numbers of a list
 -- unequal a b          two numbers differ
 -- Rule                 one reply of a call: the refusal, and whether it applies
 -- verdict rules        the verdict by a list of rules in the order in which they are looked at: the first that applies decides
@@ -48,6 +49,11 @@ verdictNumber (Refused r) = number r
 unfoldable pub verdictBlock : Verdict → ℕ
 verdictBlock Passed = 0
 verdictBlock (Refused r) = block r
+
+-- Which replies of the table a call may give.
+unfoldable pub among : ℕ → List ℕ → Bool
+among n [] = false
+among n (x ∷ xs) = cond (eqb n x) true (among n xs)
 
 -- What most rules ask of a length.
 unfoldable pub unequal : ℕ → ℕ → Bool
