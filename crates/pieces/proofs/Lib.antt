@@ -5,3 +5,4 @@ pub mod Starting
 pub mod Replies
 pub mod Ends
 pub mod Cutting
+pub mod ReplyRules

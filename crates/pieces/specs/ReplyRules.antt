@@ -1,0 +1,44 @@
+-- The replies of starting, feeding and finishing, each as one list of rules in the order in which they are looked at (document 02, E4). The first that
+-- applies is given (replies/Given). The block beside the reply is always 0.
+--
+-- blockRules f level n     1, 2 and 3 as a block of a page gets them
+-- goesOn s                 the state can be gone on with: its field choice is offered, and it is usable in that field
+-- startRules, feedRules, finishRules     the calls
+use mathlib.Core.Bool.{Bool, false, cond, not}
+use mathlib.Core.List.{List, [], _∷_}
+use Prim.Native.Nat.{ℕ, _+_, _*_}
+use lib.ListN.{length}
+use lib.Dec.{eqb, ltb}
+use Rattle.replies.specs.declared.Refusal.the-variants.{LevelTooHigh, EmptyMessage, BlockTooLong, BufferLength, OutOfRange}
+use Rattle.replies.specs.Replies.{unequal, Rule, rule}
+use Rattle.field.specs.declared.Field.{Field}
+use Rattle.layout.specs.Record.{fieldOf}
+use Rattle.layout.specs.ReplyRules.{tooLong}
+use Rattle.pieces.specs.declared.State.{State}
+use Rattle.pieces.specs.Calls.{shapeFor, usable, parityBytes}
+
+unfoldable pub blockRules : Field → ℕ → ℕ → List Rule
+blockRules f level n =
+    rule (ltb 20 level) LevelTooHigh
+    ∷ rule (eqb n 0) EmptyMessage
+    ∷ rule (tooLong (shapeFor f level n)) BlockTooLong
+    ∷ []
+
+-- 7 first: a field choice that is not offered.
+unfoldable pub startRules : ℕ → ℕ → ℕ → List Rule
+startRules level choice n = rule (ltb 1 choice) OutOfRange ∷ blockRules (fieldOf choice) level n
+
+unfoldable pub goesOn : State → Bool
+goesOn s = cond (ltb 1 (s .choice)) false (usable (fieldOf (s .choice)) s)
+
+-- 6: a piece that would pass the length stated at the start.
+unfoldable pub feedRules : State → List ℕ → List Rule
+feedRules s piece = rule (not (goesOn s)) OutOfRange ∷ rule (ltb (s .size) (s .fed + length piece)) BufferLength ∷ []
+
+-- 6: a message that is not whole, or a buffer of another length than a parity's.
+unfoldable pub finishRules : State → List ℕ → List Rule
+finishRules s buffer =
+    rule (not (goesOn s)) OutOfRange
+    ∷ rule (unequal (s .fed) (s .size)) BufferLength
+    ∷ rule (unequal (length buffer) (parityBytes (fieldOf (s .choice)) (2 * s .level))) BufferLength
+    ∷ []
