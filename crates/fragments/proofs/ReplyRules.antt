@@ -11,9 +11,9 @@ use Rattle.replies.specs.Replies as table
 use Rattle.replies.specs.Given.{Follows, Exactly, atMost, ascending}
 use Rattle.replies.proofs.Tests.{leb-not}
 use Rattle.replies.proofs.Given.{exactly}
-use Rattle.remainder.specs.Remainder.{numberOf}
+use Rattle.remainder.specs.Remainder.{bytesFor, numberOf}
 use Rattle.fragments.specs.Fragments.{joined}
-use Rattle.fragments.specs.Calls.{offered, coefficients, bytesFor, fitting, ending, reply, exportOf, importOf}
+use Rattle.fragments.specs.Calls.{offered, coefficients, fitting, ending, reply, exportOf, importOf}
 use Rattle.fragments.specs.ReplyRules.{requestRules, exportRules, importRules, FragmentsEnds}
 use Rattle.fragments.proofs.Meaning.{export-keeps, import-keeps}
 

@@ -12,9 +12,9 @@ use lib.ListN.{length}
 use lib.Dec.{leb}
 use Rattle.replies.specs.declared.Refusal.the-variants.{LevelTooHigh, BufferLength, RemainderTooWide}
 use Rattle.replies.specs.Replies.{among, unequal, Rule, rule}
-use Rattle.remainder.specs.Remainder.{numberOf}
+use Rattle.remainder.specs.Remainder.{bytesFor, numberOf}
 use Rattle.fragments.specs.Fragments.{joined}
-use Rattle.fragments.specs.Calls.{offered, coefficients, bytesFor, Ended}
+use Rattle.fragments.specs.Calls.{offered, coefficients, Ended}
 
 unfoldable pub requestRules : ℕ → ℕ → ℕ → ℕ → List Rule
 requestRules field bytes count x =

@@ -23,8 +23,8 @@ use Rattle.layout.specs.ReplyRules.{tooLong}
 use Rattle.pieces.specs.declared.State.{State}
 use Rattle.pieces.specs.State.{stateOf, after}
 use Rattle.code.specs.Register.{register}
-use Rattle.remainder.specs.Remainder.{bytesOf}
-use Rattle.pieces.specs.Calls.{Finished, shapeFor, blockReply, usable, parityBytes, answered, finished, startIn, startFor, startOf, feedIn, feedFor, feedOf, finishReply, finishIn, finishFor, finishOf}
+use Rattle.remainder.specs.Remainder.{bytesFor, bytesOf}
+use Rattle.pieces.specs.Calls.{Finished, shapeFor, blockReply, usable, answered, finished, startIn, startFor, startOf, feedIn, feedFor, feedOf, finishReply, finishIn, finishFor, finishOf}
 use Rattle.pieces.specs.ReplyRules.{blockRules, startRules, goesOn, feedRules, finishRules}
 use Rattle.pieces.proofs.Replies.{reply-level, reply-empty, reply-plain, reply-long, reply-right}
 
@@ -120,10 +120,10 @@ module _ (s : State) (piece : List ℕ) where
 
 module _ (s : State) (buffer : List ℕ) where
   finish-in : (f : Field) → Follows
-      (rule (not (usable f s)) OutOfRange ∷ rule (unequal (s .fed) (s .size)) BufferLength ∷ rule (unequal (length buffer) (parityBytes f (2 * s .level))) BufferLength ∷ [])
+      (rule (not (usable f s)) OutOfRange ∷ rule (unequal (s .fed) (s .size)) BufferLength ∷ rule (unequal (length buffer) (bytesFor (degree f * (2 * s .level)))) BufferLength ∷ [])
       (finishIn f s buffer .reply) 0
   unfolding finishIn finishReply finished unequal reply replyBlock verdict verdictNumber verdictBlock number block
-  finish-in f = go (usable f s) (eqb (s .fed) (s .size)) (eqb (length buffer) (parityBytes f (2 * s .level)))
+  finish-in f = go (usable f s) (eqb (s .fed) (s .size)) (eqb (length buffer) (bytesFor (degree f * (2 * s .level))))
     where
       replied : (a b c : Bool) → Finished
       replied a b c = cond (eqb (cond a (cond b (cond c 0 6) 6) 7) 0)

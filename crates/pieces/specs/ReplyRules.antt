@@ -12,10 +12,12 @@ use lib.Dec.{eqb, ltb}
 use Rattle.replies.specs.declared.Refusal.the-variants.{LevelTooHigh, EmptyMessage, BlockTooLong, BufferLength, OutOfRange}
 use Rattle.replies.specs.Replies.{unequal, Rule, rule}
 use Rattle.field.specs.declared.Field.{Field}
+use Rattle.field.specs.Field.{degree}
 use Rattle.layout.specs.Record.{fieldOf}
 use Rattle.layout.specs.ReplyRules.{tooLong}
+use Rattle.remainder.specs.Remainder.{bytesFor}
 use Rattle.pieces.specs.declared.State.{State}
-use Rattle.pieces.specs.Calls.{shapeFor, usable, parityBytes}
+use Rattle.pieces.specs.Calls.{shapeFor, usable}
 
 unfoldable pub blockRules : Field → ℕ → ℕ → List Rule
 blockRules f level n =
@@ -40,5 +42,5 @@ unfoldable pub finishRules : State → List ℕ → List Rule
 finishRules s buffer =
     rule (not (goesOn s)) OutOfRange
     ∷ rule (unequal (s .fed) (s .size)) BufferLength
-    ∷ rule (unequal (length buffer) (parityBytes (fieldOf (s .choice)) (2 * s .level))) BufferLength
+    ∷ rule (unequal (length buffer) (bytesFor (degree (fieldOf (s .choice)) * (2 * s .level)))) BufferLength
     ∷ []
