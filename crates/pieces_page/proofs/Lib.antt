@@ -1,0 +1,2 @@
+-- A block's message in pieces, and the page that holds it.
+pub mod AfterMessage
