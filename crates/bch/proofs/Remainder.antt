@@ -19,7 +19,8 @@ use Rattle.code.specs.Code.{Fits}
 use Rattle.code.specs.Locations.{Locations, Locates, listed, exponents, nowhere, locate}
 use Rattle.code.proofs.Locations.{listed-length, locate-exponents, locate-nowhere}
 use Rattle.remainder.specs.Remainder.{numberOf}
-use Rattle.bch.specs.Answers.{Ended, done, refused, unless, levelOf, bytesFor, requestReply, listIn, remainderIn, locateIn, locateFor, locateOf}
+use Rattle.replies.specs.Replies.{unless}
+use Rattle.bch.specs.Answers.{Ended, done, refused, levelOf, bytesFor, requestReply, listIn, remainderIn, locateIn, locateFor, locateOf}
 
 pub record Right (f : Field) (field n : ℕ) (remainder places : List ℕ) : Type 0 where
   pub request : requestReply f field n (length remainder) (length places) ≡ 0

@@ -14,12 +14,13 @@ use Rattle.field.specs.Field.{degree, longest}
 use Rattle.code.specs.Code.{Fits}
 use Rattle.code.specs.Locations.{exponents, locate}
 use Rattle.bch.specs.declared.Found.{Found}
-use Rattle.bch.specs.declared.Refusal.{Refusal}
-use Rattle.bch.specs.declared.Refusal.the-variants as refusal
+use Rattle.replies.specs.declared.Refusal.{Refusal}
+use Rattle.replies.specs.declared.Refusal.the-variants as refusal
+use Rattle.replies.specs.Replies.{number, block}
 use Rattle.bch.specs.declared.LocateAnswer.the-variants.{Located, Refused}
 use Rattle.bch.specs.Locating.{answer}
 use Rattle.remainder.specs.Remainder.{numberOf}
-use Rattle.bch.specs.Answers.{Ended, ended, refusalReply, levelOf, bytesFor, requestReply, listIn, remainderIn, locateIn}
+use Rattle.bch.specs.Answers.{Ended, ended, levelOf, bytesFor, requestReply, listIn, remainderIn, locateIn}
 use Rattle.bch.proofs.Locating.{zero-located}
 
 -- ---- the list
@@ -35,8 +36,8 @@ pub report-list : (r : Found) (d : List ℕ) {q : List ℕ} → r .located ≡ t
 unfolding ended listIn answer
 report-list r d e l h = rw (e, h, length-take-le (r .count) (r .exponents) l)
 
-pub report-none : (r : Found) (d : List ℕ) → r .located ≡ false → ended (Refused refusal.NoSet) d ≡ listIn (answer r) d
-unfolding ended listIn answer refusalReply
+pub report-none : (r : Found) (d : List ℕ) → r .located ≡ false → ended (Refused (refusal.Uncorrectable 0)) d ≡ listIn (answer r) d
+unfolding ended listIn answer number block
 report-none r d e = rw e
 
 -- ---- the remainder
@@ -46,8 +47,8 @@ module _ (f : Field) (t n x : ℕ) (d : List ℕ) where
   pub remainder-test : {y bits : ℕ} {r v : Bool} → y ≡ x → bits ≡ degree f * t → r ≡ ltb y (2 ^ bits) → r ≡ v → ltb x (2 ^ (degree f * t)) ≡ v
   remainder-test e l h g = rw (← e, ← l) (sym h ∙ g)
 
-  pub remainder-high : ltb x (2 ^ (degree f * t)) ≡ false → ended (Refused refusal.Coefficient) d ≡ remainderIn f t n x d
-  unfolding ended refusalReply remainderIn
+  pub remainder-high : ltb x (2 ^ (degree f * t)) ≡ false → ended (Refused refusal.RemainderTooWide) d ≡ remainderIn f t n x d
+  unfolding ended number block remainderIn
   remainder-high e = rw e
 
   pub remainder-zero : Fits f t n → ltb x (2 ^ (degree f * t)) ≡ true → x ≡ 0 → ended (Located 0) d ≡ remainderIn f t n x d
@@ -61,49 +62,49 @@ module _ (f : Field) (t n x : ℕ) (d : List ℕ) where
 -- ---- the numbers and lengths
 
 module _ (f : Field) (field n : ℕ) (remainder d : List ℕ) where
-  refused-in : (r : Refusal) → requestReply f field n (length remainder) (length d) ≡ refusalReply r → eqb (refusalReply r) 0 ≡ false → ended (Refused r) d ≡ locateIn f field n remainder d
+  refused-in : (r : Refusal) → requestReply f field n (length remainder) (length d) ≡ number r → eqb (number r) 0 ≡ false → block r ≡ 0 → ended (Refused r) d ≡ locateIn f field n remainder d
   unfolding ended locateIn
-  refused-in r h z = rw (h, z)
+  refused-in r h z b = rw (h, z, b)
 
-  pub in-level : 20 < field → ended (Refused refusal.Level) d ≡ locateIn f field n remainder d
-  in-level h = refused-in refusal.Level (unfold requestReply refusalReply in rw (lt-leb field 20 h)) (unfold refusalReply in refl)
+  pub in-level : 20 < field → ended (Refused refusal.LevelTooHigh) d ≡ locateIn f field n remainder d
+  in-level h = refused-in refusal.LevelTooHigh (unfold requestReply number in rw (lt-leb field 20 h)) (unfold number in refl) (unfold block in refl)
 
   module _ (low : field ≤ 20) where
-    pub in-zero : field ≡ 0 → ended (Refused refusal.Message) d ≡ locateIn f field n remainder d
-    in-zero e = refused-in refusal.Message (unfold requestReply refusalReply in rw (le-leb field 20 low, le-ltb 0 field (omega arith))) (unfold refusalReply in refl)
+    pub in-zero : field ≡ 0 → ended (Refused refusal.EmptyMessage) d ≡ locateIn f field n remainder d
+    in-zero e = refused-in refusal.EmptyMessage (unfold requestReply number in rw (le-leb field 20 low, le-ltb 0 field (omega arith))) (unfold number in refl) (unfold block in refl)
 
     module _ (positive : 0 < field) where
-      pub in-short : n ≤ degree f * levelOf field → ended (Refused refusal.Message) d ≡ locateIn f field n remainder d
-      in-short h = refused-in refusal.Message
-          (unfold requestReply refusalReply in rw (le-leb field 20 low, lt-ltb 0 field positive, le-ltb (degree f * levelOf field) n h)) (unfold refusalReply in refl)
+      pub in-short : n ≤ degree f * levelOf field → ended (Refused refusal.EmptyMessage) d ≡ locateIn f field n remainder d
+      in-short h = refused-in refusal.EmptyMessage
+          (unfold requestReply number in rw (le-leb field 20 low, lt-ltb 0 field positive, le-ltb (degree f * levelOf field) n h)) (unfold number in refl) (unfold block in refl)
 
       module _ (room : degree f * levelOf field < n) where
-        pub in-long : longest f < n → ended (Refused refusal.Length) d ≡ locateIn f field n remainder d
-        in-long h = refused-in refusal.Length
-            (unfold requestReply refusalReply in rw (le-leb field 20 low, lt-ltb 0 field positive, lt-ltb (degree f * levelOf field) n room, lt-leb n (longest f) h)) (unfold refusalReply in refl)
+        pub in-long : longest f < n → ended (Refused refusal.BlockTooLong) d ≡ locateIn f field n remainder d
+        in-long h = refused-in refusal.BlockTooLong
+            (unfold requestReply number in rw (le-leb field 20 low, lt-ltb 0 field positive, lt-ltb (degree f * levelOf field) n room, lt-leb n (longest f) h)) (unfold number in refl) (unfold block in refl)
 
         module _ (short : n ≤ longest f) where
-          pub in-bytes : ¬ (length remainder ≡ bytesFor f (levelOf field)) → ended (Refused refusal.Buffer) d ≡ locateIn f field n remainder d
-          in-bytes h = refused-in refusal.Buffer
-              (unfold requestReply refusalReply in rw (
+          pub in-bytes : ¬ (length remainder ≡ bytesFor f (levelOf field)) → ended (Refused refusal.BufferLength) d ≡ locateIn f field n remainder d
+          in-bytes h = refused-in refusal.BufferLength
+              (unfold requestReply number in rw (
                 le-leb field 20 low,
                 lt-ltb 0 field positive,
                 lt-ltb (degree f * levelOf field) n room,
                 le-leb n (longest f) short,
                 ne-eqb (length remainder) (bytesFor f (levelOf field)) h,
-              )) (unfold refusalReply in refl)
+              )) (unfold number in refl) (unfold block in refl)
 
           module _ (bytes : length remainder ≡ bytesFor f (levelOf field)) where
-            pub in-places : length d < levelOf field → ended (Refused refusal.Buffer) d ≡ locateIn f field n remainder d
-            in-places h = refused-in refusal.Buffer
-                (unfold requestReply refusalReply in rw (
+            pub in-places : length d < levelOf field → ended (Refused refusal.BufferLength) d ≡ locateIn f field n remainder d
+            in-places h = refused-in refusal.BufferLength
+                (unfold requestReply number in rw (
                   le-leb field 20 low,
                   lt-ltb 0 field positive,
                   lt-ltb (degree f * levelOf field) n room,
                   le-leb n (longest f) short,
                   eq-eqb (length remainder) (bytesFor f (levelOf field)) bytes,
                   lt-leb (levelOf field) (length d) h,
-                )) (unfold refusalReply in refl)
+                )) (unfold number in refl) (unfold block in refl)
 
             pub in-right : {e : Ended} → levelOf field ≤ length d → e ≡ remainderIn f (levelOf field) n (numberOf remainder) d → e ≡ locateIn f field n remainder d
             in-right h g = unfold locateIn requestReply in

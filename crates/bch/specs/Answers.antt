@@ -4,9 +4,7 @@
 --
 -- Ended                 a reply, its block, the size of the set, and the lent list afterwards
 -- done, refused         how the call ends with a set, and without
--- refusalReply r        document 01's number of a refusal
 -- ended answer places   document 01's numbers for an answer of the code that leaves the list so
--- unless ok reply rest  the reply, unless ok; then the rest decides
 -- levelOf field         the level t of a level field
 -- bytesFor f t          the number of bytes of a remainder
 -- requestReply ..       the reply about the numbers and lengths, 0 where they are right
@@ -14,7 +12,7 @@
 -- remainderIn ..        the call for a remainder x
 -- locateIn ..           the call in a field; locateFor: with the answer to a field choice
 -- locateOf ..           the call
-use mathlib.Core.Bool.{Bool, cond}
+use mathlib.Core.Bool.{cond}
 use mathlib.Core.List.{List, _++_}
 use Prim.Native.Nat.{ℕ, _+_, _*_, _/_, _^_}
 use lib.ListN.{length, drop}
@@ -25,8 +23,7 @@ use Rattle.field.specs.declared.Choice.the-variants.{Offered, Unknown}
 use Rattle.field.specs.Field.{degree, longest, chosen}
 use Rattle.code.specs.Locations.{Locations, exponents, nowhere, locate}
 use Rattle.remainder.specs.Remainder.{numberOf}
-use Rattle.bch.specs.declared.Refusal.{Refusal}
-use Rattle.bch.specs.declared.Refusal.the-variants as refusal
+use Rattle.replies.specs.Replies.{number, block, unless}
 use Rattle.bch.specs.declared.LocateAnswer.{LocateAnswer}
 use Rattle.bch.specs.declared.LocateAnswer.the-variants as answer
 
@@ -42,21 +39,9 @@ done size places = record { reply = 0; block = 0; size = size; places = places }
 abbrev pub refused : ℕ → List ℕ → Ended
 refused reply places = record { reply = reply; block = 0; size = 0; places = places }
 
-unfoldable pub refusalReply : Refusal → ℕ
-refusalReply refusal.Choice = 7
-refusalReply refusal.Level = 1
-refusalReply refusal.Message = 2
-refusalReply refusal.Length = 3
-refusalReply refusal.Buffer = 6
-refusalReply refusal.Coefficient = 8
-refusalReply refusal.NoSet = 9
-
 unfoldable pub ended : LocateAnswer → List ℕ → Ended
 ended (answer.Located size) places = done size places
-ended (answer.Refused r) places = refused (refusalReply r) places
-
-abbrev pub unless : Bool → ℕ → ℕ → ℕ
-unless ok reply rest = cond ok rest reply
+ended (answer.Refused r) places = record { reply = number r; block = block r; size = 0; places = places }
 
 unfoldable pub levelOf : ℕ → ℕ
 levelOf field = 2 * field

@@ -19,6 +19,7 @@ mod request;
 
 use field::Choice;
 use field::Field;
+use replies::Refusal;
 ghost use mathlib.Core.Path.{_≡_};
 ghost use Rattle.bch.specs.Answers.{ended, locateOf};
 
@@ -28,18 +29,6 @@ pub struct Found {
     pub located: bool,
     pub count: usize,
     pub exponents: [u16; 64],
-}
-
-// Why no exponents are answered: a field choice that is not offered, the level field, a length with no message, a length above the
-// longest word, a lent buffer, a coefficient above those of a remainder, no set that leaves the remainder.
-pub enum Refusal {
-    Choice,
-    Level,
-    Message,
-    Length,
-    Buffer,
-    Coefficient,
-    NoSet,
 }
 
 // The answer to a remainder: the size of the set that is listed, or why none is.
@@ -61,6 +50,6 @@ pub fn locate_errors(
 {
     match Field::choose(field_choice) {
         Choice::Offered(f) => request::locate_in(f, level_field, n, remainder, places),
-        Choice::Unknown => LocateAnswer::Refused(Refusal::Choice),
+        Choice::Unknown => LocateAnswer::Refused(Refusal::OutOfRange),
     }
 }

@@ -11,7 +11,6 @@ ghost use Rattle.bch.specs.Locating.{Locatable, answer};
 ghost use Rattle.bch.specs.Answers.{ended, listIn, remainderIn, locateIn};
 use crate::Found;
 use crate::LocateAnswer;
-use crate::Refusal;
 use crate::locate::find_errors;
 use field::Field;
 use powers::fill_tables;
@@ -20,6 +19,7 @@ use remainder::coefficients::is_below;
 use remainder::coefficients::is_zero;
 use remainder::coefficients::parity_bits;
 use remainder::digits::from_bytes;
+use replies::Refusal;
 
 // Lists what was found at the start of the places. Where nothing was, no place is written.
 fn report(found: Found, places: &mut [u16]) -> LocateAnswer
@@ -27,7 +27,7 @@ fn report(found: Found, places: &mut [u16]) -> LocateAnswer
     ensures { λ r. ⌜ ended r (now (places .exit)) ≡ listIn (answer found) (now (places .entry)) ⌝ }
 {
     if !found.located {
-        return LocateAnswer::Refused(Refusal::NoSet);
+        return LocateAnswer::Refused(Refusal::Uncorrectable(0));
     }
     let exponents = found.exponents;
     let count = found.count;
@@ -71,7 +71,7 @@ fn locate_remainder(
     let state = from_bytes(remainder);
     let bits = parity_bits(f, t);
     if !is_below(state, bits) {
-        return LocateAnswer::Refused(Refusal::Coefficient);
+        return LocateAnswer::Refused(Refusal::RemainderTooWide);
     }
     if is_zero(state) {
         return LocateAnswer::Located(0);
@@ -90,24 +90,24 @@ pub fn locate_in(
     ensures { λ r. ⌜ ended r (now (places .exit)) ≡ locateIn f «level_field» n (now (remainder .entry)) (now (places .entry)) ⌝ }
 {
     if 20 < level_field {
-        return LocateAnswer::Refused(Refusal::Level);
+        return LocateAnswer::Refused(Refusal::LevelTooHigh);
     }
     if level_field == 0 {
-        return LocateAnswer::Refused(Refusal::Message);
+        return LocateAnswer::Refused(Refusal::EmptyMessage);
     }
     let t = 2 * level_field as usize;
     let bits = parity_bits(f, t);
     if n <= bits as u64 {
-        return LocateAnswer::Refused(Refusal::Message);
+        return LocateAnswer::Refused(Refusal::EmptyMessage);
     }
     if (f.longest() as u64) < n {
-        return LocateAnswer::Refused(Refusal::Length);
+        return LocateAnswer::Refused(Refusal::BlockTooLong);
     }
     if remainder.len() != (bits + 7) / 8 {
-        return LocateAnswer::Refused(Refusal::Buffer);
+        return LocateAnswer::Refused(Refusal::BufferLength);
     }
     if places.len() < t {
-        return LocateAnswer::Refused(Refusal::Buffer);
+        return LocateAnswer::Refused(Refusal::BufferLength);
     }
     locate_remainder(f, t, n as usize, remainder, places)
 }

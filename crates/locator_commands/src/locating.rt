@@ -1,7 +1,7 @@
 // The command locate.
 use bch::LocateAnswer;
-use bch::Refusal;
-use bch::answers::refusal_reply;
+use replies::Refusal;
+use replies::refusal_number;
 use text::Number;
 
 fn exponent(e: u16) {
@@ -24,15 +24,17 @@ fn located(list: &[u16]) {
 }
 
 fn refused(refusal: Refusal) {
-    say::reply(refusal_reply(refusal));
+    say::reply(refusal_number(refusal));
     match refusal {
-        Refusal::Choice => say::text(b"FIELD is 0 for m = 13 or 1 for m = 14\n"),
-        Refusal::Level => say::text(b"the level field is above 20\n"),
-        Refusal::Message => say::text(b"there is no message: t = 0, or N is at most mt bits\n"),
-        Refusal::Length => say::text(b"N is above 2^m - 1, the longest word of the field\n"),
-        Refusal::Buffer => say::text(b"the remainder has not mt / 8 bytes, rounded up\n"),
-        Refusal::Coefficient => say::text(b"the remainder has a one above bit mt - 1\n"),
-        Refusal::NoSet => say::text(b"uncorrectable, no t bits leave this remainder\n"),
+        Refusal::OutOfRange => say::text(b"FIELD is 0 for m = 13 or 1 for m = 14\n"),
+        Refusal::LevelTooHigh => say::text(b"the level field is above 20\n"),
+        Refusal::EmptyMessage => say::text(
+            b"there is no message: t = 0, or N is at most mt bits\n",
+        ),
+        Refusal::BlockTooLong => say::text(b"N is above 2^m - 1, the longest word of the field\n"),
+        Refusal::BufferLength => say::text(b"the remainder has not mt / 8 bytes, rounded up\n"),
+        Refusal::RemainderTooWide => say::text(b"the remainder has a one above bit mt - 1\n"),
+        _ => say::text(b"uncorrectable, no t bits leave this remainder\n"),
     }
 }
 

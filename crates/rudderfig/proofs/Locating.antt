@@ -16,8 +16,9 @@ use Rattle.code.specs.Locations.{Locations, exponents, nowhere, locate}
 use Rattle.code.proofs.Locations.{exponents-locate, listed-length}
 use Rattle.bch.specs.declared.LocateAnswer.{LocateAnswer}
 use Rattle.bch.specs.declared.LocateAnswer.the-variants as answer
-use Rattle.bch.specs.declared.Refusal.{Refusal}
-use Rattle.bch.specs.Answers.{Ended, refused, refusalReply, ended, levelOf, bytesFor, requestReply, listIn, remainderIn, locateIn, locateFor, locateOf}
+use Rattle.replies.specs.declared.Refusal.{Refusal}
+use Rattle.replies.specs.Replies.{number, block}
+use Rattle.bch.specs.Answers.{Ended, refused, ended, levelOf, bytesFor, requestReply, listIn, remainderIn, locateIn, locateFor, locateOf}
 use Rattle.rudderfig.specs.Answer.{answerWord, doneWord, refusedWord}
 use Rattle.rudderfig.specs.Locating.{LocateReturns}
 use Rattle.rudderfig.proofs.Words.{Holds, word-holds}
@@ -142,6 +143,6 @@ module _ {a : LocateAnswer} {w : Ended} (p : List ℕ) (e : ended a p ≡ w) whe
   unfolding doneWord ended
   locate-done h k = record { word = k ∙ simp (sym e, h); places = simp (sym e, h) }
 
-  pub locate-refused : {r : ℕ} {x : Refusal} → a ≡ answer.Refused x → r ≡ refusedWord (refusalReply x) 0 → LocateReturns w r p
+  pub locate-refused : {r : ℕ} {x : Refusal} → a ≡ answer.Refused x → r ≡ refusedWord (number x) (block x) → LocateReturns w r p
   unfolding refusedWord ended
   locate-refused h k = record { word = k ∙ simp (sym e, h); places = simp (sym e, h) }

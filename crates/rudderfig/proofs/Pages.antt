@@ -15,7 +15,7 @@ use Rattle.layout.specs.Plan.{planOf}
 use Rattle.layout.specs.Acceptance.{acceptance, refusalReply}
 use Rattle.code.specs.Outcome.{Outcome, good, ruined}
 use Rattle.page_theory.specs.Reading.{Reading, done, refused, outcome, reading}
-use Rattle.page_theory.specs.Demands.{among}
+use Rattle.replies.specs.Replies.{among}
 use Rattle.page_theory.specs.Calls.{
   Written,
   writeOf,

@@ -149,6 +149,6 @@ pub extern "C" fn rudderfig_locate_errors(
 {
     match bch::locate_errors(level_field, field_choice, n, remainder, places) {
         LocateAnswer::Located(count) => done(0, count as u32),
-        LocateAnswer::Refused(refusal) => refused(bch::answers::refusal_reply(refusal), 0),
+        LocateAnswer::Refused(refusal) => refused_by(refusal),
     }
 }

@@ -1,7 +1,8 @@
 -- `bch::locate_errors` meets its contract.
 use mathlib.Core.Path.{sym, _∙_}
 use borrow.Author.Needs.{needs}
-use Rattle.bch.specs.Answers.{ended, refusalReply, locateFor, locateOf}
+use Rattle.replies.specs.Replies.{number, block}
+use Rattle.bch.specs.Answers.{ended, locateFor, locateOf}
 use Rattle.bch.proofs.locate_errors.Statement.{statement}
 use Rattle.bch.proofs.locate_errors.Tie as tie
 
@@ -27,7 +28,7 @@ returns c =
     ∙ simp (sym (c .before .before .before .before .before .before .before .choose .ensures), c .before .before .before .before .before .f .given .1)
 
 returns-2 : tie.Need-returns-2
-unfolding locateOf locateFor ended refusalReply
+unfolding locateOf locateFor ended number block
 returns-2 c = simp (sym (c .before .before .choose .ensures), c .enum-told .given .1)
 
 pub locate-errors-spec : {M : Type 1} → statement M

@@ -1,8 +1,6 @@
 -- `rudderfig::rudderfig_locate_errors` meets its contract.
-use mathlib.Core.Path.{ap, _∙_}
 use native.Mathlib.Omega.{arith}
 use borrow.Author.Needs.{needs}
-use Rattle.rudderfig.specs.Answer.{refusedWord}
 use Rattle.rudderfig.proofs.Locating.{locate-few, located-size, locate-done, locate-refused}
 use Rattle.rudderfig.proofs.rudderfig_locate_errors.Statement.{statement}
 use Rattle.rudderfig.proofs.rudderfig_locate_errors.Tie as tie
@@ -24,11 +22,8 @@ done-requires c κs = search needs
 enum-known-refusal : tie.Need-enum-known-refusal
 enum-known-refusal c = search needs
 
-refusal-reply-requires : tie.Need-refusal-reply-requires
-refusal-reply-requires c κs = search needs
-
-refused-requires : tie.Need-refused-requires
-refused-requires c κs = search needs
+refused-by-requires : tie.Need-refused-by-requires
+refused-by-requires c κs = search needs
 
 same-length : tie.Need-same-length
 same-length c = search needs
@@ -43,9 +38,8 @@ same-length-2 c = search needs
 
 returns-2 : tie.Need-returns-2
 returns-2 c =
-    let known = c .before .before .before in
-    locate-refused _ (known .before .before .before .before .locate-errors .ensures) (known .refusal .given .1)
-    (c .refused .ensures ∙ ap (λ x. refusedWord x 0) (c .before .refusal-reply .ensures))
+    let known = c .before .before in
+    locate-refused _ (known .before .before .before .before .locate-errors .ensures) (known .refusal .given .1) (c .refused-by .ensures)
 
 pub rudderfig-locate-errors-spec : {M : Type 1} → statement M
 rudderfig-locate-errors-spec =
@@ -56,8 +50,7 @@ rudderfig-locate-errors-spec =
     cast-done
     done-requires
     enum-known-refusal
-    refusal-reply-requires
-    refused-requires
+    refused-by-requires
     same-length
     returns
     same-length-2

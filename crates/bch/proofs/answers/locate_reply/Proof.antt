@@ -13,8 +13,8 @@ enum-told c = search needs
 enum-known-answer : tie.Need-enum-known-answer
 enum-known-answer c = search needs
 
-refusal-reply-requires : tie.Need-refusal-reply-requires
-refusal-reply-requires c κs = search needs
+refusal-number-requires : tie.Need-refusal-number-requires
+refusal-number-requires c κs = search needs
 
 returns : tie.Need-returns
 unfolding ended
@@ -22,8 +22,8 @@ returns c = sym (ap (λ (a : LocateAnswer). ended a [] .reply) (c .enum-told .gi
 
 returns-2 : tie.Need-returns-2
 unfolding ended
-returns-2 c = c .refusal-reply .ensures ∙ sym (ap (λ (a : LocateAnswer). ended a [] .reply) (c .before .before .answer .given .1))
+returns-2 c = c .refusal-number .ensures ∙ sym (ap (λ (a : LocateAnswer). ended a [] .reply) (c .before .before .answer .given .1))
 
 pub locate-reply-spec : {M : Type 1} → statement M
 locate-reply-spec =
-    tie.close (tie.spec enum-told enum-known-answer refusal-reply-requires returns returns-2)
+    tie.close (tie.spec enum-told enum-known-answer refusal-number-requires returns returns-2)
