@@ -1,11 +1,13 @@
 -- What a block gives, by `judge`, is what it should be: exactly `Repaired`, exactly `Erased` or exactly `Refused`.
-use mathlib.Core.Path.{_≡_, refl, sym, ap, _∙_}
+use mathlib.Core.Path.{_≡_, refl, sym, ap, ap₂, _∙_}
 use Prim.Native.Nat.{ℕ, _+_, _*_, _≤_, _<_}
 use native.Mathlib.Omega.{arith}
 use native.Mathlib.Decide.{decLe}
-use mathlib.Core.Bool.{true}
+use mathlib.Core.Bool.{Bool, true, false}
 use lib.ListN.{length, take, replicate, length-replicate}
 use lib.Seq.{length-take-le}
+use lib.Dec.{leb}
+use borrow.Author.Tests.{le-leb, lt-leb, leb-true, leb-false}
 use Rattle.field.specs.declared.Field.{Field}
 use Rattle.code.specs.Word.{Word, distance, zeros}
 use Rattle.code.specs.Code.{Codeword, Near, Ruined, Fits}
@@ -30,56 +32,57 @@ gives-sound f t k w m n (by-zeros g) h = omega (arith, g .few, h .many)
 
 pub judge-repaired : (f : Field) (t k : ℕ) (w m : Word) (n : ℕ) → Fits f t (length w) → Repaired f t k w m n → judge f t k w ≡ good m n
 unfolding judge judgeBy
-judge-repaired f t k w m n h g = go (nearest f t w)
+judge-repaired f t k w m n h g = go (nearest f t w) (leb (zeros w) t)
   where
-    go : (d : Dec ((c : Word) × Near f t w c)) → judgeBy k d (decLe (zeros w) t) ≡ good m n
-    go (yes (v, y)) = rw (near-unique f t w v (g .word) h y (g .near), g .message, g .count)
-    go (no r) = absurd (r (g .word, g .near))
+    go : (d : Dec ((c : Word) × Near f t w c)) (few : Bool) → judgeBy k d few ≡ good m n
+    go (yes (v, y)) few = ap₂ good
+        (ap (take k) (near-unique f t w v (g .word) h y (g .near)) ∙ sym (g .message))
+        (ap (distance w) (near-unique f t w v (g .word) h y (g .near)) ∙ sym (g .count))
+    go (no r) few = absurd (r (g .word, g .near))
 
 pub repaired-judge : (f : Field) (t k : ℕ) (w m : Word) (n : ℕ) → judge f t k w ≡ good m n → Repaired f t k w m n
 unfolding judge judgeBy
-repaired-judge f t k w m n h = go (nearest f t w) (decLe (zeros w) t) h
+repaired-judge f t k w m n h = go (nearest f t w) (leb (zeros w) t) h
   where
-    go : (d : Dec ((c : Word) × Near f t w c)) (z : Dec (zeros w ≤ t)) → judgeBy k d z ≡ good m n → Repaired f t k w m n
-    go (yes (v, y)) z e = record { word = v; near = y; message = cc; count = cc }
-    go (no q) (yes l) e = let z : _≡_ {A = ℕ} 0 1 = cc in absurd (omega arith)
-    go (no q) (no l) e = let z : _≡_ {A = ℕ} 0 1 = cc in absurd (omega arith)
+    go : (d : Dec ((c : Word) × Near f t w c)) (few : Bool) → judgeBy k d few ≡ good m n → Repaired f t k w m n
+    go (yes (v, y)) few e = record { word = v; near = y; message = cc; count = cc }
+    go (no q) true e = let z : _≡_ {A = ℕ} 0 1 = cc in absurd (omega arith)
+    go (no q) false e = let z : _≡_ {A = ℕ} 0 1 = cc in absurd (omega arith)
 
 pub judge-erased : (f : Field) (t k : ℕ) (w : Word) → Ruined f t w → zeros w ≤ t → judge f t k w ≡ erased (replicate k true) (zeros w)
 unfolding judge judgeBy
-judge-erased f t k w h few = go (nearest f t w) (decLe (zeros w) t)
+judge-erased f t k w h few = rw (le-leb (zeros w) t few) (go (nearest f t w))
   where
-    go : (d : Dec ((c : Word) × Near f t w c)) (z : Dec (zeros w ≤ t)) → judgeBy k d z ≡ erased (replicate k true) (zeros w)
-    go (yes (v, y)) z = absurd (h .none v y)
-    go (no q) (yes l) = refl
-    go (no q) (no l) = absurd (l few)
+    go : (d : Dec ((c : Word) × Near f t w c)) → judgeBy k d true ≡ erased (replicate k true) (zeros w)
+    go (yes (v, y)) = absurd (h .none v y)
+    go (no q) = refl
 
 pub erased-judge : (f : Field) (t k : ℕ) (w m : Word) (n : ℕ) → judge f t k w ≡ erased m n → Erased f t k w m (erasedCount n)
 unfolding judge judgeBy
-erased-judge f t k w m n h = go (nearest f t w) (decLe (zeros w) t) h
+erased-judge f t k w m n h = go (nearest f t w) (leb (zeros w) t) refl h
   where
-    go : (d : Dec ((c : Word) × Near f t w c)) (z : Dec (zeros w ≤ t)) → judgeBy k d z ≡ erased m n → Erased f t k w m (erasedCount n)
-    go (yes (v, y)) z e = let z : _≡_ {A = ℕ} 0 1 = cc in absurd (omega arith)
-    go (no q) (yes l) e = record { none = record { none = λ c x. q (c, x) }; few = l; message = cc; count = ap erasedCount (cc) }
-    go (no q) (no l) e = let z : _≡_ {A = ℕ} 0 1 = cc in absurd (omega arith)
+    go : (d : Dec ((c : Word) × Near f t w c)) (few : Bool) → leb (zeros w) t ≡ few → judgeBy k d few ≡ erased m n → Erased f t k w m (erasedCount n)
+    go (yes (v, y)) few l e = let z : _≡_ {A = ℕ} 0 1 = cc in absurd (omega arith)
+    go (no q) true l e =
+        record { none = record { none = λ c x. q (c, x) }; few = leb-true (zeros w) t l; message = cc; count = ap erasedCount (cc) }
+    go (no q) false l e = let z : _≡_ {A = ℕ} 0 1 = cc in absurd (omega arith)
 
 pub judge-refused : (f : Field) (t k : ℕ) (w : Word) → Refused f t w → judge f t k w ≡ ruined
 unfolding judge judgeBy
-judge-refused f t k w h = go (nearest f t w) (decLe (zeros w) t)
+judge-refused f t k w h = rw (lt-leb (zeros w) t (h .many)) (go (nearest f t w))
   where
-    go : (d : Dec ((c : Word) × Near f t w c)) (z : Dec (zeros w ≤ t)) → judgeBy k d z ≡ ruined
-    go (yes (v, y)) z = absurd (h .none .none v y)
-    go (no n) (yes l) = absurd (omega (arith, h .many))
-    go (no n) (no l) = refl
+    go : (d : Dec ((c : Word) × Near f t w c)) → judgeBy k d false ≡ ruined
+    go (yes (v, y)) = absurd (h .none .none v y)
+    go (no n) = refl
 
 pub refused-judge : (f : Field) (t k : ℕ) (w : Word) → judge f t k w ≡ ruined → Refused f t w
 unfolding judge judgeBy
-refused-judge f t k w h = go (nearest f t w) (decLe (zeros w) t) h
+refused-judge f t k w h = go (nearest f t w) (leb (zeros w) t) refl h
   where
-    go : (d : Dec ((c : Word) × Near f t w c)) (z : Dec (zeros w ≤ t)) → judgeBy k d z ≡ ruined → Refused f t w
-    go (yes (v, y)) z e = let z : _≡_ {A = ℕ} 0 1 = cc in absurd (omega arith)
-    go (no n) (yes l) e = let z : _≡_ {A = ℕ} 0 1 = cc in absurd (omega arith)
-    go (no n) (no l) e = record { none = record { none = λ c x. n (c, x) }; many = omega arith }
+    go : (d : Dec ((c : Word) × Near f t w c)) (few : Bool) → leb (zeros w) t ≡ few → judgeBy k d few ≡ ruined → Refused f t w
+    go (yes (v, y)) few l e = let z : _≡_ {A = ℕ} 0 1 = cc in absurd (omega arith)
+    go (no n) true l e = let z : _≡_ {A = ℕ} 0 1 = cc in absurd (omega arith)
+    go (no n) false l e = record { none = record { none = λ c x. n (c, x) }; many = leb-false (zeros w) t l }
 
 -- A codeword gives its own message and no flips.
 pub judge-codeword : (f : Field) (t k : ℕ) (w : Word) → Fits f t (length w) → Codeword f t w → judge f t k w ≡ good (take k w) 0
@@ -112,3 +115,9 @@ count-flips f t k w m n h (by-zeros g) l = absurd (omega (arith, g .count))
 pub count-zeros : (f : Field) (t k : ℕ) (w m : Word) (n : ℕ) → t ≤ 62 → Gives f t k w m n → 128 ≤ n → Erased f t k w m n
 count-zeros f t k w m n h (by-codeword g) l = absurd (omega (arith, g .count, g .near .close))
 count-zeros f t k w m n h (by-zeros g) l = g
+
+-- So every count fits a byte.
+pub gives-count : (f : Field) (t k : ℕ) (w m : Word) (n : ℕ) → t ≤ 62 → Gives f t k w m n → n ≤ 190
+unfolding erasedCount
+gives-count f t k w m n h (by-codeword g) = omega (arith, g .count, g .near .close)
+gives-count f t k w m n h (by-zeros g) = omega (arith, g .count, g .few)

@@ -12,11 +12,12 @@
 -- Gives f t k w m n        a block gives the message m and reports n: it is repaired, or it is erased
 -- Refused f t w        a block is ruined: no codeword is within t flips of w, and w has more than t zeros
 use mathlib.Core.Path.{_≡_}
-use mathlib.Core.Bool.{true}
+use mathlib.Core.Bool.{Bool, true, false}
 use Prim.Native.Nat.{ℕ, zero, suc, _+_, _*_, _≤_, _<_}
 use native.Mathlib.Omega.{arith}
-use native.Mathlib.Decide.{decLe, ℕ-discrete}
+use native.Mathlib.Decide.{ℕ-discrete}
 use lib.ListN.{take, replicate}
+use lib.Dec.{leb}
 use Rattle.field.specs.declared.Field.{Field}
 use Rattle.field.specs.Field.{a^}
 use Rattle.code.specs.Word.{Word, distance, zeros}
@@ -50,13 +51,13 @@ pub data Outcome : Type 0 where
 
 -- With a codeword near, its first k bits and its distance. With none, a block of at most t zeros is erased, and its message reads as
 -- ones; any other is ruined. At t = 0 every word is a codeword, so no block is erased or ruined.
-unfoldable pub judgeBy : (k : ℕ) {f : Field} {t : ℕ} {w : Word} → Dec ((c : Word) × Near f t w c) → Dec (zeros w ≤ t) → Outcome
+unfoldable pub judgeBy : (k : ℕ) {f : Field} {t : ℕ} {w : Word} → Dec ((c : Word) × Near f t w c) → Bool → Outcome
 judgeBy k {f} {t} {w} (yes (c, near)) few = good (take k c) (distance w c)
-judgeBy k {f} {t} {w} (no none) (yes few) = erased (replicate k true) (zeros w)
-judgeBy k {f} {t} {w} (no none) (no many) = ruined
+judgeBy k {f} {t} {w} (no none) true = erased (replicate k true) (zeros w)
+judgeBy k {f} {t} {w} (no none) false = ruined
 
 unfoldable pub judge : (f : Field) (t k : ℕ) (w : Word) → Outcome
-judge f t k w = judgeBy k (nearest f t w) (decLe (zeros w) t)
+judge f t k w = judgeBy k (nearest f t w) (leb (zeros w) t)
 
 -- What is reported of an erased block in place of its flips, which are never more than 62.
 unfoldable pub erasedCount : ℕ → ℕ
