@@ -8,7 +8,7 @@
  *
  * All work on warm buffers. A page of the kernel's is its blocks' data and parity bytes side by side, as a driver keeps them; it decodes each block from
  * data and parity and turns the found bits over, and where it finds no codeword it counts the zeros of the block, as its drivers do for erased flash.
- * Flips are placed by a seeded generator. Rows for erased pages are left out while this library refuses such a page.
+ * Flips are placed by a seeded generator.
  */
 #include <stdbool.h>
 #include <stdint.h>
@@ -118,17 +118,18 @@ static uint64_t read_ours(struct bench *b)
 	return rudderfig_read_page(b->l.record, 8, b->page, b->l.page_bytes, NULL, 0, b->out, data_length(b), b->counts, b->l.blocks);
 }
 
-/* The zeros of some bytes, eight bytes at a time. */
-static unsigned zeros_of(const uint8_t *bytes, unsigned length)
+/* The zeros of some bytes, eight bytes at a time. Words of ones are passed over, and the count stops above `most`, as in the kernel's drivers. */
+static unsigned zeros_of(const uint8_t *bytes, unsigned length, unsigned most)
 {
 	unsigned zeros = 0;
 	uint64_t word;
 
-	for (; length >= 8; length -= 8, bytes += 8) {
+	for (; length >= 8 && zeros <= most; length -= 8, bytes += 8) {
 		memcpy(&word, bytes, 8);
-		zeros += __builtin_popcountll(~word);
+		if (word != UINT64_MAX)
+			zeros += __builtin_popcountll(~word);
 	}
-	for (; length > 0; length--, bytes++)
+	for (; length > 0 && zeros <= most; length--, bytes++)
 		zeros += __builtin_popcount(0xFF & ~*bytes);
 	return zeros;
 }
@@ -136,14 +137,18 @@ static unsigned zeros_of(const uint8_t *bytes, unsigned length)
 /* Decodes one block in place; the flips, 128 and its zeros where it is erased, or a negative number. */
 static int decode_kernel(struct bench *b, unsigned build, unsigned i, uint8_t *block)
 {
-	unsigned places[64], zeros;
+	unsigned places[64], in_data, zeros;
 	int found = builds[build].decode(b->control[build], block, b->l.data_bytes, b->ecc[i], NULL, NULL, places);
 
 	if (found < 0) {
-		zeros = zeros_of(block, b->l.data_bytes) + zeros_of(b->ecc[i], b->control[build]->ecc_bytes);
+		in_data = zeros_of(block, b->l.data_bytes, b->l.t);
+		if (in_data > b->l.t)
+			return found;
+		zeros = in_data + zeros_of(b->ecc[i], b->control[build]->ecc_bytes, b->l.t - in_data);
 		if (zeros > b->l.t)
 			return found;
-		memset(block, 0xFF, b->l.data_bytes);
+		if (in_data > 0)
+			memset(block, 0xFF, b->l.data_bytes);
 		return 128 + zeros;
 	}
 	for (int k = 0; k < found; k++)
@@ -333,8 +338,6 @@ static void erased_row(struct bench *b, const char *what, unsigned zeros, bool c
 
 	memset(ones, 0xFF, sizeof ones);
 	erase(b, zeros);
-	if (rudderfig_reply(read_ours(b)) == 9)
-		return;
 	check(b, ones, b->l.blocks * (128 + zeros), 128 + zeros);
 	row(b, what, false, counting);
 }

@@ -79,15 +79,15 @@ enum rudderfig_reply_number {
     RUDDERFIG_BUFFER_LENGTH = 6,       /* another lent buffer has a wrong length */
     RUDDERFIG_OUT_OF_RANGE = 7,        /* a block number, page bit, exponent or field choice outside its range */
     RUDDERFIG_REMAINDER_TOO_WIDE = 8,  /* a remainder, or fragments, with a one above bit mt - 1 */
-    RUDDERFIG_UNCORRECTABLE = 9,       /* no codeword within t flips; for a page the lowest such block is named */
+    RUDDERFIG_UNCORRECTABLE = 9,       /* no codeword within t flips, and not erased; for a page the lowest such block is named */
     RUDDERFIG_CLAIM_WRONG = 10         /* the claimed locations are wrong */
 };
 
 /*
  * Bytes of stack that a call takes at most on any of the four processors, its return address included. `make lib` and `make boards` compare them with
  * the code.
- * Most of it are the decoder's tables, which are made only where a block is damaged: reading an undamaged page takes about 66,000 bytes, judging
- * an undamaged block about 32,000.
+ * Most of it are the decoder's tables, which are made only where a block is damaged or erased: reading an undamaged page takes about 66,000 bytes,
+ * judging an undamaged block about 32,000.
  */
 #define RUDDERFIG_STACK_CHECK_LAYOUT 256
 #define RUDDERFIG_STACK_LOCATE_BIT 256
@@ -115,6 +115,15 @@ static inline uint32_t rudderfig_value(uint64_t answer) { return RUDDERFIG_CAST(
 static inline int rudderfig_in_tail(uint64_t answer) { return rudderfig_kind(answer) == 1; }
 static inline unsigned rudderfig_located_block(uint64_t answer) { return rudderfig_value(answer) >> 16; }
 static inline unsigned rudderfig_located_exponent(uint64_t answer) { return rudderfig_value(answer) & 0xFFFF; }
+
+/*
+ * What a count of rudderfig_read_page or the value of rudderfig_judge_block says of its block. Below 128 it is the number of flips, and the block was
+ * repaired. From 128 on the block is erased, and the count is 128 plus its zeros: no codeword lies within t flips of it, and of its covered bits, data
+ * and parity, at most t are zeros, as in flash that was never written. Its message reads as bytes of 0xFF. A block with t = 0 is never erased, and
+ * one of nearly all ones that does lie within t flips of a codeword is read as that codeword. rudderfig_zeros is 0 for a block that is not erased.
+ */
+static inline int rudderfig_is_erased(uint32_t count) { return count >= 128; }
+static inline unsigned rudderfig_zeros(uint32_t count) { return count >= 128 ? count - 128 : 0; }
 
 /*
  * Is this layout acceptable? Reads the record. Replies 0 to 4 and 6; no value.
@@ -147,7 +156,8 @@ uint64_t rudderfig_write_page(const uint8_t *record, rudderfig_length record_len
 /*
  * Reads a page: each block is repaired to the codeword within t flips of it. Reads record and page; writes all of `metadata`, `data` and `counts`,
  * and only on reply 0, once every block is decided. counts[b] is the number of covered bits, data or parity, in which block b and its codeword
- * differ. Replies 0 to 6, and 9 with the lowest block that has no codeword within its t flips; no value.
+ * differ. A block that has no codeword within t flips, and at most t zeros, is erased: it reads as bytes of 0xFF, and counts[b] is 128 plus its zeros.
+ * So a page of all ones is never refused. Replies 0 to 6, and 9 with the lowest block that is neither repaired nor erased; no value.
  */
 uint64_t rudderfig_read_page(const uint8_t *record, rudderfig_length record_len,
                              const uint8_t *page, rudderfig_length page_len,
@@ -156,8 +166,8 @@ uint64_t rudderfig_read_page(const uint8_t *record, rudderfig_length record_len,
                              uint8_t *counts, rudderfig_length counts_len);
 
 /*
- * Judges one block of a page. Reads record and page, of the page no other bits than the block's; writes nothing. The value is the number of flips.
- * Replies 0 to 6, 7 for a block that the layout does not have, and 9 with that block.
+ * Judges one block of a page. Reads record and page, of the page no other bits than the block's; writes nothing. The value is the count that reading
+ * the page gives for it: its flips, or 128 plus its zeros. Replies 0 to 6, 7 for a block that the layout does not have, and 9 with that block.
  */
 uint64_t rudderfig_judge_block(const uint8_t *record, rudderfig_length record_len,
                                const uint8_t *page, rudderfig_length page_len,
@@ -176,7 +186,7 @@ uint64_t rudderfig_locate_errors(uint64_t level_field, uint64_t field_choice, ui
 
 /*
  * Are these error locations of a block right? Accepted if they are distinct, each below the block's length, at most t, and flipping them gives a
- * codeword; they may stand in any order. Reads record, page and claims; writes nothing.
+ * codeword; they may stand in any order. So no claim on an erased block is right. Reads record, page and claims; writes nothing.
  * Replies 0 to 6, 7 for a block that the layout does not have, and 10; no value.
  */
 uint64_t rudderfig_check_claim(const uint8_t *record, rudderfig_length record_len,

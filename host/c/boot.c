@@ -1,7 +1,7 @@
 /*
  * The library as a boot loader has it: freestanding, with no C library, on a stack of its own that is as large as the header says, on x86-64, AArch64,
- * ARMv7-A and RISC-V. Writes a page of two blocks (case E of document 01), damages it, reads it back, then ruins it, and takes a message in pieces. The
- * exit status is 0 where every byte is as it should be, and else the number of the first step that was not.
+ * ARMv7-A and RISC-V. Writes a page of two blocks (case E of document 01), damages it, reads it back, then ruins it, takes a message in pieces, and reads
+ * an erased page. The exit status is 0 where every byte is as it should be, and else the number of the first step that was not.
  */
 #include "rudderfig.h"
 
@@ -90,6 +90,23 @@ static int pieces_finish(void)
     return rudderfig_parity_finish(&state, parity, sizeof parity) == RUDDERFIG_DONE && same(parity, stored, sizeof stored);
 }
 
+/* A page that was never written is told from a ruined one: each block is erased, and with three zeros, more than t = 2, block 1 is ruined. */
+static int erased_is_not_ruined(void)
+{
+    uint8_t page[15], data[8], counts[2];
+    uint64_t answer;
+
+    memset(page, 0xFF, sizeof page);
+    page[12] = 0xFE;
+    if (read_into(page, data, counts) != RUDDERFIG_DONE || !rudderfig_is_erased(counts[0]) || !rudderfig_is_erased(counts[1]))
+        return 0;
+    if (rudderfig_zeros(counts[0]) != 0 || rudderfig_zeros(counts[1]) != 1 || data[0] != 0xFF || data[7] != 0xFF)
+        return 0;
+    page[8] = 0xFC;
+    answer = read_into(page, data, counts);
+    return rudderfig_reply(answer) == RUDDERFIG_UNCORRECTABLE && rudderfig_block(answer) == 1;
+}
+
 static int boot(void)
 {
     uint8_t page[15], data[8], counts[2];
@@ -131,7 +148,9 @@ static int boot(void)
 
     if (!zeros_read_back())
         return 10;
-    return pieces_finish() ? 0 : 12;
+    if (!pieces_finish())
+        return 12;
+    return erased_is_not_ruined() ? 0 : 13;
 }
 
 /* A stack of the size that the header names and what this program itself uses, between two filled areas that the calls must leave alone. */

@@ -1,8 +1,8 @@
 /*
  * Every call of rudderfig.h, with answers that another order of its arguments would change. A page of two blocks, each corrected up to 2 flips, is
- * written from 2 bytes of metadata and 8 of data, worn, read, judged and claimed; a remainder is located and handed to a hardware locator; a message
- * is taken in one piece. The program is C99 and C++. The exit status is 0 where every answer and every byte is as it should be; else the first line
- * that was not is printed.
+ * written from 2 bytes of metadata and 8 of data, worn, read, judged and claimed; an erased page is read and judged; a remainder is located and handed
+ * to a hardware locator; a message is taken in one piece. The program is C99 and C++. The exit status is 0 where every answer and every byte is as it
+ * should be; else the first line that was not is printed.
  */
 #include <stdio.h>
 #include <string.h>
@@ -70,6 +70,31 @@ static int pages(void)
     return 0;
 }
 
+/* A page of ones but for a zero in block 1. Three zeros there, of which two are parity, are more than t = 2. */
+static int erased(void)
+{
+    uint8_t page[PAGE], ones[DATA], metadata_read[METADATA] = {0, 0}, data_read[DATA] = {0}, counts[COUNTS] = {9, 9};
+    uint64_t answer;
+
+    memset(page, 0xFF, PAGE);
+    memset(ones, 0xFF, DATA);
+    page[10] = 0xFE;
+    CHECK(rudderfig_read_page(record, RECORD, page, PAGE, metadata_read, METADATA, data_read, DATA, counts, COUNTS) == RUDDERFIG_DONE);
+    CHECK(memcmp(metadata_read, ones, METADATA) == 0 && memcmp(data_read, ones, DATA) == 0);
+    CHECK(rudderfig_is_erased(counts[0]) && rudderfig_zeros(counts[0]) == 0);
+    CHECK(rudderfig_is_erased(counts[1]) && rudderfig_zeros(counts[1]) == 1);
+
+    answer = rudderfig_judge_block(record, RECORD, page, PAGE, 1);
+    CHECK(rudderfig_reply(answer) == RUDDERFIG_DONE && rudderfig_is_erased(rudderfig_value(answer)));
+    CHECK(rudderfig_zeros(rudderfig_value(answer)) == 1);
+    CHECK(!rudderfig_is_erased(2) && rudderfig_zeros(2) == 0);
+
+    page[15] = 0xFC;
+    answer = rudderfig_judge_block(record, RECORD, page, PAGE, 1);
+    CHECK(rudderfig_reply(answer) == RUDDERFIG_UNCORRECTABLE && rudderfig_block(answer) == 1);
+    return 0;
+}
+
 /* x^9 + x^3 with t = 4 and m = 14; for the hardware locator x^33 + x^3 with t = 8. */
 static int remainders(void)
 {
@@ -118,7 +143,7 @@ static int pieces(void)
 
 int main(void)
 {
-    if (layouts() || pages() || remainders() || pieces())
+    if (layouts() || pages() || erased() || remainders() || pieces())
         return 1;
     printf("every call of version %s answers as it should\n", RUDDERFIG_VERSION);
     return 0;

@@ -1,6 +1,6 @@
 /*
  * A first program with the library: a page of the layout of case A of document 01 (8 blocks of 512 bytes, each corrected up to 16 flips) is written,
- * worn, read back, and then ruined.
+ * worn, read back, ruined, and at last read as it is in flash that was never written.
  *
  *     make lib
  *     cc -Iinclude host/c/first.c include/librudderfig.a -o target/first && target/first
@@ -23,6 +23,7 @@ static uint64_t read_page(void)
 int main(void)
 {
     uint64_t answer;
+    int erased = 0;
 
     memset(metadata, 0x11, METADATA);
     memset(data, 0x22, DATA);
@@ -40,5 +41,17 @@ int main(void)
     memset(page + 3000, 0x55, 10);
     answer = read_page();
     printf("ruined: reply %u, block %u\n", rudderfig_reply(answer), rudderfig_block(answer));
-    return rudderfig_reply(answer) == RUDDERFIG_UNCORRECTABLE ? 0 : 1;
+    if (rudderfig_reply(answer) != RUDDERFIG_UNCORRECTABLE)
+        return 1;
+
+    memset(page, 0xFF, PAGE);
+    page[2000] ^= 0x80;
+    answer = read_page();
+    printf("never written: reply %u, zeros by block", rudderfig_reply(answer));
+    for (int block = 0; block < BLOCKS; block++) {
+        erased += rudderfig_is_erased(counts[block]);
+        printf(" %u", rudderfig_zeros(counts[block]));
+    }
+    printf(", blocks erased: %d\n", erased);
+    return erased == BLOCKS ? 0 : 1;
 }

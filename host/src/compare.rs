@@ -6,6 +6,7 @@ use crate::guarded::GuardBroken;
 use crate::layout::{LayoutWords, check_layout};
 use crate::library::{Library, Model};
 use crate::random::Random;
+use crate::samples::erased::edge_layouts;
 use crate::samples::fragments::{round_trips, spoilt as spoilt_fragments};
 use crate::samples::layouts::{CASE_A, accepted_words, code_bits, positions, records};
 use crate::samples::pages::{WrittenPage, damage_tail, spoil};
@@ -184,13 +185,7 @@ impl<'a> Comparison<'a> {
 
     /// Pages of many layouts, most of them small.
     pub fn pages(&mut self) -> Result<(), Box<Difference>> {
-        let mut layouts = Vec::new();
-        for most_page_bytes in [20, 40, 70, 120, 250, 600] {
-            layouts.extend((0..20).map(|_| accepted_words(&mut self.random, most_page_bytes)));
-        }
-        layouts.push(accepted_words(&mut self.random, 5000));
-        layouts.push(CASE_A);
-        layouts.push(edge_words(&mut self.random));
+        let layouts = page_layouts(&mut self.random);
         layouts.into_iter().try_for_each(|words| self.page(words))
     }
 
@@ -235,6 +230,19 @@ impl<'a> Comparison<'a> {
         }
         Ok(())
     }
+}
+
+/// The layouts of one round's pages.
+pub fn page_layouts(random: &mut Random) -> Vec<LayoutWords> {
+    let mut layouts = Vec::new();
+    for most_page_bytes in [20, 40, 70, 120, 250, 600] {
+        layouts.extend((0..20).map(|_| accepted_words(random, most_page_bytes)));
+    }
+    layouts.extend([edge_layouts(); 5].concat());
+    layouts.push(accepted_words(random, 5000));
+    layouts.push(CASE_A);
+    layouts.push(edge_words(random));
+    layouts
 }
 
 /// Accepted words from the edges: the longest blocks, the most blocks, the largest pages.

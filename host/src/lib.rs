@@ -6,8 +6,9 @@
 //!
 //! - [`check_layout`]: is this layout acceptable?
 //! - [`locate_bit`], [`bit_position`]: page bit to block and exponent, and back;
-//! - [`write_page`], [`read_page`]: payload to page, and page to payload and flip counts;
-//! - [`judge_block`]: the flips of one block;
+//! - [`write_page`], [`read_page`]: payload to page, and page to payload and one count a block;
+//! - [`judge_block`]: the count of one block: its flips, or 128 plus its zeros if it is erased
+//!   (document 02, E1);
 //! - [`locate_errors`]: the wrong bits, from a remainder alone;
 //! - [`check_claim`]: are these error locations right?
 //! - [`pieces::Pieces`]: the parity of a block whose message arrives in pieces (document 02, E4).
@@ -37,6 +38,7 @@ pub mod interface;
 pub mod layout;
 pub mod library;
 pub mod locate;
+pub mod outcome;
 pub mod page;
 pub mod pieces;
 pub mod random;

@@ -30,7 +30,7 @@ pub trait Library {
         counts: &mut [u8],
     ) -> u64;
 
-    /// The value is the number of flips.
+    /// The value is the block's count.
     fn judge_block(&self, record: &[u8], page: &[u8], block: u64) -> u64;
 
     /// The value is the number of exponents found.

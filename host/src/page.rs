@@ -1,9 +1,9 @@
-//! Writing, reading and judging pages, and checking claims (document 01).
+//! Writing, reading and judging pages, and checking claims (document 01; document 02, E1).
 
 use crate::bits::{bit, bits_of, bytes_of};
 use crate::code::flip_exponents;
-use crate::decoder::errors_of_word;
 use crate::layout::{Layout, check_layout};
+use crate::outcome::{Outcome, outcome};
 use crate::reply::{Refusal, Reply, refuse_by};
 
 /// Writes the page of a payload: each block's message and parity, then a tail of ones.
@@ -36,7 +36,10 @@ pub fn write_page(
     Ok(())
 }
 
-/// Reads a page into metadata, data and one flip count per block.
+/// What the count of an erased block has beside its zeros.
+pub const ERASED: usize = 128;
+
+/// Reads a page into metadata, data and one count per block.
 pub fn read_page(
     record: &[u8],
     page: &[u8],
@@ -55,35 +58,39 @@ pub fn read_page(
         ),
     ])?;
     let mut payload = Vec::new();
-    let mut flips = Vec::new();
+    let mut read_counts = Vec::new();
     for number in 0..layout.blocks() {
-        let block = layout.block(number);
-        let mut word = block_word(&layout, page, number);
-        let errors = errors_of_word(block.code(), &word).ok_or(Refusal::uncorrectable(number))?;
-        flip_exponents(&mut word, &errors);
-        payload.extend_from_slice(&word[..block.message_bits]);
-        flips.push(errors.len() as u8);
+        let (message, count) = read_block(&layout, page, number)?;
+        payload.extend(message);
+        read_counts.push(count as u8);
     }
     let payload = bytes_of(&payload);
     let (read_metadata, read_data) = payload.split_at(layout.metadata_length);
     metadata.copy_from_slice(read_metadata);
     data.copy_from_slice(read_data);
-    counts.copy_from_slice(&flips);
+    counts.copy_from_slice(&read_counts);
     Ok(())
 }
 
-/// The flip count of one block.
+/// The count of one block.
 pub fn judge_block(record: &[u8], page: &[u8], block: u64) -> Result<usize, Refusal> {
     let layout = check_layout(record)?;
     refuse_by(&[
         (Reply::PageLength, page.len() != layout.page_length),
         (Reply::OutOfRange, block > layout.later_blocks as u64),
     ])?;
-    let number = block as usize;
-    let word = block_word(&layout, page, number);
-    let errors =
-        errors_of_word(layout.block(number).code(), &word).ok_or(Refusal::uncorrectable(number))?;
-    Ok(errors.len())
+    read_block(&layout, page, block as usize).map(|(_, count)| count)
+}
+
+/// A block's message and count. The count is the number of flips; the message of an erased block is
+/// all ones, and its count is 128 plus its zeros.
+fn read_block(layout: &Layout, page: &[u8], number: usize) -> Result<(Vec<bool>, usize), Refusal> {
+    let block = layout.block(number);
+    match outcome(block.code(), &block_word(layout, page, number)) {
+        Outcome::Repaired { codeword, flips } => Ok((codeword[..block.message_bits].into(), flips)),
+        Outcome::Erased { zeros } => Ok((vec![true; block.message_bits], ERASED + zeros)),
+        Outcome::Ruined => Err(Refusal::uncorrectable(number)),
+    }
 }
 
 /// Are these error locations right? They are if they are distinct, each below n, at most t in
@@ -109,7 +116,7 @@ pub fn check_claim(record: &[u8], page: &[u8], block: u64, claims: &[u16]) -> Re
 }
 
 /// The covered bits of a block, as a word.
-fn block_word(layout: &Layout, page: &[u8], number: usize) -> Vec<bool> {
+pub fn block_word(layout: &Layout, page: &[u8], number: usize) -> Vec<bool> {
     (layout.start(number)..layout.start(number + 1))
         .map(|position| bit(page, position))
         .collect()

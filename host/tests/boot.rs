@@ -28,6 +28,7 @@ fn the_first_program_runs() {
             "written: reply 0",
             "worn: reply 0, flips by block 8 0 0 1 0 0 0 0, data as written: yes",
             "ruined: reply 9, block 5",
+            "never written: reply 0, zeros by block 0 0 0 1 0 0 0 0, blocks erased: 8",
         ]
     );
 }

@@ -3,6 +3,7 @@
 use model::code::{Code, bch, flip_exponents};
 use model::decoder::{errors_of_remainder, errors_of_word};
 use model::field::{Field, FieldChoice};
+use model::outcome::{Outcome, outcome};
 use model::random::Random;
 use std::collections::HashMap;
 
@@ -119,6 +120,114 @@ fn every_word_of_a_small_code() {
 
 fn distance(left: &[bool], right: &[bool]) -> usize {
     left.iter().zip(right).filter(|(l, r)| l != r).count()
+}
+
+/// What becomes of a word by the rule's words: the codeword within t among all of them, or else the
+/// zeros, which are the distance from the word of ones.
+fn judged(word: &[bool], t: usize, codewords: &[Vec<bool>]) -> Outcome {
+    let near = codewords
+        .iter()
+        .find(|codeword| distance(word, codeword) <= t);
+    let zeros = distance(word, &vec![true; word.len()]);
+    match near {
+        Some(codeword) => Outcome::Repaired {
+            codeword: codeword.clone(),
+            flips: distance(word, codeword),
+        },
+        None if zeros <= t => Outcome::Erased { zeros },
+        None => Outcome::Ruined,
+    }
+}
+
+/// Every word of small codes is repaired, erased or ruined as the rule says, t = 0 included; and words
+/// of at most t zeros are among the repaired ones, and words of t + 1 among the ruined.
+#[test]
+fn every_word_of_small_codes_is_judged() {
+    let field = Field::new(5, 0b100101);
+    let (mut erased, mut repaired, mut just_ruined) = (0, 0, 0);
+    for (t, lengths) in [(0, [1, 9]), (1, [8, 13]), (2, [12, 16]), (3, [16, 17])] {
+        let code = Code::new(&field, t);
+        for n in lengths {
+            let message = n - code.parity_length();
+            let codewords: Vec<Vec<bool>> = (0..1 << message)
+                .map(|number| bits(number, message))
+                .map(|message| [message.clone(), code.parity(&message)].concat())
+                .collect();
+            for word in (0..1 << n).map(|word| bits(word, n)) {
+                let found = outcome(&code, &word);
+                assert_eq!(found, judged(&word, t, &codewords), "t {t} n {n}");
+                let zeros = word.iter().filter(|bit| !**bit).count();
+                erased += matches!(found, Outcome::Erased { .. }) as usize;
+                let repairs = matches!(found, Outcome::Repaired { .. });
+                repaired += (repairs && 0 < zeros && zeros <= t) as usize;
+                just_ruined += (found == Outcome::Ruined && zeros == t + 1) as usize;
+            }
+        }
+    }
+    assert!(erased > 0 && repaired > 0 && just_ruined > 0);
+}
+
+/// The word of ones at the longest length is a codeword, so that no word of at most t zeros is erased
+/// there.
+#[test]
+fn ones_of_the_longest_length_are_a_codeword() {
+    let field = Field::new(5, 0b100101);
+    for t in 1..=3 {
+        let code = Code::new(&field, t);
+        let ones = vec![true; field.order()];
+        assert!(code.is_codeword(&ones));
+        for exponent in 0..field.order() {
+            let mut word = ones.clone();
+            flip_exponents(&mut word, &[exponent]);
+            let (codeword, flips) = (ones.clone(), 1);
+            assert_eq!(outcome(&code, &word), Outcome::Repaired { codeword, flips });
+        }
+    }
+}
+
+/// Short lengths over the two fields: every word of at most t + 1 zeros.
+#[test]
+fn nearly_all_ones_in_short_codes_of_both_fields() {
+    for choice in FieldChoice::ALL {
+        for (t, spare) in [(2, 8), (2, 32), (3, 8)] {
+            let code = bch(choice, t);
+            let n = code.parity_length() + spare;
+            let all = AllSets::new(code, n);
+            let powers: Vec<u64> = (0..n).map(|e| power_remainder(code, e)).collect();
+            let ones = powers.iter().fold(0, |sum, power| sum ^ power);
+            for_each_set(n, t + 1, &mut |set| {
+                let mut word = vec![true; n];
+                flip_exponents(&mut word, set);
+                let remainder = set.iter().fold(ones, |sum, &e| sum ^ powers[e]);
+                let expected = match all.find(remainder) {
+                    Some(errors) => {
+                        let mut codeword = word.clone();
+                        flip_exponents(&mut codeword, errors);
+                        let flips = errors.len();
+                        Outcome::Repaired { codeword, flips }
+                    }
+                    None if set.len() <= t => Outcome::Erased { zeros: set.len() },
+                    None => Outcome::Ruined,
+                };
+                assert_eq!(outcome(code, &word), expected);
+            });
+        }
+    }
+}
+
+/// Every set of at most so many exponents below n.
+fn for_each_set(n: usize, most: usize, action: &mut impl FnMut(&[usize])) {
+    fn extend(n: usize, most: usize, set: &mut Vec<usize>, action: &mut impl FnMut(&[usize])) {
+        action(set);
+        if set.len() < most {
+            for exponent in set.last().map_or(0, |last| last + 1)..n {
+                set.push(exponent);
+                extend(n, most, set, action);
+                set.pop();
+            }
+        }
+    }
+    extend(n, most, &mut Vec::new(), action);
 }
 
 /// Short lengths over the two fields: every set of at most t places, then words beyond.

@@ -6,6 +6,8 @@ use model::call::POSSIBLE;
 use model::check_layout;
 use model::compare::Comparison;
 use model::library::{Library, Model};
+use model::outcome::zeros;
+use model::page::block_word;
 
 #[test]
 fn the_model_is_itself() {
@@ -38,6 +40,13 @@ enum Fault {
     CountsOfBlock0Only,
     RuinedBlockNotNamed,
     FlipsOfJudgedBlockForgotten,
+    ErasedRefused,
+    ErasedMessageAsRead,
+    ErasedCountedAsFlips,
+    ZerosBeforeDecoding,
+    OneZeroMore,
+    ZerosOfMessageAlone,
+    ZerosWithoutEcc,
     PlacesAscending,
     PlacesAfterwardsCleared,
     PlaceWrittenOnRefusal,
@@ -107,6 +116,13 @@ impl Library for Faulty {
             (Fault::PayloadBeforeRefusal, UNCORRECTABLE) => metadata.fill(0),
             (Fault::CountsOfBlock0Only, 0) => counts[1..].fill(0),
             (Fault::RuinedBlockNotNamed, UNCORRECTABLE) => return UNCORRECTABLE,
+            (Fault::ErasedRefused, 0) if counts.iter().any(|&count| count >= 128) => {
+                return UNCORRECTABLE;
+            }
+            (Fault::ErasedCountedAsFlips, 0) => counts.iter_mut().for_each(|count| *count %= 128),
+            (Fault::ErasedMessageAsRead, 0) if counts[0] >= 128 => {
+                metadata.copy_from_slice(&page[..metadata.len()]);
+            }
             _ => (),
         }
         answer
@@ -114,8 +130,21 @@ impl Library for Faulty {
 
     fn judge_block(&self, record: &[u8], page: &[u8], block: u64) -> u64 {
         let answer = Model.judge_block(record, page, block);
+        if answer & 0xFF != 0 && answer & 0xFF != UNCORRECTABLE {
+            return answer;
+        }
+        let layout = check_layout(record).unwrap();
+        let shape = layout.block(block as usize);
+        let word = block_word(&layout, page, block as usize);
+        let (t, all) = (shape.t(), zeros(&word));
+        let in_message = zeros(&word[..shape.message_bits]);
+        let erased = |zeros: usize| (128 + zeros as u64) << 32;
         match self.0 {
             Fault::FlipsOfJudgedBlockForgotten => answer & 0xFFFF_FFFF,
+            Fault::ZerosBeforeDecoding if t > 0 && all <= t => erased(all),
+            Fault::OneZeroMore if answer != 0 && all == t + 1 => erased(all),
+            Fault::ZerosOfMessageAlone if answer >> 32 >= 128 => erased(in_message),
+            Fault::ZerosWithoutEcc if t == 0 && all == 0 => erased(0),
             _ => answer,
         }
     }
@@ -213,6 +242,13 @@ fn faulty_libraries_are_found_out() {
         Fault::CountsOfBlock0Only,
         Fault::RuinedBlockNotNamed,
         Fault::FlipsOfJudgedBlockForgotten,
+        Fault::ErasedRefused,
+        Fault::ErasedMessageAsRead,
+        Fault::ErasedCountedAsFlips,
+        Fault::ZerosBeforeDecoding,
+        Fault::OneZeroMore,
+        Fault::ZerosOfMessageAlone,
+        Fault::ZerosWithoutEcc,
         Fault::EqualClaimsAccepted,
     ];
     for fault in layouts {

@@ -3,6 +3,7 @@ pub mod Test
 pub mod Distance
 pub mod Codeword
 pub mod Outcome
+pub mod Zeros
 pub mod Polynomial
 pub mod Register
 pub mod Minimal

@@ -23,13 +23,13 @@ use Rattle.algebra.specs.Recurrence.{State}
 use Rattle.algebra.specs.Word.{differ, both, bump, count, power-sum}
 use Rattle.algebra.proofs.Word.{differ-differ, count-cong, power-sum-cong}
 use Rattle.code.specs.Word.{Word, ones, flipped, descending}
-use Rattle.code.specs.Code.{Codeword, Near, Fits, value}
+use Rattle.code.specs.Code.{Codeword, Near, Ruined, Fits, value}
 use Rattle.code.specs.Generator.{remainder}
-use Rattle.code.specs.Outcome.{good, ruined, judge}
+use Rattle.code.specs.Outcome.{good, judge}
 use Rattle.code.specs.Locations.{Locates, located, listed, exponents, nowhere, locateBy, locate, powerSum}
 use Rattle.code.proofs.Distance.{coefficient, coefficient-ext, coefficient-tail, coefficient-head, count-distance}
 use Rattle.code.proofs.Codeword.{elements, el-value, power-sum-value, near-unique}
-use Rattle.code.proofs.Outcome.{judge-gives, judge-refused, near-gives}
+use Rattle.code.proofs.Outcome.{judge-repaired, near-repairs}
 use Rattle.code.proofs.Polynomial.{digits-value}
 use Rattle.code.proofs.Remainder.{codeword-remainder, remainder-codeword, remainder-value}
 use Rattle.code.proofs.Dividend.{remainder-xor, remainder-digits}
@@ -181,7 +181,7 @@ nowhere-locate f t n r h s x = go (located f t n r) h
 pub judge-located : (f : Field) (t k : ℕ) (w s : Word) → Fits f t (length w) → Locates f t (length w) (remainder f t w) s
     → judge f t k w ≡ good (take k (flipped w (listed s))) (length (listed s))
 judge-located f t k w s h x =
-    judge-gives f t k w _ _ h (near-gives f t k w _ (locates-near f t w s (h .level) x))
+    judge-repaired f t k w _ _ h (near-repairs f t k w _ (locates-near f t w s (h .level) x))
     ∙ ap₂ (λ v n. good (take k v) n)
     (sym (listed-flipped w s (x .below)))
     (repaired-distance w (coefficient s) ∙ ap (count (coefficient s)) (sym (x .below)) ∙ sym (listed-length s ∙ ones-count s))
@@ -191,9 +191,8 @@ pub judge-exponents : (f : Field) (t k : ℕ) (w : Word) (ps : List ℕ) → Fit
 judge-exponents f t k w ps h e =
     let x = exponents-locate f t (length w) (remainder f t w) ps e in rw (x .list) (judge-located f t k w (x .set) h (x .locates))
 
-pub judge-nowhere : (f : Field) (t k : ℕ) (w : Word) → t ≤ 62 → locate f t (length w) (remainder f t w) ≡ nowhere → judge f t k w ≡ ruined
-judge-nowhere f t k w h e =
-    judge-refused f t k w (record { none = record { none = λ c x. nowhere-locate f t (length w) (remainder f t w) e _ (near-locates f t w c h x) } })
+pub nowhere-ruined : (f : Field) (t : ℕ) (w : Word) → t ≤ 62 → locate f t (length w) (remainder f t w) ≡ nowhere → Ruined f t w
+nowhere-ruined f t w h e = record { none = λ c x. nowhere-locate f t (length w) (remainder f t w) e _ (near-locates f t w c h x) }
 
 -- ---- the exponents p below n with e p
 

@@ -2,7 +2,7 @@
 use mathlib.Core.Path.{_≡_, refl, sym, ap, _∙_}
 use mathlib.Core.Bool.{Bool, true, false}
 use mathlib.Core.List.{List, []}
-use Prim.Native.Nat.{ℕ, zero, suc, _+_, _*_, _^_, _≤_, _<_}
+use Prim.Native.Nat.{ℕ, zero, suc, _+_, _*_, _≤_, _<_}
 use native.Mathlib.Decide.{decLt, ℕ-discrete}
 use native.Mathlib.Omega.{arith}
 use lib.ListN.{length, take, getD, set, replicate, length-set}
@@ -12,19 +12,19 @@ use Rattle.bits.proofs.Runs.{run-length, run-ext, run-cong}
 use Rattle.field.specs.Field.{degree}
 use Rattle.field.specs.Tables.{Tables}
 use Rattle.layout.specs.declared.Plan.{Plan}
-use Rattle.layout.specs.Plan.{shape, field, level, covered}
-use Rattle.code.specs.Locations.{exponents, locate}
+use Rattle.layout.specs.Plan.{shape, field, level, covered, Valid}
+use Rattle.code.specs.Locations.{exponents, nowhere, locate}
+use Rattle.code.proofs.Outcome.{gives-sound}
 use Rattle.code.specs.Register.{register}
 use Rattle.bch.specs.declared.Found.{Found}
 use Rattle.page_plan.proofs.Tables.{degree-field}
 use Rattle.bch.specs.Locating.{answer, Finds}
 use Rattle.page_theory.specs.Reading.{RefusedAt, Lowest}
-use Rattle.page_theory.proofs.Reading.{outcome-gives, outcome-ruined}
 use Rattle.page_decide.specs.declared.Scan.{Scan}
 use Rattle.page_plan.specs.Plans.{Planned}
 use Rattle.page_decide.specs.Looking.{remainderAt, LocatedAt, Scanned}
-use Rattle.page_decide.specs.Deciding.{kept, KeptFor, BlockDecided, Decided, Underway, OneField, Kept}
-use Rattle.page_decide.proofs.Remainders.{remainderAt-below, located-clean, located-gives, located-ruined, located-few, located-below}
+use Rattle.page_decide.specs.Deciding.{kept, KeptFor, erasedAt, DecidedAt, BlockDecided, Decided, Underway, OneField, Kept}
+use Rattle.page_decide.proofs.Remainders.{located-clean, located-gives, nowhere-erased, nowhere-ruined, located-few, located-below}
 
 -- keeping exponents
 
@@ -63,16 +63,20 @@ module _ {b n : ℕ} {ps before after : List ℕ} (h : KeptFor b n ps before aft
 
 -- one block
 
-module _ (q : Plan) (b x : ℕ) {r : Found} (finds : Finds (field q b) (level q b) (covered q b) x r) where
+module _ (q : Plan) (page : List ℕ) (v : Valid q) (b : ℕ) (inside : b < q .blocks) {x : ℕ} (left : x ≡ remainderAt q page b) {r : Found}
+    (finds : Finds (field q b) (level q b) (covered q b) x r) where
   pub found-repaired : {places places' : List ℕ} {n : ℕ} (flips : List ℕ) → r .located ≡ true → n ≡ r .count
-      → KeptFor b (r .count) (r .exponents) places places' → level q b ≤ 62 → b < length flips
-      → BlockDecided q b x places flips places' (set flips b n) true
+      → KeptFor b (r .count) (r .exponents) places places' → b < length flips → BlockDecided q page b places flips places' (set flips b n) true
   unfolding answer
-  found-repaired {places} {places'} {n} flips e k h l i =
+  found-repaired {places} {places'} {n} flips e k h i =
       let z = finds .few in
       let s = finds .size in
+      let l = v .strong b inside in
       record {
-        repaired = λ t. sym (finds .is) ∙ rw (e, getD-set-same flips b n 0 i, k, kept-own h (omega arith));
+        decided = λ t. rw (getD-set-same flips b n 0 i) (record {
+          repaired = λ m. ap (locate _ _ _) (sym left) ∙ sym (finds .is) ∙ rw (e, k, kept-own h (omega arith));
+          erased = λ m. absurd (omega arith);
+        });
         ruined = λ t. absurd (let z : _≡_ {A = ℕ} 0 1 = cc in omega arith);
         other-places = kept-others h;
         other-flips = λ c o. getD-set-other flips b c n 0 o;
@@ -80,49 +84,57 @@ module _ (q : Plan) (b x : ℕ) {r : Found} (finds : Finds (field q b) (level q 
         flips-length = length-set flips b n;
       }
 
-  pub found-ruined : (places flips : List ℕ) → r .located ≡ false → BlockDecided q b x places flips places flips false
+  pub found-nowhere : {n : ℕ} {sound : Bool} (places flips : List ℕ) → r .located ≡ false → n ≡ erasedAt q page b → b < length flips
+      → (sound ≡ true → n ≡ 0 → ⊥) → (sound ≡ false → n ≡ 0) → BlockDecided q page b places flips places (set flips b n) sound
   unfolding answer
-  found-ruined places flips e = record {
-    repaired = λ t. absurd (let n : _≡_ {A = ℕ} 0 1 = cc in omega arith);
-    ruined = λ t. sym (finds .is) ∙ rw e;
-    other-places = λ c n o l. refl;
-    other-flips = λ c o. refl;
-    places-length = refl;
-    flips-length = refl;
-  }
+  found-nowhere {n} places flips e k i some none =
+      let at : locate (field q b) (level q b) (covered q b) (remainderAt q page b) ≡ nowhere = ap (locate _ _ _) (sym left) ∙ sym (finds .is) ∙ rw e in
+      record {
+        decided = λ t. let g = nowhere-erased q page v b inside at (λ z. some t (k ∙ z)) in rw (getD-set-same flips b n 0 i, k) (record {
+          repaired = λ m. absurd (omega (arith, g .0));
+          erased = λ m. g .1;
+        });
+        ruined = λ t. nowhere-ruined q page v b inside at (sym k ∙ none t);
+        other-places = λ c n o l. refl;
+        other-flips = λ c o. getD-set-other flips b c n 0 o;
+        places-length = refl;
+        flips-length = length-set flips b n;
+      }
 
 -- block after block
 
 module _ (q : Plan) (page : List ℕ) (planned : Planned q) where
-  decided-few : (n : ℕ) (places flips : List ℕ) → Decided q page n places flips → (b : ℕ) → b < n → n ≤ q .blocks → getD flips b 0 ≤ 62
-  decided-few n places flips d b l i =
-      omega (arith, located-few q page b _ (d .each b l), kept-length places b (getD flips b 0), planned .valid .strong b (omega arith))
+  decidedAt-few : (b n : ℕ) (places : List ℕ) → b < q .blocks → DecidedAt q page b places n → n < 128 → n ≤ 62
+  decidedAt-few b n places i d l = omega (arith, located-few q page b _ (d .repaired l), kept-length places b n, planned .valid .strong b i)
 
   -- a block that is decided is not ruined
-  decided-sound : (n : ℕ) (places flips : List ℕ) → Decided q page n places flips → n ≤ q .blocks → (b : ℕ) → b < n → RefusedAt q page b → ⊥
-  decided-sound n places flips d i b l h =
-      let inside : b < q .blocks = omega arith in
-      let g = outcome-gives q page (planned .valid) b _ _ inside (located-gives q page (planned .valid) b inside _ (d .each b l)) in
-      let e = outcome-ruined q page b h in
-      let z : _≡_ {A = ℕ} 0 1 = cc in omega arith
+  decidedAt-sound : (b n : ℕ) (places : List ℕ) → b < q .blocks → DecidedAt q page b places n → RefusedAt q page b → ⊥
+  decidedAt-sound b n places i d h = elim (decLt n 128) [
+    | yes l ↦ gives-sound _ _ _ _ _ _ (located-gives q page (planned .valid) b i _ (d .repaired l)) h
+    | no l ↦ gives-sound _ _ _ _ _ _ (d .erased (omega arith)) h
+  ]
+
+  -- a block that is not damaged
+  clean-decided : (b n : ℕ) (places : List ℕ) → b < q .blocks → remainderAt q page b ≡ 0 → n ≡ 0 → DecidedAt q page b places n
+  clean-decided b n places i e z = record {
+    repaired = λ l. located-clean q page (planned .valid) b i e ∙ ap exponents (sym (kept-none places b n z));
+    erased = λ l. absurd (omega arith);
+  }
 
   module _ {s : Scan} {places flips : List ℕ} (u : Underway q page s places flips) where
-    underway-left : {b : ℕ} → s .block ≡ b → b < q .blocks → register (s .remainder .words) ≡ remainderAt q page b
+    pub underway-left : {b : ℕ} → s .block ≡ b → b < q .blocks → register (s .remainder .words) ≡ remainderAt q page b
     underway-left at l = rw at at (u .left (omega arith))
-
-    pub underway-low : {b : ℕ} → s .block ≡ b → b < q .blocks → register (s .remainder .words) < 2 ^ (degree (field q b) * level q b)
-    underway-low {b} at l = rw (underway-left at l) (remainderAt-below q page (planned .valid) b l)
 
     pub underway-sound : q .blocks ≤ s .block → Decided q page (q .blocks) places flips
     underway-sound l = let e : s .block ≡ q .blocks = omega (arith, u .inside) in rw e at (u .decided)
 
     module _ {b : ℕ} (at : s .block ≡ b) (inside : b < q .blocks) {places' flips' : List ℕ} {z : Bool}
-        (d : BlockDecided q b (register (s .remainder .words)) places flips places' flips' z) where
+        (d : BlockDecided q page b places flips places' flips' z) where
       pub underway-ruined : z ≡ false → Lowest q page b
       underway-ruined e = record {
         inside = inside;
-        ruins = located-ruined q page (planned .valid) b inside (ap (locate _ _ _) (sym (underway-left at inside)) ∙ d .ruined e);
-        lower = λ c l. decided-sound (s .block) places flips (u .decided) (omega arith) c (omega arith);
+        ruins = d .ruined e;
+        lower = λ c l. decidedAt-sound c _ places (omega arith) (u .decided .each c (omega arith));
       }
 
       pub underway-next : {s' : Scan} → z ≡ true → Scanned q page (b + 1) s' → Underway q page s' places' flips'
@@ -136,18 +148,19 @@ module _ (q : Plan) (page : List ℕ) (planned : Planned q) where
             flips-length = d .flips-length ∙ u .flips-length;
           }
         where
-          each : (c : ℕ) → c < s' .block → LocatedAt q page c (kept places' c (getD flips' c 0))
+          before : (c : ℕ) → c < s .block → (c ≡ b → ⊥) → DecidedAt q page c places' (getD flips c 0)
+          before c y o = let h = u .decided .each c y in record {
+            repaired = λ l. h .repaired l
+                ∙ ap exponents (sym (d .other-places c (getD flips c 0) o (let k = decidedAt-few c _ places (omega (arith, u .inside)) h l in omega arith)));
+            erased = λ l. h .erased l;
+          }
+
+          each : (c : ℕ) → c < s' .block → DecidedAt q page c places' (getD flips' c 0)
           each c l = elim (decLt c (s .block)) [
-            | yes y ↦
-                let f : getD flips' c 0 ≡ getD flips c 0 = d .other-flips c (λ i. omega arith) in
-                let g = decided-few (s .block) places flips (u .decided) c y (omega arith) in
-                u .decided .each c y ∙ ap exponents (sym (d .other-places c (getD flips c 0) (λ i. omega arith) (omega arith)) ∙ ap (kept places' c) (sym f))
+            | yes y ↦ (let o : c ≡ b → ⊥ = λ i. omega arith in rw (d .other-flips c o) (before c y o))
             | no y ↦ elim (ℕ-discrete c b) [
-              | yes i ↦ rw i (ap (locate _ _ _) (sym (underway-left at inside)) ∙ d .repaired e)
-              | no i ↦
-                  let k : c < q .blocks = omega (arith, n .inside) in
-                  let f : getD flips' c 0 ≡ 0 = d .other-flips c i ∙ u .fresh c (omega arith) in
-                  located-clean q page (planned .valid) c k (n .clean c (omega arith) l) ∙ ap exponents (sym (kept-none places' c _ f))
+              | yes i ↦ rw i (d .decided e)
+              | no i ↦ clean-decided c _ places' (omega (arith, n .inside)) (n .clean c (omega arith) l) (d .other-flips c i ∙ u .fresh c (omega arith))
             ]
           ]
 
@@ -155,8 +168,8 @@ module _ (q : Plan) (page : List ℕ) (planned : Planned q) where
 
 pub decided-kept : (q : Plan) (page places flips : List ℕ) → Planned q → Decided q page (q .blocks) places flips → Kept q places flips
 decided-kept q page places flips planned d = record {
-  few = λ b l. omega (arith, decided-few q page planned (q .blocks) places flips d b l (omega arith));
-  below = λ b l. located-below q page b _ (d .each b l);
+  few = λ b l m. omega (arith, decidedAt-few q page planned b _ places l (d .each b l) m);
+  below = λ b l m. located-below q page b _ (d .each b l .repaired m);
 }
 
 -- nothing is kept at first
@@ -171,8 +184,7 @@ pub underway-start : (q : Plan) (page : List ℕ) → Planned q → (s : Scan) (
 underway-start q page planned s places flips n a b z = record {
   inside = n .inside;
   decided = record {
-    each = λ c l. located-clean q page (planned .valid) c (omega (arith, n .inside)) (n .clean c (omega arith) l)
-        ∙ ap exponents (sym (kept-none places c _ (z c)));
+    each = λ c l. clean-decided q page planned c _ places (omega (arith, n .inside)) (n .clean c (omega arith) l) (z c);
   };
   fresh = λ c l. z c;
   left = n .left;

@@ -1,27 +1,33 @@
 -- What the remainder of a block says of it: nothing to repair where it is zero, else what locating answers for it.
 use mathlib.Core.Path.{_≡_, sym, ap, _∙_, subst₂}
+use mathlib.Core.Bool.{true}
 use mathlib.Core.List.{List, []}
-use Prim.Native.Nat.{ℕ, _*_, _^_, _≤_, _<_}
+use Prim.Native.Nat.{ℕ, suc, _+_, _*_, _^_, _≤_, _<_}
 use native.Mathlib.Omega.{arith}
+use native.Mathlib.Decide.{decLe}
+use native.Mathlib.Numerals.{add-one}
 use native.Mathlib.Nat.{mul-zero}
-use lib.ListN.{length, take}
+use lib.ListN.{length, take, replicate}
+use borrow.Author.Tests.{le-leb, lt-leb}
 use Rattle.field.specs.declared.Field.{Field}
 use Rattle.field.specs.Field.{degree}
 use Rattle.layout.specs.declared.Plan.{Plan}
 use Rattle.layout.specs.Plan.{coveredOf, bits, field, level, covered, Valid}
-use Rattle.code.specs.Word.{Word, flipped, ones, Below}
+use Rattle.code.specs.Word.{Word, flipped, ones, zeros, zerosTo, Below}
+use Rattle.code.specs.Outcome.{erasedCount}
 use Rattle.code.specs.Generator.{remainder}
+use Rattle.code.proofs.Zeros.{zerosTo-few, zerosTo-many}
 use Rattle.code.specs.Locations.{nowhere, locate}
 use Rattle.code.proofs.Remainder.{remainder-below}
-use Rattle.code.proofs.Locations.{exponents-locate, listed-length, listed-below, judge-exponents, judge-nowhere}
+use Rattle.code.proofs.Locations.{exponents-locate, listed-length, listed-below}
 use Rattle.bch.specs.Locating.{Locatable}
 use Rattle.bch.proofs.Locating.{zero-located}
 use Rattle.page_plan.proofs.Plans.{block-fits}
 use Rattle.page_theory.specs.Page.{blockWord}
-use Rattle.page_theory.specs.Reading.{GivesAt, RefusedAt, outcome}
-use Rattle.page_theory.proofs.Blocks.{blockWord-length, blockWord-fits}
-use Rattle.page_theory.proofs.Reading.{gives-outcome, ruined-outcome}
+use Rattle.page_theory.specs.Reading.{GivesAt, RefusedAt}
+use Rattle.page_theory.proofs.Outcomes.{exponents-gives, zeros-gives, zeros-refuses}
 use Rattle.page_decide.specs.Looking.{remainderAt, LocatedAt}
+use Rattle.page_decide.specs.Deciding.{erasedAt}
 
 -- every word is a codeword of the level 0
 pub remainder-none : (f : Field) (t : ℕ) (w : Word) → t ≡ 0 → remainder f t w ≡ 0
@@ -51,14 +57,40 @@ module _ (q : Plan) (page : List ℕ) where
 
     pub located-gives : (ps : List ℕ) → LocatedAt q page b ps
         → GivesAt q page b (take (bits q b) (flipped (blockWord q page b) ps)) (length ps)
-    unfolding remainderAt outcome
-    located-gives ps e = gives-outcome q page b _ _ (judge-exponents (field q b) (level q b) (bits q b) (blockWord q page b) ps
-        (blockWord-fits q v page b inside) (rw (blockWord-length q page b) e))
+    unfolding remainderAt
+    located-gives ps e = exponents-gives q page v b inside ps e
 
-    pub located-ruined : locate (field q b) (level q b) (covered q b) (remainderAt q page b) ≡ nowhere → RefusedAt q page b
-    unfolding remainderAt outcome
-    located-ruined e = ruined-outcome q page b
-        (judge-nowhere (field q b) (level q b) (bits q b) (blockWord q page b) (v .strong b inside) (rw (blockWord-length q page b) e))
+    -- with no set located, the count of an erased block tells which it is
+    module _ (e : locate (field q b) (level q b) (covered q b) (remainderAt q page b) ≡ nowhere) where
+      pub nowhere-erased : (erasedAt q page b ≡ 0 → ⊥) → (128 ≤ erasedAt q page b) × GivesAt q page b (replicate (bits q b) true) (erasedAt q page b)
+      unfolding remainderAt erasedAt
+      nowhere-erased h = elim (decLe (zeros (blockWord q page b)) (level q b)) [
+        | yes l ↦ rw (le-leb (zeros (blockWord q page b)) (level q b) l) (unfold erasedCount in omega arith, zeros-gives q page v b inside e l)
+        | no l ↦ absurd (h (rw (lt-leb (zeros (blockWord q page b)) (level q b) (omega arith))))
+      ]
+
+      pub nowhere-ruined : erasedAt q page b ≡ 0 → RefusedAt q page b
+      unfolding remainderAt erasedAt erasedCount
+      nowhere-ruined h = elim (decLe (zeros (blockWord q page b)) (level q b)) [
+        | yes l ↦ (let k : 128 + zeros (blockWord q page b) ≡ 0 = rw (le-leb (zeros (blockWord q page b)) (level q b) l) at h in absurd (omega arith))
+        | no l ↦ zeros-refuses q page v b inside e (omega arith)
+      ]
+
+  -- the count of an erased block, from its zeros counted up to t + 1
+  pub erasedAt-few : (b : ℕ) {z t : ℕ} → t ≡ level q b → z ≡ zerosTo (t + 1) (blockWord q page b) → z ≤ t → 128 + z ≡ erasedAt q page b
+  unfolding erasedAt erasedCount
+  erasedAt-few b {z} {t} et ez l =
+      let w = blockWord q page b in
+      let k : zerosTo (suc t) w ≤ t = rw (ez, add-one t) at l in
+      let s : z ≡ zeros w = ez ∙ ap (λ n. zerosTo n w) (add-one t) ∙ zerosTo-few t w k in
+      rw (le-leb (zeros w) (level q b) (omega arith)) (ap (λ n. 128 + n) s)
+
+  pub erasedAt-many : (b : ℕ) {z t : ℕ} → t ≡ level q b → z ≡ zerosTo (t + 1) (blockWord q page b) → t < z → 0 ≡ erasedAt q page b
+  unfolding erasedAt
+  erasedAt-many b {z} {t} et ez l =
+      let w = blockWord q page b in
+      let m = zerosTo-many t w (rw (ez, add-one t) at l) in
+      rw (lt-leb (zeros w) (level q b) (omega arith))
 
   module _ (b : ℕ) (ps : List ℕ) (e : LocatedAt q page b ps) where
     pub located-few : length ps ≤ level q b

@@ -1,6 +1,6 @@
 // Deciding the damaged blocks of a page, in ascending order, each once. What becomes of one block is the function `block_outcome`.
-// The exponents that repair a block are kept in a table with room for 64 exponents a block; their numbers are kept beside it.
-// Blocks that are not damaged have none.
+// The exponents that repair a block are kept in a table with room for 64 exponents a block; their numbers are kept beside it, and for an
+// erased block 128 plus its zeros. Blocks that are not damaged have none.
 ghost use mathlib.Core.Path.{_≡_};
 ghost use Prim.Native.Nat.{_*_, _^_, _≤_, _<_};
 ghost use lib.ListN.{length};
@@ -9,8 +9,9 @@ ghost use Rattle.field.specs.Tables.{Tables};
 ghost use Rattle.layout.specs.Plan.{field, level, covered};
 ghost use Rattle.code.specs.Register.{register};
 ghost use Rattle.bch.specs.Locating.{Finds};
-ghost use Rattle.page_plan.specs.Plans.{Planned};
-ghost use Rattle.page_decide.specs.Deciding.{KeptFor, BlockDecided, Pending, OneField, Settles};
+ghost use Rattle.page_plan.specs.Plans.{Planned, Ready};
+ghost use Rattle.page_decide.specs.Looking.{remainderAt};
+ghost use Rattle.page_decide.specs.Deciding.{KeptFor, erasedAt, BlockDecided, Pending, OneField, Settles};
 use crate::Decision;
 use crate::Scan;
 use crate::look::next_damaged;
@@ -19,8 +20,10 @@ use bch::locate::find_errors;
 use layout::Plan;
 use layout::block_covered;
 use layout::block_shape;
+use layout::block_start;
 use powers::fill_tables;
 use remainder::Register;
+use zeros::zeros_to;
 
 // What becomes of a block with this remainder: the exponents that repair it, or that there are none.
 pub fn block_outcome(
@@ -66,9 +69,24 @@ fn keep(found: Found, block: u16, places: &mut [u16; 16384])
     }
 }
 
-// Settles a block with this remainder: whether it can be repaired. If so, the exponents and their number are kept.
+// The count of a block with no codeword near: 128 plus its zeros where it is erased, 0 where it is ruined.
+pub fn erased_count(plan: Plan, page: &[u8], block: u16) -> u8
+    requires { ⌜ (Ready plan (now page)) × (block < plan .blocks) ⌝ }
+    ensures { λ r. ⌜ r ≡ erasedAt plan (now (page .entry)) block ⌝ }
+{
+    let shape = block_shape(plan, block);
+    let t = shape.level as usize;
+    let start = block_start(plan, block);
+    let n = block_covered(plan, block);
+    let zeros = zeros_to(page, start, n, t + 1);
+    if zeros <= t { 128 + zeros as u8 } else { 0 }
+}
+
+// Settles a block with this remainder: whether it can be repaired or is erased. If so, its exponents, if it has any, and its count are
+// kept.
 fn decide_block(
     plan: Plan,
+    page: &[u8],
     block: u16,
     remainder: Register,
     powers: &[u16; 16384],
@@ -76,19 +94,21 @@ fn decide_block(
     places: &mut [u16; 16384],
     flips: &mut [u8; 256],
 ) -> bool
-    requires { ⌜ (Planned plan) × (block < plan .blocks) × (Tables (field plan block) (now powers) (now logs)) ⌝ }
-    requires { ⌜ register (remainder .words) < 2 ^ (degree (field plan block) * level plan block) ⌝ }
+    requires { ⌜ (Ready plan (now page)) × (block < plan .blocks) × (Tables (field plan block) (now powers) (now logs)) ⌝ }
+    requires { ⌜ register (remainder .words) ≡ remainderAt plan (now page) block ⌝ }
     requires { ⌜ (length (now places) ≡ 16384) × (length (now flips) ≡ 256) ⌝ }
-    ensures { λ r. ⌜ BlockDecided plan block (register (remainder .words)) (now (places .entry)) (now (flips .entry)) (now (places .exit)) (now (flips .exit)) r ⌝ }
+    ensures { λ r. ⌜ BlockDecided plan (now (page .entry)) block (now (places .entry)) (now (flips .entry)) (now (places .exit)) (now (flips .exit)) r ⌝ }
 {
     let found = block_outcome(plan, block, remainder, powers, logs);
     let located = found.located;
+    let b = block as usize;
     if !located {
-        return false;
+        let zeros = erased_count(plan, page, block);
+        flips[b] = zeros;
+        return zeros != 0;
     }
     keep(found, block, places);
     let count = flip_count(found);
-    let b = block as usize;
     flips[b] = count;
     true
 }
@@ -114,7 +134,7 @@ fn decide_from(
     while at.block < blocks {
         let b = at.block;
         let remainder = at.remainder;
-        let sound = decide_block(plan, b, remainder, powers, logs, places, flips);
+        let sound = decide_block(plan, page, b, remainder, powers, logs, places, flips);
         if !sound {
             return Decision::Ruined(b);
         }
@@ -147,20 +167,21 @@ fn decide_alike(
 // Settles block 0, with the tables of its field.
 fn decide_first(
     plan: Plan,
+    page: &[u8],
     remainder: Register,
     places: &mut [u16; 16384],
     flips: &mut [u8; 256],
 ) -> bool
-    requires { ⌜ (Planned plan) × (register (remainder .words) < 2 ^ (degree (field plan 0) * level plan 0)) ⌝ }
+    requires { ⌜ (Ready plan (now page)) × (register (remainder .words) ≡ remainderAt plan (now page) 0) ⌝ }
     requires { ⌜ (length (now places) ≡ 16384) × (length (now flips) ≡ 256) ⌝ }
-    ensures { λ r. ⌜ BlockDecided plan 0 (register (remainder .words)) (now (places .entry)) (now (flips .entry)) (now (places .exit)) (now (flips .exit)) r ⌝ }
+    ensures { λ r. ⌜ BlockDecided plan (now (page .entry)) 0 (now (places .entry)) (now (flips .entry)) (now (places .exit)) (now (flips .exit)) r ⌝ }
 {
     let first = plan.first;
     let f = first.field;
     let mut powers = [0u16; 16384];
     let mut logs = [0u16; 16384];
     fill_tables(f, &mut powers, &mut logs);
-    decide_block(plan, 0, remainder, &powers, &logs, places, flips)
+    decide_block(plan, page, 0, remainder, &powers, &logs, places, flips)
 }
 
 // Settles the blocks of a page whose block 0 is damaged and has another field than the later blocks.
@@ -177,7 +198,7 @@ fn decide_mixed(
     ensures { λ r. ⌜ Settles plan (now (page .entry)) (now (places .exit)) (now (flips .exit)) r ⌝ }
 {
     let remainder = scan.remainder;
-    let sound = decide_first(plan, remainder, places, flips);
+    let sound = decide_first(plan, page, remainder, places, flips);
     if !sound {
         return Decision::Ruined(0);
     }

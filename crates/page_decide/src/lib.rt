@@ -1,9 +1,10 @@
-// Which blocks of a page are damaged, and what repairs each (document 01, "Replies": a block with a codeword within t flips is repaired,
-// one with none is refused).
+// Which blocks of a page are damaged, and what repairs each (document 01, "Replies": a block with a codeword within t flips is repaired;
+// document 02, E1: one with none is erased where it has at most t zeros; any other is refused).
 //
 //   look::block_remainder     the remainder of a block
 //   look::first_damaged       the first block whose remainder is not zero, with that remainder
 //   decide::block_outcome     what becomes of a block, by its remainder: the exponents that repair it, or that there are none
+//   decide::erased_count      the count of a block with no codeword near, where it is erased
 //   decide::decide            decides the damaged blocks of a page, up to the first that is ruined
 //
 // look.rt works out remainders, decide.rt decides the damaged blocks in ascending order, each once, and keeps the exponents that repair

@@ -3,6 +3,7 @@ ghost use mathlib.Core.Path.{_≡_};
 ghost use Prim.Native.Nat.{_*_, _^_, _<_};
 ghost use Rattle.field.specs.Field.{degree};
 ghost use Rattle.layout.specs.Plan.{field, level, covered};
+ghost use Rattle.code.specs.Locations.{locate, nowhere};
 ghost use Rattle.code.specs.Register.{register};
 ghost use Rattle.bch.specs.Locating.{Finds};
 ghost use Rattle.page_theory.specs.Calls.{judgeEnded, judgeIn, judgeOf};
@@ -19,6 +20,7 @@ use layout::check_layout;
 use layout::plan_of;
 use layout::refusal_of;
 use page_decide::decide::block_outcome;
+use page_decide::decide::erased_count;
 use page_decide::decide::flip_count;
 use page_decide::look::block_remainder;
 use page_plan::block_reply;
@@ -55,6 +57,19 @@ fn damaged_outcome(plan: Plan, block: u16, remainder: Register) -> Found
     block_outcome(plan, block, remainder, &powers, &logs)
 }
 
+// Judges a block that has no codeword within t flips: it is erased, and its count is 128 plus its zeros, or it is ruined.
+fn judge_zeros(plan: Plan, page: &[u8], block: u16) -> JudgeAnswer
+    requires { ⌜ (Ready plan (now page)) × (block < plan .blocks) ⌝ }
+    requires { ⌜ locate (field plan block) (level plan block) (covered plan block) (remainderAt plan (now page) block) ≡ nowhere ⌝ }
+    ensures { λ r. ⌜ judgeEnded (judgeNumber r) (judgeBlock r) (judgeFlips r) ≡ judgeIn plan (now (page .entry)) block ⌝ }
+{
+    let count = erased_count(plan, page, block);
+    if count == 0 {
+        return JudgeAnswer::Refused(Refusal::Uncorrectable(block));
+    }
+    JudgeAnswer::Flips(count)
+}
+
 // Judges a block of a page of the right length.
 fn judge_lent(plan: Plan, page: &[u8], block: u16) -> JudgeAnswer
     requires { ⌜ (Ready plan (now page)) × (block < plan .blocks) ⌝ }
@@ -68,7 +83,7 @@ fn judge_lent(plan: Plan, page: &[u8], block: u16) -> JudgeAnswer
     let found = damaged_outcome(plan, block, remainder);
     let located = found.located;
     if !located {
-        return JudgeAnswer::Refused(Refusal::Uncorrectable(block));
+        return judge_zeros(plan, page, block);
     }
     let count = flip_count(found);
     JudgeAnswer::Flips(count)

@@ -1,4 +1,4 @@
--- Flipping bits of a payload: what it does to the messages of the blocks.
+-- Flipping bits of a payload, and filling parts of it with ones: what it does to the messages of the blocks.
 use mathlib.Core.Path.{_≡_, refl, sym, ap, _∙_}
 use mathlib.Core.Bool.{Bool, true, false, not}
 use mathlib.Core.List.{List, [], _∷_, _++_}
@@ -11,11 +11,12 @@ use lib.Dec.{eqb}
 use lib.Seq.{getD-take, length-take-le, ext-getD}
 use borrow.Author.Tests.{eq-eqb, ne-eqb}
 use Rattle.algebra.specs.Word.{differ, flip}
-use Rattle.bits.specs.Bits.{bitOf, run, placed}
+use Rattle.bits.specs.Bits.{bitOf, run, ones, placed}
+use Rattle.bits.proofs.Numbers.{ones-length}
 use Rattle.bits.proofs.Runs.{run-at, run-ext, run-cong}
-use Rattle.bits.proofs.Placed.{placed-inside, placed-outside}
+use Rattle.bits.proofs.Placed.{placed-inside, placed-outside, placed-run}
 use Rattle.layout.specs.declared.Plan.{Plan}
-use Rattle.layout.specs.Plan.{bits, coveredOf, covered, from, payload, Valid}
+use Rattle.layout.specs.Plan.{shape, bits, coveredOf, covered, from, payload, Valid}
 use Rattle.code.specs.Word.{Word, turned, flipped, Below}
 use Rattle.code.proofs.Distance.{coefficient}
 use Rattle.code.proofs.Flips.{turned-length, turned-coefficient, flipped-length, each-below}
@@ -24,7 +25,7 @@ use Rattle.page_theory.proofs.Words.{run-last}
 use Rattle.page_theory.proofs.Reading.{from-order}
 use Rattle.page_decide.specs.Deciding.{kept}
 use Rattle.payload.specs.Payload.{Joined}
-use Rattle.page_take.specs.Taking.{FlippedIn, FlippedAll}
+use Rattle.page_take.specs.Taking.{FlippedIn, FilledIn, RestoredIn, RestoredAll}
 use Rattle.page_decide.proofs.Deciding.{kept-length}
 use Rattle.page_plan.proofs.Plans.{message-inside}
 
@@ -143,19 +144,62 @@ module _ (q : Plan) (b : ℕ) where
     others = λ c n. y .others c n ∙ x .others c n;
   }
 
-module _ (q : Plan) (places flips : List ℕ) where
-  pub flipped-start : (m d : List ℕ) → FlippedAll q 0 places flips m d m d
-  flipped-start m d = record { metadata = refl; «data» = refl; own = λ b l. absurd (omega arith); others = λ b l. refl }
+-- a message filled with ones
 
-  -- one block more
-  pub flipped-block : {m d m₁ d₁ m₂ d₂ : List ℕ} (b : ℕ) {n : ℕ} → n ≡ getD flips b 0 → FlippedAll q b places flips m d m₁ d₁
-      → FlippedIn q b (kept places b n) m₁ d₁ m₂ d₂ → FlippedAll q (b + 1) places flips m d m₂ d₂
-  flipped-block b e x y = record {
+pub filled-message : (q : Plan) (b : ℕ) (m d : List ℕ) → Valid q → b < q .blocks → length m ≡ q .metadata → length d ≡ q .«data» → {m' d' : List ℕ} {n s : ℕ}
+    → n ≡ bits q b → s ≡ from q b → Joined m d m' d' (placed (m ++ d) s (ones n)) → FilledIn q b m d m' d'
+unfolding message payload shape ones
+filled-message q b m d v l em ed {m'} {d'} {n} {s} en es j =
+    let room = message-inside q v b l in
+    let size = length-append m d in
+    let both : m' ++ d' ≡ placed (m ++ d) (from q b) (ones (bits q b)) = j .both ∙ rw (en, es) in
+    let run' : run (bitOf (placed (m ++ d) (from q b) (ones (bits q b)))) (from q b) (length (ones (bits q b))) ≡ ones (bits q b) =
+    placed-run (m ++ d) (from q b) (ones (bits q b)) (omega (arith, ones-length (bits q b))) in
+    record {
+      metadata = j .metadata;
+      «data» = j .«data»;
+      own = rw both (rw (ones-length (bits q b)) at run');
+      others = λ c o. rw both (run-cong _ _ (from q c) (from q c) (bits q c) (λ i k.
+          placed-outside (m ++ d) (from q b) _ (from q c + i) (λ x y. other c o i k x (omega (arith, ones-length (bits q b))))));
+    }
+  where
+    other : (c : ℕ) → (c ≡ b → ⊥) → (i : ℕ) → i < bits q c → from q b ≤ from q c + i → from q c + i < from q b + bits q b → ⊥
+    other c o i k x y = elim (decLt c b) [
+      | yes z ↦ omega (arith, from-order q c b z)
+      | no z ↦ (let g : b < c = omega arith in omega (arith, from-order q b c g))
+    ]
+
+-- one block, and one block more
+
+module _ (q : Plan) (b : ℕ) (places : List ℕ) {n : ℕ} {m d m' d' : List ℕ} where
+  pub restored-flips : n < 128 → FlippedIn q b (kept places b n) m d m' d' → RestoredIn q b places n m d m' d'
+  restored-flips l x = record { metadata = x .metadata; «data» = x .«data»; repaired = λ k. x .own; erased = λ k. absurd (omega arith); others = x .others }
+
+  pub restored-ones : 128 ≤ n → FilledIn q b m d m' d' → RestoredIn q b places n m d m' d'
+  restored-ones l x = record { metadata = x .metadata; «data» = x .«data»; repaired = λ k. absurd (omega arith); erased = λ k. x .own; others = x .others }
+
+module _ (q : Plan) (places flips : List ℕ) where
+  pub restored-start : (m d : List ℕ) → RestoredAll q 0 places flips m d m d
+  restored-start m d = record {
+    metadata = refl;
+    «data» = refl;
+    repaired = λ b l. absurd (omega arith);
+    erased = λ b l. absurd (omega arith);
+    others = λ b l. refl;
+  }
+
+  pub restored-next : {m d m₁ d₁ m₂ d₂ : List ℕ} (b : ℕ) {n : ℕ} → n ≡ getD flips b 0 → RestoredAll q b places flips m d m₁ d₁
+      → RestoredIn q b places n m₁ d₁ m₂ d₂ → RestoredAll q (b + 1) places flips m d m₂ d₂
+  restored-next b e x y = record {
     metadata = y .metadata ∙ x .metadata;
     «data» = y .«data» ∙ x .«data»;
-    own = λ c l. elim (decLt c b) [
-      | yes h ↦ (λ w k t. y .others c (λ i. omega arith) ∙ x .own c h w k t)
-      | no h ↦ (let i : c ≡ b = omega arith in rw (i, ← e) (λ w k t. y .own w k (x .others b (omega arith) ∙ t)))
+    repaired = λ c l. elim (decLt c b) [
+      | yes h ↦ (λ f w k t. y .others c (λ i. omega arith) ∙ x .repaired c h f w k t)
+      | no h ↦ (let i : c ≡ b = omega arith in rw (i, ← e) (λ f w k t. y .repaired f w k (x .others b (omega arith) ∙ t)))
+    ];
+    erased = λ c l. elim (decLt c b) [
+      | yes h ↦ (λ f. y .others c (λ i. omega arith) ∙ x .erased c h f)
+      | no h ↦ (let i : c ≡ b = omega arith in rw (i, ← e) (λ f. y .erased f))
     ];
     others = λ c l. y .others c (λ i. omega arith) ∙ x .others c (omega arith);
   }

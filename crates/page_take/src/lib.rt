@@ -4,7 +4,8 @@
 //   take_decided    of a page of which every block is decided: the exponents that repair each are kept in a table
 //
 // Both leave what reading that page leaves (`readIn` of the crate `page_theory`, specs/Calls.antt). take.rt copies the messages out as
-// they stand in the page, flips the kept exponents that lie in a message, and writes the counts.
+// they stand in the page, flips the kept exponents that lie in a message, fills the messages of erased blocks with ones, and writes the
+// counts.
 //
 // specs/Taking.antt has what these steps promise; proofs/ the laws: Messages, Flipping, Ends (metadata, data and counts as a whole).
 mod take;
@@ -18,7 +19,7 @@ ghost use Rattle.page_decide.specs.Looking.{remainderAt};
 ghost use Rattle.page_decide.specs.Deciding.{Decided};
 use layout::Plan;
 use take::copy_messages;
-use take::flip_blocks;
+use take::restore_blocks;
 use take::write_counts;
 
 // Takes everything out of a page of which no block is damaged.
@@ -49,6 +50,6 @@ pub fn take_decided(
         ≡ readIn plan (now (page .entry)) (now (metadata .entry)) (now («data» .entry)) (now (counts .entry)) ⌝ }
 {
     copy_messages(plan, page, metadata, data);
-    flip_blocks(plan, places, flips, metadata, data);
+    restore_blocks(plan, places, flips, metadata, data);
     write_counts(counts, flips);
 }

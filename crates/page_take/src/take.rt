@@ -1,4 +1,5 @@
-// Taking metadata and data out of a page: the messages as they stand in it, then the kept exponents flipped, then the counts.
+// Taking metadata and data out of a page: the messages as they stand in it, then the kept exponents flipped and the messages of erased
+// blocks filled with ones, then the counts.
 ghost use mathlib.Core.Path.{_≡_};
 ghost use mathlib.Core.List.{[], _∷_, _++_};
 ghost use Prim.Native.Nat.{_≤_, _<_};
@@ -9,7 +10,7 @@ ghost use Rattle.code.specs.Word.{Below};
 ghost use Rattle.page_plan.specs.Plans.{Planned, Ready};
 ghost use Rattle.payload.specs.Payload.{Joined};
 ghost use Rattle.page_decide.specs.Deciding.{kept, Kept};
-ghost use Rattle.page_take.specs.Taking.{texts, FlippedIn, FlippedAll, Counted};
+ghost use Rattle.page_take.specs.Taking.{texts, FlippedIn, FilledIn, RestoredIn, RestoredAll, Counted};
 use layout::Plan;
 use layout::block_covered;
 use layout::block_shape;
@@ -75,8 +76,48 @@ fn flip_block(
     }
 }
 
-// Flips the bits of the payload at all exponents that are kept; `flips` has their number for each block.
-pub fn flip_blocks(
+// Fills the message of a block with ones.
+fn fill_block(plan: Plan, block: u16, metadata: &mut [u8], data: &mut [u8])
+    requires { ⌜ (Planned plan) × (block < plan .blocks) ⌝ }
+    requires { ⌜ (length (now metadata) ≡ plan .metadata) × (length (now «data») ≡ plan .«data») ⌝ }
+    ensures { λ r. ⌜ FilledIn plan block (now (metadata .entry)) (now («data» .entry)) (now (metadata .exit)) (now («data» .exit)) ⌝ }
+{
+    let shape = block_shape(plan, block);
+    let n = shape.message as usize;
+    let start = message_start(plan, block);
+    payload::fill(metadata, data, start, n);
+}
+
+// Restores the message of a block with the count n: flips its kept exponents, or fills it where the block is erased.
+fn restore_block(
+    plan: Plan,
+    block: u16,
+    places: &[u16; 16384],
+    n: usize,
+    metadata: &mut [u8],
+    data: &mut [u8],
+)
+    requires { ⌜ (Planned plan) × (block < plan .blocks) × (n < 128 → n ≤ 64) × (n < 128 → Below (covered plan block) (kept (now places) block n)) ⌝ }
+    requires { ⌜ (length (now metadata) ≡ plan .metadata) × (length (now «data») ≡ plan .«data») ⌝ }
+    ensures { λ r. ⌜ RestoredIn plan block (now (places .entry)) n
+        (now (metadata .entry)) (now («data» .entry)) (now (metadata .exit)) (now («data» .exit)) ⌝ }
+{
+    if n < 128 {
+        flip_block(plan, block, places, n, metadata, data);
+        return;
+    }
+    fill_block(plan, block, metadata, data);
+}
+
+// A count as a number of places.
+fn wide(count: u8) -> usize
+    ensures { λ r. ⌜ r ≡ count ⌝ }
+{
+    count as usize
+}
+
+// Restores the messages of all blocks; `flips` has the count of each.
+pub fn restore_blocks(
     plan: Plan,
     places: &[u16; 16384],
     flips: &[u8; 256],
@@ -85,15 +126,15 @@ pub fn flip_blocks(
 )
     requires { ⌜ (Planned plan) × (Kept plan (now places) (now flips)) ⌝ }
     requires { ⌜ (length (now metadata) ≡ plan .metadata) × (length (now «data») ≡ plan .«data») ⌝ }
-    ensures { λ r. ⌜ FlippedAll plan (plan .blocks) (now (places .entry)) (now (flips .entry))
+    ensures { λ r. ⌜ RestoredAll plan (plan .blocks) (now (places .entry)) (now (flips .entry))
         (now (metadata .entry)) (now («data» .entry)) (now (metadata .exit)) (now («data» .exit)) ⌝ }
 {
     let blocks = plan.blocks;
     let mut b: u16 = 0;
     while b < blocks {
         let i = b as usize;
-        let n = flips[i] as usize;
-        flip_block(plan, b, places, n, metadata, data);
+        let n = wide(flips[i]);
+        restore_block(plan, b, places, n, metadata, data);
         b += 1;
     }
 }

@@ -22,6 +22,7 @@ use Rattle.layout.specs.Bits.{within, blockBelow, blockOf, bitAnswer}
 use Rattle.layout.proofs.Cases.{words, layoutE, CaseA, CaseB, CaseC, CaseD, CaseE, CaseI, CaseK, layout-cases}
 use Rattle.code.specs.Word.{Word, apart, distance, ones, turned, flipped}
 use Rattle.code.specs.Code.{Codeword}
+use Rattle.code.specs.Outcome.{by-codeword}
 use Rattle.code.specs.Generator.{times, minimals13, minimals, generator, remainderStep, remainderOf, remainder, parity}
 use Rattle.page_theory.specs.Page.{message, written, pageBit, pageOf, blockWord}
 use Rattle.page_theory.specs.Reading.{GivesAt}
@@ -135,7 +136,7 @@ distance-G b n = distance (blockWord (planOf layoutE) pageG b) (blockWord (planO
 gives-G : (b n : ℕ) → b < planOf layoutE .blocks → n ≤ level (planOf layoutE) b → distance-G b n
     → GivesAt (planOf layoutE) pageG b (message (planOf layoutE) (replicate 8 0) b) n
 unfolding distance-G
-gives-G b n l few e = record {
+gives-G b n l few e = by-codeword (record {
   word = blockWord (planOf layoutE) pageF b;
   near = record {
     same = blockWord-length (planOf layoutE) pageF b ∙ sym (blockWord-length (planOf layoutE) pageG b);
@@ -144,7 +145,7 @@ gives-G b n l few e = record {
   };
   message = rw (block-F b l) (sym (written-message (planOf layoutE) (replicate 8 0) b));
   count = sym e;
-}
+})
 
 near-G : distance-G 0 1
 unfolding distance-G blockWord pageF pageG layoutE planOf shapeOf laterShape coveredOf shape start degree run bitOf bitAt bit distance apart

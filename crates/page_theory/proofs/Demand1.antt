@@ -15,7 +15,7 @@ use Rattle.layout.specs.declared.Acceptance.{Acceptance}
 use Rattle.layout.specs.declared.Acceptance.the-variants.{Accepted, Refused}
 use Rattle.layout.specs.Plan.{planOf, field, level}
 use Rattle.layout.specs.Acceptance.{acceptance, refusalReply}
-use Rattle.code.specs.Outcome.{Outcome, good, ruined}
+use Rattle.code.specs.Outcome.{Outcome, good, erased, ruined}
 use Rattle.layout.proofs.Numbers.{acceptance-refused-reply}
 use Rattle.page_theory.specs.Page.{pageOf, blockWord}
 use Rattle.page_theory.specs.Reading.{Reading, done, refused, outcome, reading}
@@ -147,6 +147,7 @@ module _ (page : List ℕ) (b : ℕ) where
   ends-outcome : (o : Outcome) → JudgeEnds b (judgeBy b o)
   unfolding judgeBy
   ends-outcome (good m n) = record { table = among-small 0 _ (omega arith); kept = λ n. absurd (n refl); block = λ n. refl; named = λ e. absurd (omega arith) }
+  ends-outcome (erased m z) = record { table = among-small 0 _ (omega arith); kept = λ n. absurd (n refl); block = λ n. refl; named = λ e. absurd (omega arith) }
   ends-outcome ruined = record { table = unfold among in refl; kept = λ n. refl; block = λ n. absurd (n refl); named = λ e. refl }
 
   judge-in : (q : Plan) → JudgeEnds b (judgeIn q page b)

@@ -1,6 +1,7 @@
 -- Demand 2. "A written page is the one that the layout words and the BCH definition in document 01 give, tail bits included.
 -- A page that is read gives, block by block, the message of a codeword at most t bit flips away, and the reported flips are
--- exactly that distance."
+-- exactly that distance." Document 02, E1, adds the erased block: there is no such codeword, the covered bits hold at most t zeros,
+-- the message is all ones, and the count is 128 plus the zeros.
 use mathlib.Core.Path.{_≡_, refl, sym, ap, _∙_, subst}
 use mathlib.Core.Bool.{true, false, cond}
 use mathlib.Core.List.{List, _++_}

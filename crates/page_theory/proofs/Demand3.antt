@@ -54,7 +54,7 @@ module _ (rec : List ℕ) (q : Plan) (accepted : Accepts rec q) where
 
   -- "Whatever a page of the right length holds, with outputs of the right length it is refused as uncorrectable exactly when some
   -- block has no codeword of its shortened length within t flips, and the lowest such block is named. Here t is the block's own
-  -- level, 0 where it has no ECC."
+  -- level, 0 where it has no ECC." Document 02, E1, adds: and more than t zeros among its covered bits.
   module _ (page m d c : List ℕ) (size : length page ≡ q .size) (outputs : Outputs q m d c) where
     by-reading : readOf rec page m d c ≡ readBy q (reading q page) m d c
     by-reading = read-accepted rec q accepted page m d c ∙ read-right q page m d c size outputs

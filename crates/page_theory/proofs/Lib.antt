@@ -3,6 +3,7 @@ pub mod Words
 pub mod Blocks
 pub mod Writing
 pub mod Reading
+pub mod Outcomes
 pub mod Damage
 pub mod Calls
 pub mod Accepted
@@ -12,6 +13,7 @@ pub mod Demand3
 pub mod OneBlock
 pub mod Claims
 pub mod Zeros
+pub mod Erased
 pub mod Single
 pub mod Cases
 pub mod ReplyRules

@@ -13,11 +13,12 @@ use Rattle.layout.specs.Record.{layoutOf}
 use Rattle.layout.specs.Plan.{planOf, covered, start, Valid}
 use Rattle.layout.specs.Acceptance.{acceptance}
 use Rattle.code.specs.Word.{Word}
+use Rattle.code.specs.Outcome.{Outcome}
 use Rattle.page_theory.specs.Reading.{GivesAt, RefusedAt, outcome}
 use Rattle.page_theory.specs.Damage.{Accepts}
 use Rattle.page_theory.specs.Calls.{blockReply, judgeEnded, judgeBy, judgeIn, judgeFor, judgeOf}
 use Rattle.page_theory.proofs.Blocks.{blockWord-cong}
-use Rattle.page_theory.proofs.Reading.{outcome-gives, outcome-ruined}
+use Rattle.page_theory.proofs.Reading.{Hands, of-good, of-erased, outcome-gives, outcome-ruined}
 use Rattle.page_theory.proofs.Accepted.{accepted-accepts, accepts-valid, judge-accepted}
 
 judge-block : (q : Plan) (page other : List ℕ) (b : ℕ) → length page ≡ length other
@@ -44,16 +45,20 @@ module _ (q : Plan) (page : List ℕ) (b : ℕ) (size : length page ≡ q .size)
   unfolding blockReply
   blockReply-right = rw (eq-eqb (length page) (q .size) size, lt-ltb b (q .blocks) inside)
 
-  judge-outcome : judgeIn q page b ≡ judgeBy b (outcome q page b)
+  pub judge-outcome : judgeIn q page b ≡ judgeBy b (outcome q page b)
   unfolding judgeIn
   judge-outcome = rw blockReply-right
 
-  -- a block with a codeword within t flips answers how many
-  pub judge-gives : Valid q → (m : Word) (n : ℕ) → GivesAt q page b m n → judgeIn q page b ≡ judgeEnded 0 0 n
+  by-hands : (o : Outcome) (m : Word) (n : ℕ) → Hands o m n → judgeBy b o ≡ judgeEnded 0 0 n
   unfolding judgeBy
-  judge-gives v m n g = judge-outcome ∙ rw (outcome-gives q page v b m n inside g)
+  by-hands o m n of-good = refl
+  by-hands o m n of-erased = refl
 
-  -- a block with none answers 9 and its number
+  -- a block that gives a message answers its count
+  pub judge-gives : Valid q → (m : Word) (n : ℕ) → GivesAt q page b m n → judgeIn q page b ≡ judgeEnded 0 0 n
+  judge-gives v m n g = judge-outcome ∙ by-hands _ m n (outcome-gives q page v b m n inside g)
+
+  -- a ruined block answers 9 and its number
   pub judge-refuses : RefusedAt q page b → judgeIn q page b ≡ judgeEnded 9 b 0
   unfolding judgeBy
   judge-refuses h = judge-outcome ∙ rw (outcome-ruined q page b h)

@@ -13,23 +13,33 @@ use Rattle.bits.proofs.Runs.{run-ext, run-cong, run-append}
 use Rattle.layout.specs.declared.Plan.{Plan}
 use Rattle.layout.specs.Plan.{bits, coveredOf, from, payload, Valid}
 use Rattle.code.specs.Word.{Word}
-use Rattle.code.specs.Outcome.{Outcome, good, ruined}
-use Rattle.code.proofs.Outcome.{judge-gives, gives-judge, judge-refused, refused-judge, gives-length}
+use Rattle.code.specs.Outcome.{Outcome, good, erased, ruined, erasedCount, by-codeword, by-zeros}
+use Rattle.code.proofs.Outcome.{judge-repaired, repaired-judge, judge-erased, erased-judge, judge-refused, refused-judge, gives-length, gives-sound}
 use Rattle.page_theory.specs.Page.{message, blockWord}
 use Rattle.page_theory.specs.Reading.{GivesAt, RefusedAt, Lowest, outcome, Reading, done, refused, more, readingOf, reading}
 use Rattle.page_theory.proofs.Words.{run-last}
 use Rattle.page_theory.proofs.Blocks.{blockWord-length, blockWord-fits}
 
+-- The outcome hands on the message m and the count n.
+pub data Hands : Outcome → Word → ℕ → Type 0 where
+  of-good : {m : Word} {n : ℕ} → Hands (good m n) m n
+  of-erased : {m : Word} {z : ℕ} → Hands (erased m z) m (erasedCount z)
+
 module _ (q : Plan) (page : List ℕ) where
   -- the outcome of a block is what it gives, or that it is ruined
 
-  pub outcome-gives : Valid q → (b : ℕ) (m : Word) (n : ℕ) → b < q .blocks → GivesAt q page b m n → outcome q page b ≡ good m n
+  pub outcome-gives : Valid q → (b : ℕ) (m : Word) (n : ℕ) → b < q .blocks → GivesAt q page b m n → Hands (outcome q page b) m n
   unfolding outcome
-  outcome-gives v b m n l g = judge-gives _ _ (bits q b) _ _ _ (blockWord-fits q v page b l) g
+  outcome-gives v b m n l (by-codeword g) = rw (judge-repaired _ _ (bits q b) _ m n (blockWord-fits q v page b l) g) of-good
+  outcome-gives v b m n l (by-zeros g) = rw (judge-erased _ _ (bits q b) _ (g .none) (g .few), g .message, g .count) of-erased
 
-  pub gives-outcome : (b : ℕ) (m : Word) (n : ℕ) → outcome q page b ≡ good m n → GivesAt q page b m n
+  pub gives-outcome : (b : ℕ) (m : Word) (n : ℕ) → Hands (outcome q page b) m n → GivesAt q page b m n
   unfolding outcome
-  gives-outcome b m n e = gives-judge _ _ (bits q b) _ m n e
+  gives-outcome b m n h = go (outcome q page b) m n refl h
+    where
+      go : (o : Outcome) (m : Word) (n : ℕ) → outcome q page b ≡ o → Hands o m n → GivesAt q page b m n
+      go o m n e of-good = by-codeword (repaired-judge _ _ (bits q b) _ m n e)
+      go o m n e (of-erased {z = z}) = by-zeros (erased-judge _ _ (bits q b) _ m z e)
 
   pub outcome-ruined : (b : ℕ) → RefusedAt q page b → outcome q page b ≡ ruined
   unfolding outcome
@@ -45,10 +55,14 @@ module _ (q : Plan) (page : List ℕ) where
   unfolding readingOf
   reading-start = refl
 
-  pub reading-good : (b : ℕ) (w m : Word) (l : List ℕ) (n : ℕ) → readingOf q page b ≡ done w l
-      → outcome q page b ≡ good m n → readingOf q page (suc b) ≡ done (w ++ m) (l ++ (n ∷ []))
+  pub reading-next : (b : ℕ) (w m : Word) (l : List ℕ) (n : ℕ) → readingOf q page b ≡ done w l
+      → Hands (outcome q page b) m n → readingOf q page (suc b) ≡ done (w ++ m) (l ++ (n ∷ []))
   unfolding readingOf more
-  reading-good b w m l n e f = rw (e, f)
+  reading-next b w m l n e h = go (outcome q page b) m n refl h
+    where
+      go : (o : Outcome) (m : Word) (n : ℕ) → outcome q page b ≡ o → Hands o m n → readingOf q page (suc b) ≡ done (w ++ m) (l ++ (n ∷ []))
+      go o m n f of-good = rw (e, f)
+      go o m n f of-erased = rw (e, f)
 
   pub reading-ruined : (b : ℕ) (w : Word) (l : List ℕ) → readingOf q page b ≡ done w l → outcome q page b ≡ ruined
       → readingOf q page (suc b) ≡ refused b
@@ -75,7 +89,8 @@ module _ (q : Plan) (page : List ℕ) where
   reading-sound (suc n) h = go (reading-sound n (λ c l. h c (omega arith))) (outcome q page n) refl
     where
       go : Done n → (o : Outcome) → outcome q page n ≡ o → Done (suc n)
-      go r (good m k) f = record { word = r .word ++ m; counts = r .counts ++ (k ∷ []); same = reading-good n _ m _ k (r .same) f }
+      go r (good m k) f = record { word = r .word ++ m; counts = r .counts ++ (k ∷ []); same = reading-next n _ m _ k (r .same) (rw f of-good) }
+      go r (erased m z) f = record { word = r .word ++ m; counts = r .counts ++ (erasedCount z ∷ []); same = reading-next n _ m _ _ (r .same) (rw f of-erased) }
       go r ruined f = absurd (h n (omega arith) (ruined-outcome n f))
 
   pub reading-lowest : (n b : ℕ) → b < n → RefusedAt q page b → Sound b → readingOf q page n ≡ refused b
@@ -93,16 +108,20 @@ module _ (q : Plan) (page : List ℕ) where
     pub text : Word
     pub flips : ℕ
     pub before : readingOf q page n ≡ done word counts
-    pub last : outcome q page n ≡ good text flips
+    pub last : Hands (outcome q page n) text flips
     pub words : w ≡ word ++ text
     pub numbers : l ≡ counts ++ (flips ∷ [])
 
   done-last : (n : ℕ) (w : Word) (l : List ℕ) → readingOf q page (suc n) ≡ done w l → Last n w l
   done-last n w l e = go (readingOf q page n) refl (outcome q page n) refl
     where
+      of-hands : (v : Word) (k : List ℕ) → readingOf q page n ≡ done v k → (m : Word) (c : ℕ) → Hands (outcome q page n) m c → Last n w l
+      of-hands v k f m c h = let t = reading-next n v m k c f h in
+          record { word = v; counts = k; text = m; flips = c; before = f; last = h; words = cc; numbers = cc }
+
       go : (r : Reading) → readingOf q page n ≡ r → (o : Outcome) → outcome q page n ≡ o → Last n w l
-      go (done v k) f (good m c) g = let t = reading-good n v m k c f g in
-          record { word = v; counts = k; text = m; flips = c; before = f; last = g; words = cc; numbers = cc }
+      go (done v k) f (good m c) g = of-hands v k f m c (rw g of-good)
+      go (done v k) f (erased m z) g = of-hands v k f m (erasedCount z) (rw g of-erased)
       go (done v k) f ruined g = let t = reading-ruined n v k f g in let z : _≡_ {A = ℕ} 0 1 = cc in absurd (omega arith)
       go (refused a) f o g = let t = reading-refused n a f in let z : _≡_ {A = ℕ} 0 1 = cc in absurd (omega arith)
 
@@ -110,8 +129,8 @@ module _ (q : Plan) (page : List ℕ) where
   done-sound zero w l e c k r = omega arith
   done-sound (suc n) w l e c k r = let s = done-last n w l e in elim (decLt c n) [
     | yes p ↦ done-sound n (s .word) (s .counts) (s .before) c p r
-    | no p ↦ (let i : c ≡ n = omega arith in let f : outcome q page n ≡ ruined = rw (← i) (outcome-ruined c r) in
-        let g = s .last in let z : _≡_ {A = ℕ} 0 1 = cc in omega arith)
+    | no p ↦ (let i : c ≡ n = omega arith in
+        gives-sound _ _ _ _ _ _ (gives-outcome n (s .text) (s .flips) (s .last)) (rw i at r))
   ]
 
   pub record Named (n b : ℕ) : Type 0 where
@@ -125,7 +144,8 @@ module _ (q : Plan) (page : List ℕ) where
     where
       go : (readingOf q page n ≡ refused b → Named n b) → (r : Reading) → readingOf q page n ≡ r → (o : Outcome)
           → outcome q page n ≡ o → Named (suc n) b
-      go h (done v k) f (good m c) g = let t = reading-good n v m k c f g in let z : _≡_ {A = ℕ} 0 1 = cc in absurd (omega arith)
+      go h (done v k) f (good m c) g = let t = reading-next n v m k c f (rw g of-good) in let z : _≡_ {A = ℕ} 0 1 = cc in absurd (omega arith)
+      go h (done v k) f (erased m y) g = let t = reading-next n v m k (erasedCount y) f (rw g of-erased) in let z : _≡_ {A = ℕ} 0 1 = cc in absurd (omega arith)
       go h (done v k) f ruined g = let t = reading-ruined n v k f g in let i : b ≡ n = cc in
           record { inside = omega arith; ruins = rw i (ruined-outcome n g); lower = rw i (done-sound n v k f) }
       go h (refused a) f o g = let t = reading-refused n a f in let i : a ≡ b = cc in let r = h (f ∙ ap refused i) in
@@ -163,7 +183,7 @@ module _ (q : Plan) (v : Valid q) (d page : List ℕ) (flips : ℕ → ℕ) (g :
   unfolding from message
   given-reading zero l = reading-start q page ∙ (unfold run in refl)
   given-reading (suc n) l =
-      reading-good q page n _ _ _ _ (given-reading n (omega arith)) (outcome-gives q page v n _ _ l (g n l))
+      reading-next q page n _ _ _ _ (given-reading n (omega arith)) (outcome-gives q page v n _ _ l (g n l))
       ∙ ap₂ done (sym (run-append (bitOf d) 0 (from q n) (bits q n) ∙ rw (zero-add (from q n)))) (sym (run-last flips 0 n ∙ rw (zero-add n)))
 
   pub gives-reading : reading q page ≡ done (run (bitOf d) 0 (8 * payload q)) (run flips 0 (q .blocks))

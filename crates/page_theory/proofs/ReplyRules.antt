@@ -24,7 +24,7 @@ use Rattle.layout.specs.Acceptance.{acceptance}
 use Rattle.layout.specs.ReplyRules.{fieldRules, layoutRules}
 use Rattle.layout.proofs.ReplyRules.{Accepting, accepts, refuses, accepting, accepted-follows, refused-follows}
 use Rattle.code.specs.Word.{Word}
-use Rattle.code.specs.Outcome.{Outcome, good, ruined}
+use Rattle.code.specs.Outcome.{Outcome, good, erased, ruined}
 use Rattle.page_theory.specs.Page.{pageOf, blockWord}
 use Rattle.page_theory.specs.Reading.{Reading, done, refused, more, readingOf, reading, outcome}
 use Rattle.page_theory.specs.Claim.{Right, right?}
@@ -80,6 +80,7 @@ module _ (q : Plan) (page : List ℕ) where
   reads-next : (n : ℕ) (r : Reading) → Reads q page n r → (o : Outcome) → outcome q page n ≡ o → Reads q page (suc n) (more n r o)
   unfolding more ruinedRules verdict isRuined
   reads-next n r (whole w counts none) (good m k) e = whole _ _ (verdict-none _ (append-kept (ruinedRules q page n) _ none ∙ rw e))
+  reads-next n r (whole w counts none) (erased m z) e = whole _ _ (verdict-none _ (append-kept (ruinedRules q page n) _ none ∙ rw e))
   reads-next n r (whole w counts none) ruined e = named n (append-kept (ruinedRules q page n) _ none ∙ rw e)
   reads-next n r (named b h) o e = named b (append-refused (ruinedRules q page n) _ (Uncorrectable b) h)
 
@@ -175,6 +176,7 @@ module _ (q : Plan) (page : List ℕ) (b : ℕ) where
           (rule (cond x false true) PageLength ∷ rule (cond y false true) OutOfRange ∷ rule (isRuined o) (Uncorrectable b) ∷ [])
           (replied x y o .reply) (replied x y o .block)
       go true true (good m n) = record { number = refl; beside = refl }
+      go true true (erased m z) = record { number = refl; beside = refl }
       go true true ruined = record { number = refl; beside = refl }
       go true false o = record { number = refl; beside = refl }
       go false y o = record { number = refl; beside = refl }

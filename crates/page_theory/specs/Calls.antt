@@ -28,7 +28,7 @@ use Rattle.layout.specs.declared.Acceptance.the-variants.{Accepted, Refused}
 use Rattle.layout.specs.Plan.{planOf, field, level}
 use Rattle.layout.specs.Acceptance.{acceptance, refusalReply}
 use Rattle.code.specs.Word.{Word}
-use Rattle.code.specs.Outcome.{Outcome, good, ruined}
+use Rattle.code.specs.Outcome.{Outcome, good, erased, ruined, erasedCount}
 use Rattle.page_theory.specs.Page.{pageOf, blockWord}
 use Rattle.page_theory.specs.Reading.{Reading, done, refused, outcome, reading}
 use Rattle.page_theory.specs.Claim.{Right, right?}
@@ -127,6 +127,7 @@ judgeEnded reply block flips = record { reply = reply; block = block; flips = fl
 
 unfoldable pub judgeBy : ℕ → Outcome → Judged
 judgeBy b (good m n) = judgeEnded 0 0 n
+judgeBy b (erased m z) = judgeEnded 0 0 (erasedCount z)
 judgeBy b ruined = judgeEnded 9 b 0
 
 unfoldable pub judgeIn : Plan → List ℕ → ℕ → Judged

@@ -50,7 +50,8 @@ pub record Stands (q : Plan) (payload page : List ℕ) : Type 0 where
   pub blocks : (b : ℕ) → b < q .blocks → blockWord q page b ≡ written q payload b
   pub tail : (p : ℕ) → used q ≤ p → p < 8 * q .size → bitOf page p ≡ true
 
--- A page that was read: outputs of the right lengths, and of each block the message of a codeword within t flips and exactly its distance.
+-- A page that was read: outputs of the right lengths, and of each block the message of a codeword within t flips and exactly its
+-- distance, or, where there is no such codeword and the block has at most t zeros, a message of ones and 128 plus the zeros.
 pub record Reads (q : Plan) (page : List ℕ) (r : Read) : Type 0 where
   pub payload : Payload q (r .metadata) (r .«data»)
   pub counts : length (r .counts) ≡ q .blocks

@@ -1,8 +1,10 @@
--- What reading a page gives (document 01, "Replies" and "The code"). The rule is distance: a block with a codeword within t
--- flips is repaired to that codeword, a block with none is ruined, and the lowest ruined block refuses the page.
+-- What reading a page gives (document 01, "Replies" and "The code"; document 02, E1). The rule is distance: a block with a codeword
+-- within t flips is repaired to that codeword; one with none and at most t zeros is erased; any other is ruined, and the lowest ruined
+-- block refuses the page.
 --
--- GivesAt q page b m n    block b holds, n flips away, a codeword with the message m
--- RefusedAt q page b      block b is ruined: no codeword of its shortened length is within t flips
+-- GivesAt q page b m n    block b gives the message m and reports n: it holds, n flips away, a codeword with that message, or it is
+--                         erased, its message is all ones, and n is 128 plus its zeros
+-- RefusedAt q page b      block b is ruined: no codeword of its shortened length is within t flips, and it has more than t zeros
 -- Lowest q page b         block b is ruined, and no lower block is
 -- outcome q page b        the outcome of block b
 -- Reading                 the messages of all blocks one after the other and their counts, or the block that refuses the page
@@ -14,7 +16,7 @@ use Prim.Native.Nat.{ℕ, zero, suc, _<_}
 use Rattle.layout.specs.declared.Plan.{Plan}
 use Rattle.layout.specs.Plan.{bits, field, level}
 use Rattle.code.specs.Word.{Word}
-use Rattle.code.specs.Outcome.{Outcome, good, ruined, judge, Gives, Refused}
+use Rattle.code.specs.Outcome.{Outcome, good, erased, ruined, judge, erasedCount, Gives, Refused}
 use Rattle.page_theory.specs.Page.{blockWord}
 
 abbrev pub GivesAt : Plan → List ℕ → ℕ → Word → ℕ → Type 0
@@ -38,6 +40,7 @@ pub data Reading : Type 0 where
 -- The message and the count of block b follow those before it; the first ruined block decides.
 unfoldable pub more : ℕ → Reading → Outcome → Reading
 more b (done w counts) (good m n) = done (w ++ m) (counts ++ (n ∷ []))
+more b (done w counts) (erased m z) = done (w ++ m) (counts ++ (erasedCount z ∷ []))
 more b (done w counts) ruined = refused b
 more b (refused a) o = refused a
 

@@ -1,7 +1,7 @@
 -- The replies of the four page calls, each as one list of rules in the order in which they are looked at (document 01, "Replies"). The first that
 -- applies is given (replies/Given). What a layout record is refused for comes first (layout/ReplyRules `layoutRules`); q is the plan of the record.
 --
--- isRuined o               an outcome is that the block has no codeword within t flips
+-- isRuined o               an outcome is that the block has no codeword within t flips and more than t zeros
 -- isWrong d                what is decided does not hold
 -- pageRule q page          5: the lent page
 -- ruinedRules q page n     9 for each of the first n blocks, the lowest first
@@ -17,13 +17,14 @@ use Rattle.layout.specs.declared.Plan.{Plan}
 use Rattle.layout.specs.Record.{layoutOf}
 use Rattle.layout.specs.Plan.{planOf, field, level}
 use Rattle.layout.specs.ReplyRules.{layoutRules}
-use Rattle.code.specs.Outcome.{Outcome, good, ruined}
+use Rattle.code.specs.Outcome.{Outcome, good, erased, ruined}
 use Rattle.page_theory.specs.Page.{blockWord}
 use Rattle.page_theory.specs.Reading.{outcome}
 use Rattle.page_theory.specs.Claim.{right?}
 
 unfoldable pub isRuined : Outcome → Bool
 isRuined (good m n) = false
+isRuined (erased m z) = false
 isRuined ruined = true
 
 unfoldable pub isWrong : {P : Type 0} → Dec P → Bool

@@ -8,9 +8,11 @@
 //   3. Claim: which claimed locations are right.
 //   4. Calls: what the four page calls answer and leave, for everything that may be lent to them.
 //   5. Damage: accepted layouts, payloads, and the pages that damage may make of a page that was written.
+//   6. Demands: what the first two demands say of a call.
 //
 // The theorems:
 //   Demand1, Demand2, Demand3    the owner's demands, sentence by sentence
 //   OneBlock, Claims             what judging one block depends on, and which claims are accepted
+//   Erased                       a page of ones is never refused
 //   Cases                        document 01's cases A to L, in one table
-//   Blocks, Writing, Reading, Damage, Calls, Accepted    the laws behind them, and what a writer and a reader have to show
+//   Blocks, Writing, Reading, Outcomes, Damage, Calls, Accepted    the laws behind them, and what a writer and a reader have to show

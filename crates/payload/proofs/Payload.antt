@@ -1,12 +1,13 @@
 -- A payload that is lent as metadata and data apart: runs of bits copied from it, words put into it, bits of it flipped.
 use mathlib.Core.Path.{_≡_, refl, sym, ap, ap₂, _∙_}
-use mathlib.Core.Bool.{Bool, not}
+use mathlib.Core.Bool.{Bool, true, not}
 use mathlib.Core.List.{List, [], _∷_, _++_}
 use Prim.Native.Nat.{ℕ, _+_, _-_, _*_, _≤_, _<_}
 use native.Mathlib.Decide.{decLt}
 use native.Mathlib.Omega.{arith}
 use lib.ListN.{length, length-append}
-use Rattle.bits.specs.Bits.{bitOf, run, placed, Bytes}
+use Rattle.bits.specs.Bits.{bitOf, run, ones, placed, Bytes}
+use Rattle.bits.proofs.Numbers.{ones-run}
 use Rattle.bits.proofs.Runs.{run-length, run-cong, run-append}
 use Rattle.bits.proofs.Placed.{placed-length, placed-bytes, placed-inside, placed-outside, placed-ext, placed-append}
 use Rattle.page_theory.proofs.Calls.{bitOf-first, bitOf-second, bytes-append}
@@ -120,6 +121,12 @@ joined-across m d f s r a n b h k em ed =
       both = ap₂ _++_ em ed ∙ sym (placed-across m d s (run f r a) (run f (r + a) (n - a)) b (omega arith))
           ∙ ap (placed (m ++ d) s) (sym (run-append f r a (n - a)) ∙ ap (run f r) e);
     }
+
+pub joined-ones : (m d : List ℕ) (s a n : ℕ) {m' d' : List ℕ} → Bytes (length d) d → s + a ≡ 8 * length m → a ≤ n
+    → m' ≡ placed m s (ones a) → d' ≡ placed d 0 (ones (n - a)) → Joined m d m' d' (placed (m ++ d) s (ones n))
+joined-ones m d s a n b h k em ed =
+    rw (ones-run 0 n) at
+    (joined-across m d (λ p. true) s 0 a n b h k (em ∙ ap (placed m s) (sym (ones-run 0 a))) (ed ∙ ap (placed d 0) (sym (ones-run (0 + a) (n - a)))))
 
 -- ---- a bit flipped
 

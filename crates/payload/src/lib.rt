@@ -3,6 +3,7 @@
 //
 //   copy_from    copies bits of the payload into a page
 //   copy_to      copies bits of a page into the payload
+//   fill         writes ones into the payload
 //   flip         flips one bit of the payload
 //
 // A run of bits lies in the metadata, in the data, or across the seam. specs/Payload.antt says how the two parts and the whole go together.
@@ -11,9 +12,10 @@ ghost use mathlib.Core.Bool.{not};
 ghost use mathlib.Core.List.{[], _∷_, _++_};
 ghost use Prim.Native.Nat.{_+_, _*_, _≤_, _<_};
 ghost use lib.ListN.{length};
-ghost use Rattle.bits.specs.Bits.{bitOf, run, placed, Inside};
+ghost use Rattle.bits.specs.Bits.{bitOf, run, ones, placed, Inside};
 ghost use Rattle.payload.specs.Payload.{Small, Joined};
 use bits::copy::copy_bits;
+use bits::fill::fill_ones;
 use bits::write::flip_bit;
 
 // Copies n bits of the payload, from its position `at` on, to a position of the page.
@@ -68,6 +70,26 @@ pub fn copy_to(
     let head = split - position;
     copy_bits(page, at, metadata, position, head);
     copy_bits(page, at + head, data, 0, n - head);
+}
+
+// Writes n ones from a position of the payload on.
+pub fn fill(metadata: &mut [u8], data: &mut [u8], position: usize, n: usize)
+    requires { ⌜ (Small (now metadata) (now «data»)) × (position + n ≤ 8 * (length (now metadata) + length (now «data»))) ⌝ }
+    ensures { λ r. ⌜ Joined (now (metadata .entry)) (now («data» .entry)) (now (metadata .exit)) (now («data» .exit))
+        (placed (now (metadata .entry) ++ now («data» .entry)) position (ones n)) ⌝ }
+{
+    let split = 8 * metadata.len();
+    if position + n <= split {
+        fill_ones(metadata, position, n);
+        return;
+    }
+    if split <= position {
+        fill_ones(data, position - split, n);
+        return;
+    }
+    let head = split - position;
+    fill_ones(metadata, position, head);
+    fill_ones(data, 0, n - head);
 }
 
 // Flips a bit of the payload.

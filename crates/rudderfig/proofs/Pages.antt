@@ -13,7 +13,7 @@ use Rattle.layout.specs.declared.Acceptance.{Acceptance}
 use Rattle.layout.specs.declared.Acceptance.the-variants.{Accepted, Refused}
 use Rattle.layout.specs.Plan.{planOf}
 use Rattle.layout.specs.Acceptance.{acceptance, refusalReply}
-use Rattle.code.specs.Outcome.{Outcome, good, ruined}
+use Rattle.code.specs.Outcome.{Outcome, good, erased, ruined}
 use Rattle.page_theory.specs.Reading.{Reading, done, refused, outcome, reading}
 use Rattle.replies.specs.Replies.{among}
 use Rattle.page_theory.specs.Calls.{
@@ -74,6 +74,7 @@ judge-block q page b = go (eqb (length page) (q .size)) (ltb b (q .blocks)) refl
     go : (s t : Bool) → ltb b (q .blocks) ≡ t → (o : Outcome)
         → cond (eqb (cond s (cond t 0 7) 5) 0) (judgeBy b o) (judgeEnded (cond s (cond t 0 7) 5) 0 0) .block ≤ q .blocks
     go true true e (good m n) = omega arith
+    go true true e (erased m z) = omega arith
     go true true e ruined = omega (arith, ltb-true b (q .blocks) e)
     go true false e o = omega arith
     go false t e o = omega arith

@@ -1,5 +1,6 @@
 //! Seeded samples of layouts and calls.
 
+pub mod erased;
 pub mod fragments;
 pub mod layouts;
 pub mod pages;

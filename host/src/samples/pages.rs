@@ -85,8 +85,8 @@ impl WrittenPage {
         page
     }
 
-    /// Every call about this page: written, read clean, damaged within t and past it, and read
-    /// from random bytes; blocks judged; claims right and wrong.
+    /// Every call about this page: written, read clean, damaged within t and past it, read from
+    /// random bytes and partly erased; blocks judged; claims right and wrong.
     pub fn calls(&self, random: &mut Random) -> Vec<Call> {
         let mut calls = vec![
             self.write(),
@@ -102,6 +102,7 @@ impl WrittenPage {
             calls.push(self.read(page));
         }
         calls.extend(self.claims(random));
+        calls.extend(self.erased_calls(random));
         calls
     }
 

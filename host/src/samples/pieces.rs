@@ -83,7 +83,7 @@ pub fn spoilt(random: &mut Random) -> Call {
     let level = random.pick(&edges);
     if random.chance(3) {
         let field_choice = random.pick(&[0, 1, 1, 2, 256, 1 << 32, u64::MAX]);
-        let lengths = [0, 1, 900, 1023, 1024, 2047, 2048, 1 << 61, u64::MAX];
+        let lengths = [0, 0, 0, 1, 900, 1023, 1024, 2047, 2048, 1 << 61, u64::MAX];
         return Call::ParityStart {
             state,
             level_field: level,

@@ -9,8 +9,8 @@ use Rattle.page_take.proofs.take_decided.Tie as tie
 copy-messages-requires : tie.Need-copy-messages-requires
 copy-messages-requires c κs = search needs
 
-flip-blocks-requires : tie.Need-flip-blocks-requires
-flip-blocks-requires c κs =
+restore-blocks-requires : tie.Need-restore-blocks-requires
+restore-blocks-requires c κs =
     let s = c .before .before .before .before .before .before in
     let p = s .before .before .before .before .before .before .before .pre in
     let j = s .copy-messages .ensures in
@@ -34,7 +34,7 @@ returns c =
     let k = t .before .before .before .before in
     let s = k .before .before .before .before .before .before .before in
     let p = s .before .before .before .before .before .before .before .pre in
-    read-decided _ _ (p .0 .0) _ _ _ (p .0 .1) _ _ (p .1) (s .copy-messages .ensures) (k .flip-blocks .ensures) (c .before .before .write-counts .ensures)
+    read-decided _ _ (p .0 .0) _ _ _ (p .0 .1) _ _ (p .1) (s .copy-messages .ensures) (k .restore-blocks .ensures) (c .before .before .write-counts .ensures)
     (λ i. t .before .before .slice-known6 .given i .fits) (λ i. t .slice-known7 .given i .fits)
 
 pub take-decided-spec : {M : Type 1} → statement M
@@ -42,7 +42,7 @@ take-decided-spec =
     tie.close
     (tie.spec
     copy-messages-requires
-    flip-blocks-requires
+    restore-blocks-requires
     write-counts-requires
     same-length
     same-length-2

@@ -10,17 +10,19 @@ mod locate;
 mod pages;
 mod roots;
 
+use model::samples::erased::EDGES;
 use model::{Refusal, Reply};
 use std::fmt::Display;
 use std::process::ExitCode;
 
-/// Vectors in the making: the input's bytes, the output's lines and how many vectors got which
-/// reply.
+/// Vectors in the making: the input's bytes, the output's lines, how many vectors got which reply,
+/// and how often they met which edge of the erased block's rule.
 #[derive(Default)]
 pub struct Vectors {
     input: Vec<u8>,
     output: String,
     replies: [usize; 11],
+    edges: [usize; EDGES.len()],
 }
 
 /// A line of output in the making: reply and block, then whatever follows.
@@ -88,6 +90,12 @@ impl Vectors {
         self.output.push('\n');
         self.replies[answer.reply as usize] += 1;
     }
+
+    pub fn meet(&mut self, edges: [usize; EDGES.len()]) {
+        for (sum, edge) in self.edges.iter_mut().zip(edges) {
+            *sum += edge;
+        }
+    }
 }
 
 fn main() -> ExitCode {
@@ -114,6 +122,9 @@ fn main() -> ExitCode {
     }
     let count: usize = vectors.replies.iter().sum();
     println!("{count} vectors, by reply 0 to 10: {:?}", vectors.replies);
+    for (edge, times) in EDGES.iter().zip(vectors.edges).filter(|edge| edge.1 > 0) {
+        println!("{times:6} {edge}");
+    }
     ExitCode::SUCCESS
 }
 

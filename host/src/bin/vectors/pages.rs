@@ -4,6 +4,7 @@ use crate::{Answer, Vectors};
 use model::call::Call;
 use model::layout::{Layout, LayoutWords};
 use model::random::Random;
+use model::samples::erased::{edge_layouts, edges};
 use model::samples::layouts::accepted_words;
 use model::samples::pages::{BEFORE, WrittenPage, spoil};
 use model::{Refusal, check_claim, judge_block, read_page, write_page};
@@ -17,6 +18,9 @@ pub fn vectors() -> Vectors {
     for i in 0..260 {
         let most = [20, 40, 70, 120, 250][i % 5];
         let words = chosen_words(&mut random, i % 8, most);
+        add_page(&mut vectors, words, &mut random);
+    }
+    for words in [edge_layouts(); 4].concat() {
         add_page(&mut vectors, words, &mut random);
     }
     for words in many_blocks(&mut random) {
@@ -50,7 +54,7 @@ fn add_page(vectors: &mut Vectors, words: LayoutWords, random: &mut Random) {
     }
 }
 
-/// A large page written, and read with damage within t and past it.
+/// A large page written, read with damage within t and past it, and read erased.
 fn add_large_page(vectors: &mut Vectors, words: LayoutWords, random: &mut Random) {
     let written = WrittenPage::new(words, random);
     add(vectors, &written.write());
@@ -64,6 +68,9 @@ fn add_large_page(vectors: &mut Vectors, words: LayoutWords, random: &mut Random
         let (page, block) = written.overdamaged(random);
         add(vectors, &written.judge(page.clone(), block));
         add(vectors, &written.read(page));
+        for call in written.erased_calls(random) {
+            add(vectors, &call);
+        }
     }
 }
 
@@ -181,6 +188,7 @@ fn document_calls() -> Vec<Call> {
 }
 
 fn add(vectors: &mut Vectors, call: &Call) {
+    vectors.meet(edges(call));
     match call.clone() {
         Call::WritePage {
             record,

@@ -10,8 +10,8 @@ fill-tables-requires c κs = search needs
 decide-block-requires : tie.Need-decide-block-requires
 unfolding plan.shape
 decide-block-requires c κs =
-    let p = c .before .before .before .before .before .before .before .before .pre in
-    ((p .0 .0, p .0 .0 .some, c .before .before .before .before .fill-tables .ensures), (p .0 .1, p .1))
+    let p = c .before .before .before .before .before .before .before .before .before .pre in
+    ((p .0 .0, p .0 .0 .plan .some, c .before .before .before .before .fill-tables .ensures), (p .0 .1, p .1))
 
 returns : tie.Need-returns
 returns c = search needs

@@ -4,7 +4,7 @@ use Prim.Native.Nat.{_-_, _≤_}
 use native.Mathlib.Omega.{arith}
 use borrow.Author.Tests.{not-true, not-false}
 use Rattle.page_decide.specs.Deciding.{Underway, Settles}
-use Rattle.page_decide.proofs.Deciding.{one-field-tables, underway-low, underway-ruined, underway-next, underway-sound}
+use Rattle.page_decide.proofs.Deciding.{one-field-tables, underway-left, underway-ruined, underway-next, underway-sound}
 use Rattle.page_decide.proofs.decide.decide_from.Statement.{statement}
 use Rattle.page_decide.proofs.decide.decide_from.Tie as tie
 
@@ -23,7 +23,7 @@ decide-block-requires c κs =
     let p = c .before .before .before .before .before .before .before .before .pre in
     let plan = p .0 .ready .plan in
     let l = c .before .before .before .if1 .taken in
-    ((plan, l, one-field-tables _ _ _ (p .1 .0) (i .0) (p .1 .1)), (underway-low _ _ plan (i .1) refl l, (i .1 .places-length, i .1 .flips-length)))
+    ((p .0 .ready, l, one-field-tables _ _ _ (p .1 .0) (i .0) (p .1 .1)), (underway-left _ _ plan (i .1) refl l, (i .1 .places-length, i .1 .flips-length)))
 
 returns : tie.Need-returns Inv-loop μ-loop
 unfolding Settles

@@ -3,7 +3,7 @@ use native.Mathlib.Omega.{arith}
 use borrow.Author.Needs.{needs}
 use borrow.Author.Tests.{not-true, not-false}
 use Rattle.page_decide.specs.Deciding.{Settles}
-use Rattle.page_decide.proofs.Deciding.{later-field, underway-low, underway-ruined, underway-next, underway-sound}
+use Rattle.page_decide.proofs.Deciding.{later-field, underway-left, underway-ruined, underway-next, underway-sound}
 use Rattle.page_decide.proofs.decide.decide_mixed.Statement.{statement}
 use Rattle.page_decide.proofs.decide.decide_mixed.Tie as tie
 
@@ -12,7 +12,7 @@ decide-first-requires c κs =
     let p = c .before .before .before .before .before .pre in
     let u = p .0 .underway in
     let plan = p .0 .ready .plan in
-    ((plan, underway-low _ _ plan u (p .1) (plan .some)), (u .places-length, u .flips-length))
+    ((p .0 .ready, underway-left _ _ plan u (p .1) (plan .some)), (u .places-length, u .flips-length))
 
 returns : tie.Need-returns
 unfolding Settles

@@ -3,10 +3,9 @@ use mathlib.Core.Path.{sym, _∙_}
 use native.Mathlib.Omega.{arith}
 use borrow.Author.Needs.{needs}
 use borrow.Author.Tests.{eqb-true, not-true, not-false}
-use Rattle.replies.specs.Replies.{number, block}
 use Rattle.page_judge.specs.Answers.{judgeNumber, judgeBlock, judgeFlips}
 use Rattle.page_decide.proofs.Remainders.{remainderAt-below}
-use Rattle.page_judge.proofs.Ends.{judge-clean, judge-ruined, judge-found}
+use Rattle.page_judge.proofs.Ends.{judge-clean, judge-nowhere, judge-found}
 use Rattle.page_judge.proofs.judge.judge_lent.Statement.{statement}
 use Rattle.page_judge.proofs.judge.judge_lent.Tie as tie
 
@@ -29,12 +28,14 @@ damaged-outcome-requires c κs =
     let p = r .before .before .pre in
     ((p .0 .plan, p .1), rw (r .own-remainder .ensures) (remainderAt-below _ _ (p .0 .plan .valid) _ (p .1)))
 
-returns-2 : tie.Need-returns-2
-unfolding judgeNumber judgeBlock judgeFlips number block
-returns-2 c =
+judge-zeros-requires : tie.Need-judge-zeros-requires
+judge-zeros-requires c κs =
     let r = c .before .before .before .before in
     let p = r .before .before .pre in
-    judge-ruined _ _ (p .0) _ (p .1) (r .own-remainder .ensures) (c .before .damaged-outcome .ensures) (not-true _ (c .if2 .taken))
+    (p, judge-nowhere _ _ (p .0) _ (p .1) (r .own-remainder .ensures) (c .before .damaged-outcome .ensures) (not-true _ (c .if2 .taken)))
+
+returns-2 : tie.Need-returns-2
+returns-2 c = search needs
 
 flip-count-requires : tie.Need-flip-count-requires
 flip-count-requires c κs =
@@ -58,6 +59,7 @@ judge-lent-spec =
     is-zero-requires
     returns
     damaged-outcome-requires
+    judge-zeros-requires
     returns-2
     flip-count-requires
     returns-3)

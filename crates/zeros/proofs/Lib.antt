@@ -1,0 +1,2 @@
+-- Laws of counting zeros.
+pub mod Counting

@@ -1,0 +1,2 @@
+-- How many bits are counted at once.
+pub mod Counting

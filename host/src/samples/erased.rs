@@ -1,0 +1,238 @@
+//! Samples of pages with erased blocks (document 02, E1), and the edges of that rule which they meet.
+
+use crate::bits::{bit, flip};
+use crate::call::Call;
+use crate::decoder::errors_of_word;
+use crate::layout::{Block, Layout, LayoutWords, check_layout};
+use crate::outcome::{Outcome, outcome, zeros};
+use crate::page::block_word;
+use crate::random::Random;
+use crate::samples::pages::WrittenPage;
+use std::collections::HashMap;
+
+impl WrittenPage {
+    /// A page of all ones (one in eight), of erased blocks (two), of blocks erased and written (two),
+    /// or such a one with a block of t + 1 zeros (three), mostly one of the last; and that block, or
+    /// else any.
+    pub fn erased(&self, random: &mut Random) -> (Vec<u8>, usize) {
+        let kind = random.below(8);
+        let mut block = random.below(self.layout.blocks());
+        if kind == 0 {
+            return (vec![0xFF; self.page.len()], block);
+        }
+        let mut page = self.damaged(random);
+        for block in 0..self.layout.blocks() {
+            if kind < 3 || random.chance(2) {
+                self.erase(&mut page, block, random);
+            }
+        }
+        if kind > 4 {
+            block = block.max(random.below(self.layout.blocks()));
+            let shape = self.layout.block(block);
+            let places = places(shape, shape.t() + 1, random);
+            self.put_zeros(&mut page, block, &places);
+        }
+        (page, block)
+    }
+
+    /// Calls about a page with erased blocks: one block judged, the page read, and a claim on the
+    /// block: empty, its zeros, or the right one if it has a codeword within t.
+    pub fn erased_calls(&self, random: &mut Random) -> Vec<Call> {
+        let (page, block) = self.erased(random);
+        let word = block_word(&self.layout, &page, block);
+        let zeros: Vec<usize> = (0..word.len())
+            .filter(|exponent| !word[word.len() - 1 - exponent])
+            .collect();
+        let right = errors_of_word(self.layout.block(block).code(), &word);
+        let claim = match random.below(3) {
+            0 => vec![],
+            1 if zeros.len() <= 64 => zeros,
+            _ => right.unwrap_or_default(),
+        };
+        let claim = claim.iter().map(|&exponent| exponent as u16).collect();
+        vec![
+            self.judge(page.clone(), block),
+            self.claim(page.clone(), block, claim),
+            self.read(page),
+        ]
+    }
+
+    /// Makes a block all ones with none, one, t or any other number of zeros up to t. Where t = 2,
+    /// two of three blocks have one to four zeros of a codeword that has four, if there is one.
+    fn erase(&self, page: &mut [u8], block: usize, random: &mut Random) {
+        let shape = self.layout.block(block);
+        if shape.t() == 2 && !random.chance(3) {
+            if let Some(mut four) = codeword_of_ones(shape, random) {
+                four.truncate(random.pick(&[1, 2, 2, 3, 4]));
+                return self.put_zeros(page, block, &four);
+            }
+        }
+        let most = match shape.t() {
+            0 => 3,
+            t => t,
+        };
+        let any = random.below(most + 1);
+        let count = random.pick(&[0, 1, most, any]);
+        let places = places(shape, count, random);
+        self.put_zeros(page, block, &places);
+    }
+
+    /// Makes a block all ones but for zeros at these exponents.
+    fn put_zeros(&self, page: &mut [u8], block: usize, exponents: &[usize]) {
+        let (start, end) = (self.layout.start(block), self.layout.start(block + 1));
+        for position in start..end {
+            if bit(page, position) == exponents.contains(&(end - 1 - position)) {
+                flip(page, position);
+            }
+        }
+    }
+}
+
+/// So many different exponents of a block: of its message, of its parity, or any.
+fn places(block: Block, count: usize, random: &mut Random) -> Vec<usize> {
+    let n = block.covered_bits();
+    let parity = n - block.message_bits;
+    let (first, size) = match random.below(3) {
+        0 if parity >= count => (0, parity),
+        1 if block.message_bits >= count => (parity, block.message_bits),
+        _ => (0, n),
+    };
+    let places = random.distinct(count.min(size), size);
+    places.iter().map(|place| first + place).collect()
+}
+
+/// Four exponents, in any order, with zeros at which and ones elsewhere a block with t = 2 is a
+/// codeword. A word is one if it is 0 at a and at a^3. The four are two pairs, so that the sums of two
+/// are listed until one of them meets what another leaves; in a short block there may be none.
+pub fn codeword_of_ones(block: Block, random: &mut Random) -> Option<Vec<usize>> {
+    let (field, n) = (block.choice.field(), block.covered_bits());
+    let values = |exponent: usize| {
+        (field.power_of_a(exponent) as u32) << 16 | field.power_of_a(3 * exponent) as u32
+    };
+    let ones = (0..n).fold(0, |sum, exponent| sum ^ values(exponent));
+    let tried = random.distinct(n.min(500), n);
+    let mut pairs: HashMap<u32, [usize; 2]> = HashMap::new();
+    for (i, &left) in tried.iter().enumerate() {
+        for &right in &tried[..i] {
+            let sum = values(left) ^ values(right);
+            let rest = pairs.get(&(ones ^ sum)).copied().unwrap_or([left, right]);
+            if !rest.contains(&left) && !rest.contains(&right) {
+                let mut four = [[left, right], rest].concat();
+                random.shuffle(&mut four);
+                return Some(four);
+            }
+            pairs.insert(sum, [left, right]);
+        }
+    }
+    None
+}
+
+/// Layouts under which every edge is met: blocks with t = 2 that are long enough for a codeword of
+/// nearly all ones, of both fields, with metadata and inside bytes; t = 0 before and after them; and
+/// the highest level.
+pub fn edge_layouts() -> [LayoutWords; 5] {
+    let words = |meta_size, block0: (u8, u8, u16), later: (u8, u8, u16)| {
+        let words = LayoutWords {
+            nblocks: 3,
+            meta_size,
+            ecc0: block0.0,
+            gf0: block0.1,
+            data0_size: block0.2,
+            page_size: 0,
+            eccn: later.0,
+            gfn: later.1,
+            datan_size: later.2,
+        };
+        let page_size = Layout::from(words).used_bits().div_ceil(8) as u16 + 1;
+        LayoutWords { page_size, ..words }
+    };
+    [
+        words(3, (1, 0, 12), (1, 0, 13)),
+        words(1, (1, 1, 16), (1, 1, 15)),
+        words(10, (0, 0, 2), (1, 0, 14)),
+        words(2, (1, 1, 17), (0, 1, 1)),
+        words(5, (0x14, 0, 1), (0x14, 1, 3)),
+    ]
+}
+
+/// The edges of the rule; t is above 0 where it is not said to be 0.
+pub const EDGES: [&str; 13] = [
+    "erased with no zero",
+    "erased with t zeros",
+    "ruined with t + 1 zeros",
+    "erased with zeros in the parity alone",
+    "erased with zeros in the message alone",
+    "ruined with t + 1 zeros, some of them in the parity",
+    "repaired though it has 1 to t zeros",
+    "repaired with more than t zeros and at most 2t",
+    "t = 0 and at most 3 zeros",
+    "block 0 erased with metadata",
+    "erased from inside a byte on",
+    "page with blocks erased and blocks written",
+    "ruined block behind an erased one",
+];
+
+/// How often a call meets each edge: one that reads a page counts for each of its blocks, one that
+/// judges a block for that block; any other call and one that is refused otherwise meets none.
+pub fn edges(call: &Call) -> [usize; EDGES.len()] {
+    let mut met = [0; EDGES.len()];
+    let (record, page, judged) = match call {
+        Call::ReadPage { record, page, .. } => (record, page, None),
+        Call::JudgeBlock {
+            record,
+            page,
+            block,
+        } => (record, page, Some(*block)),
+        _ => return met,
+    };
+    let Ok(layout) = check_layout(record) else {
+        return met;
+    };
+    if page.len() != layout.page_length || judged.is_some_and(|b| b >= layout.blocks() as u64) {
+        return met;
+    }
+    let blocks = match judged {
+        Some(block) => block as usize..block as usize + 1,
+        None => 0..layout.blocks(),
+    };
+    let (mut any_erased, mut any_written, mut behind) = (false, false, false);
+    for number in blocks {
+        let word = block_word(&layout, page, number);
+        let found = outcome(layout.block(number).code(), &word);
+        for (count, edge) in met
+            .iter_mut()
+            .zip(block_edges(&layout, number, &word, &found))
+        {
+            *count += edge as usize;
+        }
+        any_written |= matches!(found, Outcome::Repaired { .. }) && layout.block(number).t() > 0;
+        behind |= any_erased && found == Outcome::Ruined;
+        any_erased |= matches!(found, Outcome::Erased { .. });
+    }
+    met[11] = (any_erased && any_written && !behind) as usize;
+    met[12] = behind as usize;
+    met
+}
+
+/// The edges that one block meets.
+fn block_edges(layout: &Layout, number: usize, word: &[bool], found: &Outcome) -> [bool; 11] {
+    let block = layout.block(number);
+    let (t, all) = (block.t(), zeros(word));
+    let in_message = zeros(&word[..block.message_bits]);
+    let erased = matches!(found, Outcome::Erased { .. });
+    let ruined = *found == Outcome::Ruined;
+    let repaired = matches!(found, Outcome::Repaired { .. }) && t > 0;
+    [
+        erased && all == 0,
+        erased && all == t,
+        ruined && all == t + 1,
+        erased && all > 0 && in_message == 0,
+        erased && all > 0 && in_message == all,
+        ruined && all == t + 1 && in_message < all,
+        repaired && (1..=t).contains(&all),
+        repaired && (t + 1..=2 * t).contains(&all),
+        t == 0 && all <= 3,
+        erased && number == 0 && layout.metadata_length > 0,
+        erased && layout.start(number) % 8 != 0,
+    ]
+}
