@@ -4,20 +4,19 @@ use mathlib.Core.List.{List}
 use Prim.Native.Nat.{ℕ, zero, suc, _+_, _-_, _*_, _/_, _%_, _^_, _<_, _≤_}
 use native.Mathlib.Omega.{arith}
 use native.Mathlib.Decide.{ℕ-discrete, decLt}
-use native.Mathlib.Nat.{mul-le-mul-right, le-trans, pow-suc, add-zero, zero-mul, one-mul}
-use lib.ListN.{length, getD, drop}
-use lib.Seq.{getD-drop}
+use native.Mathlib.Nat.{mul-le-mul-right, pow-suc, add-zero, zero-mul, one-mul, mul-one}
+use lib.ListN.{length, drop}
 use lib.Pow as Pow
-use lib.Pow.{high, pow-pos, pow-add, pow-mono, shl-lt}
+use lib.Pow.{high, pow-pos, pow-add, pow-mono}
 use lib.Bits.{bitXor, xor-zero-r, xor-shifted}
 use Rattle.bits.specs.Bits.{bit}
 use Rattle.bits.proofs.Numbers.{bit-lt}
 use Rattle.code.specs.Register.{low}
 use Rattle.remainder.specs.Parity.{rest}
 use Rattle.division_table.specs.Table.{place, powerRow, rowOf, Filled, Only, Apart, before, after}
-use Rattle.remainder.proofs.Words.{Words, low-lt, low-bit, words-drop}
+use Rattle.remainder.proofs.Words.{Words, low-lt}
 use Rattle.division_table.proofs.Rows.{only-apart}
-use Rattle.remainder.proofs.Parity.{xor-up, rest-xor, rest-zero, rest-one, rest-below, rest-same, rest-other}
+use Rattle.remainder.proofs.Parity.{xor-up, rest-xor, rest-zero, rest-one, rest-below, rest-double}
 
 -- a row lies within the table
 pub row-inside : (v u : ℕ) {n : ℕ} → v < 400 → 400 * u ≤ n → v * u + u ≤ n
@@ -58,30 +57,12 @@ place-row k v h =
 pub place-zero : (k : ℕ) → place (32 * k) ≡ 0
 place-zero k = ap place (sym (add-zero (32 * k))) ∙ place-row k 0 (omega arith) ∙ zero-mul (2 ^ (5 * k))
 
-pub place-below : (v : ℕ) → v < 400 → place v < 2 ^ 64
-unfolding place
-place-below v h = elim (decLt v 384) [
-  | yes l ↦
-      let a : v % 32 * 2 ^ (5 * (v / 32)) < 2 ^ (5 + 5 * (v / 32)) = shl-lt 5 (5 * (v / 32)) (omega arith) in
-      le-trans a (pow-mono {i = 5 + 5 * (v / 32)} {j = 64} (omega arith))
-  | no l ↦
-      let a : v % 32 * 2 ^ (5 * (v / 32)) < 2 ^ (4 + 5 * (v / 32)) = shl-lt 4 (5 * (v / 32)) (omega arith) in
-      le-trans a (pow-mono {i = 4 + 5 * (v / 32)} {j = 64} (omega arith))
-]
-
 pub power-size : (i : ℕ) → 2 ^ (i % 5) ≤ 16
 power-size i = pow-mono {i = i % 5} {j = 4} (omega arith)
 
 pub power-most : (i : ℕ) → i < 64 → powerRow i + 2 ^ (i % 5) ≤ 400
 unfolding powerRow
 power-most i h = elim (decLt i 60) [
-  | yes l ↦ let a = power-size i in omega arith
-  | no l ↦ let a : 2 ^ (i % 5) ≤ 2 ^ 3 = pow-mono {i = i % 5} {j = 3} (omega arith) in omega arith
-]
-
-pub power-less : (i : ℕ) → i < 64 → powerRow i < 399
-unfolding powerRow
-power-less i h = elim (decLt i 60) [
   | yes l ↦ let a = power-size i in omega arith
   | no l ↦ let a : 2 ^ (i % 5) ≤ 2 ^ 3 = pow-mono {i = i % 5} {j = 3} (omega arith) in omega arith
 ]
@@ -99,25 +80,6 @@ power-place i =
     let l = power-size i in
     let e : i % 5 + 5 * (i / 5) ≡ i = omega arith in
     place-row (i / 5) (2 ^ (i % 5)) (omega arith) ∙ sym (pow-add 2 (i % 5) (5 * (i / 5))) ∙ ap (λ n. 2 ^ n) e
-
-pub power-double : (i : ℕ) {from to : ℕ} → 0 < i → from ≡ powerRow (i - 1) → to ≡ powerRow i → place from * 2 ≡ place to
-power-double i h ef et =
-    let e : suc (i - 1) ≡ i = omega arith in
-    rw (ef, et, power-place (i - 1), power-place i) (sym (pow-suc 2 (i - 1)) ∙ ap (λ n. 2 ^ n) e)
-
-pub power-before : (i : ℕ) → 0 < i → powerRow (i - 1) < powerRow i
-unfolding powerRow
-power-before i h =
-    let a = power-size (i - 1) in
-    let p = pow-pos (i % 5) in
-    elim (ℕ-discrete (i % 5) 0) [
-      | yes z ↦ omega arith
-      | no z ↦
-          let e : i % 5 ≡ suc ((i - 1) % 5) = omega arith in
-          let q : 2 ^ (i % 5) ≡ 2 ^ ((i - 1) % 5) * 2 = ap (λ n. 2 ^ n) e ∙ pow-suc 2 ((i - 1) % 5) in
-          let r = pow-pos ((i - 1) % 5) in
-          omega arith
-    ]
 
 power-sum : (i v : ℕ) → v < 2 ^ (i % 5) → place (powerRow i + v) ≡ bitXor (place (powerRow i)) (place (powerRow i - 2 ^ (i % 5) + v))
 unfolding powerRow
@@ -147,13 +109,6 @@ digit-later i h z =
     let e : i % 5 ≡ suc ((i - 1) % 5) = omega arith in
     let q : 2 ^ (i % 5) ≡ 2 ^ ((i - 1) % 5) * 2 = ap (λ n. 2 ^ n) e ∙ pow-suc 2 ((i - 1) % 5) in
     omega arith
-
-pub row-lt : (u g n v : ℕ) {words : List ℕ} → Filled u g n words → v < n → v < 400 → rowOf u words v < 2 ^ (64 * u)
-row-lt u g n v filled h l =
-    let s = filled .some in
-    let b = place-below v l in
-    let m : 2 ^ 64 ≤ 2 ^ (64 * u) = pow-mono {i = 64} {j = 64 * u} (omega arith) in
-    rw (filled .rows v h) (rest-below (64 * u) g (omega arith) (filled .monic) (place v) (omega arith))
 
 -- One more row.
 next-filled : (u g n : ℕ) {words end : List ℕ} → Filled u g n words → length end ≡ length words → rowOf u end n ≡ rest (64 * u) g (place n) → Only (n * u) u words end → Filled u g (n + 1) end
@@ -189,87 +144,19 @@ zero-filled u g n {words} {end} filled h z el er ex o eb =
     let y : low (drop (n * u) end) u ≡ rest (64 * u) g (place n) = ex ∙ rw (er, f0, z) (sym (rest-zero (64 * u) g)) in
     rw eb (next-filled u g n filled el y o)
 
--- The row `to` of the double of the number of row `from`.
-module _ (u g from to : ℕ) (words : List ℕ) (filled : Filled u g to words) (less : from < to) (most : to < 399) (twice : place from * 2 ≡ place to) where
-  pub pair-inside : (a : ℕ) → a < 400 → a * u + u ≤ length words
-  pair-inside a h = row-inside a u h (filled .size)
-
-  pub pair-word : (64 * u - 1) / 64 < u
-  pair-word = let s = filled .some in omega arith
-
-  row-from : low (drop (from * u) words) u ≡ rest (64 * u) g (place from)
-  unfolding rowOf
-  row-from = filled .rows from less
-
-  -- c is the highest digit of row `from`
-  module _ (hw : Words words) {c : ℕ} (ec : c ≡ bit (getD words (from * u + (64 * u - 1) / 64) 0) ((64 * u - 1) % 64)) where
-    pub pair-digit : c < 2
-    pair-digit = rw ec (bit-lt _ ((64 * u - 1) % 64))
-
-    pair-bit : c ≡ bit (rest (64 * u) g (place from)) (64 * u - 1)
-    pair-bit =
-        let s = filled .some in
-        ec ∙ ap (λ n. bit n ((64 * u - 1) % 64)) (sym (getD-drop (from * u) words ((64 * u - 1) / 64) 0))
-        ∙ sym (low-bit (drop (from * u) words) (words-drop words hw (from * u)) u (64 * u - 1) (omega arith)) ∙ ap (λ n. bit n (64 * u - 1)) row-from
-
-    pub pair-after : from * u + u ≤ (to + c) * u
-    pair-after = let m : suc from * u ≤ (to + c) * u = mul-le-mul-right u (omega arith) in omega arith
-
-    pub pair-apart : Apart ((to + c) * u) ((to + (1 - c)) * u) u
-    pair-apart = let l = pair-digit in rows-apart (to + c) (to + (1 - c)) u (λ z. omega arith)
-
-    pub pair-filled : (divisor : List ℕ) {mid end : List ℕ} → length end ≡ length words → low divisor u ≡ g % 2 ^ (64 * u)
-        → low (drop ((to + c) * u) mid) u ≡ low (drop (from * u) words) u * 2 % 2 ^ (64 * u) → Only ((to + c) * u) u words mid
-        → low (drop ((to + (1 - c)) * u) end) u ≡ bitXor (low divisor u) (low (drop ((to + c) * u) mid) u) → Only ((to + (1 - c)) * u) u mid end
-        → Filled u g (to + 1) end
-    unfolding rowOf
-    pair-filled divisor {mid} {end} n eg e1 o1 e2 o2 = record {
-      some = filled .some;
-      room = filled .room;
-      size = rw n (filled .size);
-      monic = filled .monic;
-      rows = row;
-    }
-      where
-        x : ℕ
-        x = low (drop ((to + c) * u) mid) u
-
-        positive : 0 < 64 * u
-        positive = let s = filled .some in omega arith
-
-        short : place from * 2 < 2 ^ (64 * u)
-        short =
-            let s = filled .some in
-            let b = place-below to (omega arith) in
-            let m : 2 ^ 64 ≤ 2 ^ (64 * u) = pow-mono {i = 64} {j = 64 * u} (omega arith) in
-            omega arith
-
-        ex : x ≡ rest (64 * u) g (place from) * 2 % 2 ^ (64 * u)
-        ex = e1 ∙ ap (λ y. y * 2 % 2 ^ (64 * u)) row-from
-
-        last : rowOf u end to ≡ rest (64 * u) g (place to)
-        last =
-            let l = pair-digit in
-            elim (ℕ-discrete c 0) [
-              | yes z ↦
-                  let p : to + c ≡ to = omega arith in
-                  let q : place from * 2 + c ≡ place to = omega arith in
-                  ap (rowOf u end) (sym p) ∙ row-kept u (to + c) (to + (1 - c)) (λ y. omega arith) o2
-                  ∙ sym (rest-same (64 * u) g positive (filled .monic) (place from) short pair-bit ex) ∙ ap (rest (64 * u) g) q
-              | no z ↦
-                  let p : to + (1 - c) ≡ to = omega arith in
-                  let q : place from * 2 + (1 - c) ≡ place to = omega arith in
-                  ap (rowOf u end) (sym p) ∙ e2 ∙ ap (λ y. bitXor y x) eg
-                  ∙ sym (rest-other (64 * u) g positive (filled .monic) (place from) short pair-bit ex) ∙ ap (rest (64 * u) g) q
-            ]
-
-        row : (a : ℕ) → a < to + 1 → rowOf u end a ≡ rest (64 * u) g (place a)
-        row a h =
-            let l = pair-digit in
-            elim (ℕ-discrete a to) [
-              | yes e ↦ rw e last
-              | no e ↦ row-kept u a (to + (1 - c)) (λ y. omega arith) o2 ∙ row-kept u a (to + c) (λ y. omega arith) o1 ∙ filled .rows a (omega arith)
-            ]
+-- The remainder of twice a number: c is the highest digit of that of the number, r.
+pub double-filled : (u g n : ℕ) {words : List ℕ} → Filled u g n words → 1 < n → (v : ℕ) → v * 2 < 2 ^ 64 → {r c x y : ℕ} → r ≡ rest (64 * u) g v → c ≡ bit r (64 * u - 1)
+    → x ≡ (r * 2 + 0) % 2 ^ (64 * u) → y ≡ bitXor (low (drop (c * u) words) u) x → y ≡ rest (64 * u) g (v * 2)
+unfolding rowOf
+double-filled u g n {words} filled some v hv {r} {c} {x} er ec ex ey =
+    let s = filled .some in
+    let m : 2 ^ 64 ≤ 2 ^ (64 * u) = pow-mono {i = 64} {j = 64 * u} (omega arith) in
+    let hc : c < 2 = rw ec (bit-lt r (64 * u - 1)) in
+    let z : 32 * 0 + c ≡ c = omega arith in
+    let p : place c ≡ c = ap place (sym z) ∙ place-row 0 c (omega arith) ∙ mul-one c in
+    let w : low (drop (c * u) words) u ≡ rest (64 * u) g c = filled .rows c (omega arith) ∙ ap (rest (64 * u) g) p in
+    let q : x ≡ rest (64 * u) g v * 2 % 2 ^ (64 * u) = ex ∙ ap (λ y. y % 2 ^ (64 * u)) (add-zero (r * 2) ∙ ap (λ y. y * 2) er) in
+    ey ∙ ap (λ y. bitXor y x) w ∙ sym (rest-double (64 * u) g (omega arith) (filled .monic) v (omega arith) (ec ∙ ap (λ y. bit y (64 * u - 1)) er) q)
 
 -- The first two rows: zero, and the divisor.
 pub start-filled : (u : ℕ) (divisor : List ℕ) {mid end : List ℕ} → Words divisor → 0 < u → u ≤ 14 → 400 * u ≤ length end
@@ -293,3 +180,21 @@ start-filled u divisor {mid} {end} hw some room size e0 e1 o = record { some = s
     row zero h = rw (zero-mul, rest-zero (64 * u) g) first
     row (suc zero) h = rw (one-mul, rest-one (64 * u) g (omega arith) monic, divisor-rest u (low divisor u) (low-lt divisor hw u)) second
     row (suc (suc v)) h = absurd (omega arith)
+
+-- The row that is doubled: that of 1 first.
+pub first-row : (u g : ℕ) {words : List ℕ} → Filled u g 2 words → {r z : ℕ} → z ≡ 0 → r ≡ bitXor (low (drop u words) u) z → r ≡ rest (64 * u) g 1
+unfolding rowOf place
+first-row u g {words} filled ez er = er ∙ rw ez (xor-zero-r (low (drop u words) u)) ∙ (rw (one-mul u) at (filled .rows 1 (omega arith)))
+
+pub power-below : (i : ℕ) → i < 64 → 2 ^ i < 2 ^ 64
+power-below i h = let b : 2 ^ i ≤ 2 ^ 63 = pow-mono {i = i} {j = 63} (omega arith) in omega arith
+
+pub power-next : (i : ℕ) → 0 < i → 2 ^ (i - 1) * 2 ≡ 2 ^ i
+power-next i h = let e : i ≡ suc (i - 1) = omega arith in sym (ap (λ n. 2 ^ n) e ∙ pow-suc 2 (i - 1))
+
+pub power-lt : (u g n i : ℕ) {words : List ℕ} → Filled u g n words → i < 64 → {r : ℕ} → r ≡ rest (64 * u) g (2 ^ i) → r < 2 ^ (64 * u)
+power-lt u g n i filled h er =
+    let s = filled .some in
+    let b = power-below i h in
+    let m : 2 ^ 64 ≤ 2 ^ (64 * u) = pow-mono {i = 64} {j = 64 * u} (omega arith) in
+    rw er (rest-below (64 * u) g (omega arith) (filled .monic) (2 ^ i) (omega arith))

@@ -1,27 +1,28 @@
 // The rows of a table, made one after the other: those of the powers of 2 by doubling, the others as sums.
 ghost use mathlib.Core.Path.{_≡_};
-ghost use Prim.Native.Nat.{_+_, _-_, _*_, _%_, _^_, _≤_, _<_};
+ghost use Prim.Native.Nat.{ℕ, _+_, _-_, _*_, _%_, _^_, _≤_, _<_};
 ghost use lib.ListN.{length};
 ghost use Rattle.code.specs.Register.{low, register};
-ghost use Rattle.division_table.specs.Table.{place, powerRow, Filled};
-use crate::row::add_row;
+ghost use Rattle.remainder.specs.Parity.{rest};
+ghost use Rattle.division_table.specs.Table.{powerRow, Filled};
+use crate::row::add_words;
 use crate::row::clear_row;
-use crate::row::double_row;
-use crate::row::row_digit;
-use crate::row::row_of;
+use remainder::Register;
+use remainder::add::row_added;
+use remainder::coefficients::coefficient;
+use remainder::coefficients::zero;
+use remainder::shift::pushed;
 
-// One row more, the row `to`: the double of row `from`, less the divisor where a digit leaves it. The highest digit of row `from` says
-// which of the rows `to` and `to + 1` is the plain double; the other one is that plus the divisor. What is in row `to + 1` does not matter.
-fn double_next(table: &mut [u64], divisor: [u64; 14], used: usize, from: usize, to: usize)
-    requires { ⌜ (Filled used (2 ^ (64 * used) + low divisor used) to (now table)) × (from < to) × (to < 399) × (place from * 2 ≡ place to) ⌝ }
-    ensures { λ r. ⌜ Filled used (2 ^ (64 * used) + low divisor used) (to + 1) (now (table .exit)) ⌝ }
+// The remainder of twice a number from that of the number: the double, plus the divisor where a digit leaves it. The divisor is row 1 of
+// the table and row 0 is zero, so the digit is the number of the row that is added.
+fn doubled(table: &[u64], row: Register, used: usize) -> Register
+    requires { ⌜ (0 < used) × (used ≤ 14) × (400 * used ≤ length (now table)) × (register (row .words) < 2 ^ (64 * used)) ⌝ }
+    ensures { λ r. ⌜ ((g n v : ℕ) → Filled used g n (now (table .entry)) → 1 < n → v * 2 < 2 ^ 64 → register (row .words) ≡ rest (64 * used) g v
+        → register (r .words) ≡ rest (64 * used) g (v * 2)) ⌝ }
 {
-    let start = from * used;
-    let one = row_digit(table, start, 64 * used - 1);
-    let plain = (to + one) * used;
-    double_row(table, start, plain, used);
-    let other = (to + (1 - one)) * used;
-    add_row(table, divisor, plain, other, used);
+    let one = coefficient(row, 64 * used - 1) as usize;
+    let next = pushed(row, used, 1, 0);
+    row_added(next, table, one * used, used)
 }
 
 // The row of 2^i.
@@ -32,19 +33,17 @@ fn power_row(i: usize) -> usize
     32 * (i / 5) + (1usize << (i % 5))
 }
 
-// The row of 2^i from that of 2^(i - 1), and its sums with the rows before it in the same digit.
-fn fill_power(table: &mut [u64], divisor: [u64; 14], used: usize, i: usize)
-    requires { ⌜ (Filled used (2 ^ (64 * used) + low divisor used) (powerRow i) (now table)) × (0 < i) × (i < 64) ⌝ }
-    ensures { λ r. ⌜ Filled used (2 ^ (64 * used) + low divisor used) (powerRow i + 2 ^ (i % 5)) (now (table .exit)) ⌝ }
+// The row of 2^i, which is `row`, and its sums with the rows before it in the same digit: the first of these is zero.
+fn add_rows(table: &mut [u64], row: [u64; 14], used: usize, i: usize)
+    requires { ⌜ (used ≤ 14) × (400 * used ≤ length (now table)) × (i < 64) ⌝ }
+    ensures { λ r. ⌜ ((g : ℕ) → Filled used g (powerRow i) (now (table .entry)) → low row used ≡ rest (64 * used) g (2 ^ i)
+        → Filled used g (powerRow i + 2 ^ (i % 5)) (now (table .exit))) ⌝ }
 {
-    let from = power_row(i - 1);
     let high = power_row(i);
     let size = 1usize << (i % 5);
-    double_next(table, divisor, used, from, high);
-    let row = row_of(table, used, high);
-    let mut v = 1;
+    let mut v = 0;
     while v < size {
-        add_row(
+        add_words(
             table,
             row,
             (high - size + v) * used,
@@ -55,6 +54,36 @@ fn fill_power(table: &mut [u64], divisor: [u64; 14], used: usize, i: usize)
     }
 }
 
+// Both with the numbers of words in use written out: the loops over words are then unrolled.
+
+fn doubled_fixed(table: &[u64], row: Register, used: usize) -> Register
+    requires { ⌜ (0 < used) × (used ≤ 14) × (400 * used ≤ length (now table)) × (register (row .words) < 2 ^ (64 * used)) ⌝ }
+    ensures { λ r. ⌜ ((g n v : ℕ) → Filled used g n (now (table .entry)) → 1 < n → v * 2 < 2 ^ 64 → register (row .words) ≡ rest (64 * used) g v
+        → register (r .words) ≡ rest (64 * used) g (v * 2)) ⌝ }
+{
+    if used == 4 {
+        return doubled(table, row, 4);
+    }
+    if used == 9 {
+        return doubled(table, row, 9);
+    }
+    doubled(table, row, used)
+}
+
+fn add_rows_fixed(table: &mut [u64], row: [u64; 14], used: usize, i: usize)
+    requires { ⌜ (used ≤ 14) × (400 * used ≤ length (now table)) × (i < 64) ⌝ }
+    ensures { λ r. ⌜ ((g : ℕ) → Filled used g (powerRow i) (now (table .entry)) → low row used ≡ rest (64 * used) g (2 ^ i)
+        → Filled used g (powerRow i + 2 ^ (i % 5)) (now (table .exit))) ⌝ }
+{
+    if used == 4 {
+        add_rows(table, row, 4, i);
+    } else if used == 9 {
+        add_rows(table, row, 9, i);
+    } else {
+        add_rows(table, row, used, i);
+    }
+}
+
 // Row 0 of a digit, before its other rows: zero.
 fn start_digit(table: &mut [u64], divisor: [u64; 14], used: usize, i: usize)
     requires { ⌜ (Filled used (2 ^ (64 * used) + low divisor used) (powerRow (i - 1) + 2 ^ ((i - 1) % 5)) (now table)) × (0 < i) × (i < 64) ⌝ }
@@ -62,7 +91,7 @@ fn start_digit(table: &mut [u64], divisor: [u64; 14], used: usize, i: usize)
 {
     if i % 5 == 0 {
         let row = [0u64; 14];
-        add_row(table, row, 0, 32 * (i / 5) * used, used);
+        add_words(table, row, 0, 32 * (i / 5) * used, used);
     }
 }
 
@@ -72,11 +101,14 @@ fn fill(table: &mut [u64], divisor: [u64; 14], used: usize)
     ensures { λ r. ⌜ Filled used (2 ^ (64 * used) + low divisor used) 400 (now (table .exit)) ⌝ }
 {
     clear_row(table, used);
-    add_row(table, divisor, 0, used, used);
+    add_words(table, divisor, 0, used, used);
+    let mut row = row_added(zero(), table, used, used);
     let mut i = 1;
     while i < 64 {
+        row = doubled_fixed(table, row, used);
         start_digit(table, divisor, used, i);
-        fill_power(table, divisor, used, i);
+        let words = row.words;
+        add_rows_fixed(table, words, used, i);
         i += 1;
     }
 }

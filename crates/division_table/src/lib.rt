@@ -7,7 +7,7 @@
 // remainder of the number that has that digit and zeros elsewhere, moved up to the degree. The remainder of the number is the sum of 13
 // rows, none of which waits for another. The generator is moved up to fill four or nine words: no place in a word then depends on the level.
 //
-//   row     rows of words in a slice: cleared, doubled, added
+//   row     rows of words in a slice: cleared, added
 //   fill    the rows of the powers of 2 by doubling, the others as sums
 //
 // What a table is stands in specs/Table.antt; proofs/ has the laws: Rows (rows of words), Filling (the table while it is made), Level (the

@@ -13,7 +13,7 @@ use lib.Pow.{pow-pos, pow-add, split, shl-shr, shr-lt, mod-pow-add}
 use lib.Bits.{bitXor, xor-block, xor-shr, xor-zero-l, xor-zero-r, xor-shifted, xor-self, xor-comm, xor-lt}
 use Rattle.bits.specs.Bits.{bit, digit, number, digits}
 use Rattle.bits.proofs.Numbers.{digit-lt, bit-lt, bit-shift, number-lt, number-digits, digits-length}
-use Rattle.field.proofs.Xor.{xor-assoc, xor-swap, xor-cancel, xor-double, scale-xor, digit-le}
+use Rattle.field.proofs.Xor.{xor-assoc, xor-swap, xor-double, scale-xor, digit-le}
 use Rattle.code.specs.Word.{Word}
 use Rattle.code.specs.Generator.{remainderStep}
 use Rattle.remainder.specs.Remainder.{remainderFrom}
@@ -240,30 +240,13 @@ module _ (d g : ℕ) where
       rest-digit (suc zero) h = rest-one ∙ sym (one-mul (g % 2 ^ d))
       rest-digit (suc (suc a)) h = absurd (omega arith)
 
-      -- two from one
-      module _ (v : ℕ) (hv : v * 2 < 2 ^ d) {c x : ℕ} (ec : c ≡ bit (rest d g v) (d - 1)) (ex : x ≡ rest d g v * 2 % 2 ^ d) where
-        rest-double : rest d g (v * 2) ≡ bitXor (c * (g % 2 ^ d)) x
-        unfolding rest remainderFrom digit
-        rest-double =
-            let s : remainderStep d g v false ≡ v * 2 = remainderStep-short d g v false (omega arith) ∙ add-zero (v * 2) in
-            ap (λ y. remainderFrom d g y (replicate d false)) (sym s) ∙ from-last v d ∙ step-double (rest d g v) (rest-below v (omega arith)) ec ex
-
-        rest-next : (a : ℕ) → a < 2 → rest d g (v * 2 + a) ≡ bitXor (bitXor (c * (g % 2 ^ d)) x) (a * (g % 2 ^ d))
-        rest-next a h = ap (rest d g) (sym (xor-shifted v 1 a h)) ∙ rest-xor (v * 2) a ∙ ap₂ bitXor rest-double (rest-digit a h)
-
-        leaves : c < 2
-        leaves = rw ec (bit-lt (rest d g v) (d - 1))
-
-        pub rest-same : rest d g (v * 2 + c) ≡ x
-        rest-same = rest-next c leaves ∙ xor-comm (bitXor (c * (g % 2 ^ d)) x) (c * (g % 2 ^ d)) ∙ xor-cancel (c * (g % 2 ^ d)) x
-
-        pub rest-other : rest d g (v * 2 + (1 - c)) ≡ bitXor (g % 2 ^ d) x
-        rest-other = rest-next (1 - c) (omega arith) ∙ all c (g % 2 ^ d) leaves
-          where
-            all : (c G : ℕ) → c < 2 → bitXor (bitXor (c * G) x) ((1 - c) * G) ≡ bitXor G x
-            all zero G h = rw (zero-mul G, xor-zero-l x, one-mul G) (xor-comm x G)
-            all (suc zero) G h = rw (one-mul G, zero-mul G) (xor-zero-r (bitXor G x))
-            all (suc (suc c)) G h = absurd (omega arith)
+      -- twice a number: c is the highest digit of its remainder, and x is what a doubling leaves
+      pub rest-double : (v : ℕ) → v * 2 < 2 ^ d → {c x : ℕ} → c ≡ bit (rest d g v) (d - 1) → x ≡ rest d g v * 2 % 2 ^ d → rest d g (v * 2) ≡ bitXor (rest d g c) x
+      unfolding rest remainderFrom digit
+      rest-double v hv {c} {x} ec ex =
+          let s : remainderStep d g v false ≡ v * 2 = remainderStep-short d g v false (omega arith) ∙ add-zero (v * 2) in
+          ap (λ y. remainderFrom d g y (replicate d false)) (sym s) ∙ from-last v d ∙ step-double (rest d g v) (rest-below v (omega arith)) ec ex
+          ∙ ap (λ y. bitXor y x) (sym (rest-digit c (rw ec (bit-lt (rest d g v) (d - 1)))))
 
 -- the same division with the divisor and the remainders moved up by k digits
 module _ (k d g : ℕ) where

@@ -1,48 +1,71 @@
 use Prim.Native.Nat.{_≤_, _<_, _-_, _+_, _*_, _%_, _^_}
-use mathlib.Core.Path.{_≡_, _∙_}
+use mathlib.Core.Path.{_≡_, _∙_, sym, ap}
 use native.Mathlib.Omega.{arith}
 use borrow.Author.Needs.{needs}
 use lib.ListN.{length}
-use Rattle.code.specs.Register.{low}
+use lib.Pow.{pow-pos}
+use Rattle.code.specs.Register.{low, register}
+use Rattle.remainder.specs.Parity.{rest}
+use Rattle.remainder.proofs.Words.{register-short}
 use Rattle.division_table.specs.Table.{powerRow, Filled, before}
-use Rattle.division_table.proofs.Filling.{start-filled}
+use Rattle.division_table.proofs.Filling.{start-filled, first-row, power-below, power-next, power-lt}
 use Rattle.division_table.proofs.fill.fill.Statement.{statement}
 use Rattle.division_table.proofs.fill.fill.Tie as tie
 
 abbrev Inv-loop : tie.InvT-loop
-Inv-loop table₀ divisor used i₀ table i = (0 < i) × (i ≤ 64) × (length table ≡ length table₀) × Filled used (2 ^ (64 * used) + low divisor used) (powerRow (i - 1) + 2 ^ ((i - 1) % 5)) table
+Inv-loop table₀ divisor used row₀ i₀ table row i = (0 < i) × (i ≤ 64) × (length table ≡ length table₀) × Filled used (2 ^ (64 * used) + low divisor used) (powerRow (i - 1) + 2 ^ ((i - 1) % 5)) table
+    × (register (row .words) ≡ rest (64 * used) (2 ^ (64 * used) + low divisor used) (2 ^ (i - 1)))
 
 abbrev μ-loop : tie.MeasureT-loop
-μ-loop table₀ divisor used i₀ table i = 64 - i
+μ-loop table₀ divisor used row₀ i₀ table row i = 64 - i
 
 clear-row-requires : tie.Need-clear-row-requires Inv-loop μ-loop
 clear-row-requires c κs = let p = c .before .before .pre in omega arith
 
-add-row-requires : tie.Need-add-row-requires Inv-loop μ-loop
-add-row-requires c κs =
+add-words-requires : tie.Need-add-words-requires Inv-loop μ-loop
+add-words-requires c κs =
     let p = c .before .before .before .before .before .before .pre in
     let k = c .before .before .before .clear-row .kept .0 in
     (p .1, omega arith, omega arith, before (omega arith))
 
+zero-requires : tie.Need-zero-requires Inv-loop μ-loop
+zero-requires c κs = search needs
+
+row-added-requires : tie.Need-row-added-requires Inv-loop μ-loop
+row-added-requires c κs =
+    let w = c .before .before .before .before in
+    let k = w .before .before .before .before in
+    let a = k .before .before .before in
+    let u = a .args .used in
+    let size : 400 * u ≤ length (w .add-words .last .0) = rw (w .add-words .kept .0, k .clear-row .kept .0) (a .pre .2) in
+    (a .pre .1, omega arith, rw (c .before .zero .ensures) (pow-pos (64 * u)))
+
 loop-holds : tie.Need-loop-holds Inv-loop μ-loop
 unfolding powerRow
 loop-holds c =
-    let q = c .before .before in
-    let m = q .before .before .before .before in
-    let a = m .before .before .before in
+    let z = c .before .before in
+    let w = z .before .before .before in
+    let k = w .before .before .before .before in
+    let a = k .before .before .before in
     let p = a .pre in
-    let size : 400 * a .args .used ≤ length (q .add-row .last .0) = rw (q .add-row .kept .0, m .clear-row .kept .0) (p .2) in (
-      search needs,
-      search needs,
-      search needs,
-      start-filled (a .args .used) (a .args .divisor) (λ k. search needs) (p .0) (p .1) size (m .clear-row .ensures) (q .add-row .ensures .0) (q .add-row .ensures .1),
-    )
+    let u = a .args .used in
+    let size : 400 * u ≤ length (w .add-words .last .0) = rw (w .add-words .kept .0, k .clear-row .kept .0) (p .2) in
+    let filled = start-filled u (a .args .divisor) (λ n. search needs) (p .0) (p .1) size (k .clear-row .ensures) (w .add-words .ensures .0) (w .add-words .ensures .1) in
+    (search needs, search needs, search needs, filled, first-row u _ filled (z .zero .ensures) (c .row-added .ensures))
+
+doubled-fixed-requires : tie.Need-doubled-fixed-requires Inv-loop μ-loop
+doubled-fixed-requires c κs =
+    let s = c .before .before .loop in
+    let f = s .inv .3 in
+    (f .some, f .room, f .size, power-lt _ _ _ (s .i - 1) f (omega arith) (s .inv .4))
 
 start-digit-requires : tie.Need-start-digit-requires Inv-loop μ-loop
 start-digit-requires c κs = search needs
 
-fill-power-requires : tie.Need-fill-power-requires Inv-loop μ-loop
-fill-power-requires c κs = search needs
+add-rows-fixed-requires : tie.Need-add-rows-fixed-requires Inv-loop μ-loop
+add-rows-fixed-requires c κs =
+    let f = c .before .before .before .before .start-digit .ensures in
+    (f .room, f .size, search needs)
 
 add-i : tie.Need-add-i Inv-loop μ-loop
 add-i c = search needs
@@ -52,10 +75,21 @@ loop-less c = search needs
 
 loop-again : tie.Need-loop-again Inv-loop μ-loop
 loop-again c =
-    let s = c .before .before .before .before .before .before .before .before .before .loop in
-    let r = c .before .before .fill-power in
+    let r = c .before .before in
+    let d = r .before .before .before .before .before in
+    let t = d .before .before in
+    let s = t .before .before .before .loop in
+    let u = t .before .before .before .before .before .before .before .before .before .before .before .before .before .before .before .before .args .used in
+    let ws = t .doubled-fixed .result .words in
+    let n = power-next (s .i) (s .inv .0) in
+    let m = pow-pos ((s .i - 1) % 5) in
+    let l = power-below (s .i) (omega arith) in
     let e : s .i + 1 - 1 ≡ s .i = omega arith in
-    (omega arith, omega arith, r .kept .0 ∙ c .before .before .before .before .before .before .start-digit .kept .0 ∙ s .inv .2, rw e (r .ensures))
+    let f = d .start-digit .ensures in
+    let x = t .doubled-fixed .ensures _ _ (2 ^ (s .i - 1)) (s .inv .3) (unfold powerRow in omega arith) (omega arith) (s .inv .4) ∙ ap (rest (64 * u) _) n in
+    let len : length ws ≡ 14 = search needs in
+    let low-is = sym (register-short ws u (let q = f .room in omega arith) (power-lt u _ _ (s .i) f (omega arith) x)) ∙ x in
+    (omega arith, omega arith, r .add-rows-fixed .kept .0 ∙ d .start-digit .kept .0 ∙ s .inv .2, rw e (r .add-rows-fixed .ensures _ f low-is), rw e x)
 
 same-length : tie.Need-same-length Inv-loop μ-loop
 same-length c = search needs
@@ -74,10 +108,13 @@ fill-spec =
     Inv-loop
     μ-loop
     clear-row-requires
-    add-row-requires
+    add-words-requires
+    zero-requires
+    row-added-requires
     loop-holds
+    doubled-fixed-requires
     start-digit-requires
-    fill-power-requires
+    add-rows-fixed-requires
     add-i
     loop-less
     loop-again

@@ -8,16 +8,16 @@ use Rattle.division_table.proofs.Filling.{row-inside, row-product, rows
 use Rattle.division_table.proofs.fill.start_digit.Statement.{statement}
 use Rattle.division_table.proofs.fill.start_digit.Tie as tie
 
-mul-add-row : tie.Need-mul-add-row
-mul-add-row c = search needs
+mul-add-words : tie.Need-mul-add-words
+mul-add-words c = search needs
 
-mul-add-row-2 : tie.Need-mul-add-row-2
-mul-add-row-2 c =
+mul-add-words-2 : tie.Need-mul-add-words-2
+mul-add-words-2 c =
     let a = c .before .before .before in
     record { fits = row-product (32 * (a .args .i / 5)) (a .args .used) (omega arith) (a .pre .0 .room) }
 
-add-row-requires : tie.Need-add-row-requires
-add-row-requires c κs =
+add-words-requires : tie.Need-add-words-requires
+add-words-requires c κs =
     let a = c .before .before .before in
     let u = a .args .used in
     let p = a .pre .0 in
@@ -34,7 +34,7 @@ returns c =
     let u = a .args .used in
     let z : a .args .i % 5 ≡ 0 = omega arith in
     let d = digit-first (a .args .i) (a .pre .1) z in
-    zero-filled u _ (32 * (a .args .i / 5)) (rw (d .0) at (a .pre .0)) (omega arith) (place-zero (a .args .i / 5)) (q .add-row .kept .0) (zeros-low 14 u) (q .add-row .ensures .0) (q .add-row .ensures .1) (d .1)
+    zero-filled u _ (32 * (a .args .i / 5)) (rw (d .0) at (a .pre .0)) (omega arith) (place-zero (a .args .i / 5)) (q .add-words .kept .0) (zeros-low 14 u) (q .add-words .ensures .0) (q .add-words .ensures .1) (d .1)
 
 returns-2 : tie.Need-returns-2
 returns-2 c =
@@ -42,4 +42,4 @@ returns-2 c =
     rw (digit-later (a .args .i) (a .pre .1) (λ z. omega arith)) at (a .pre .0)
 
 pub start-digit-spec : {M : Type 1} → statement M
-start-digit-spec = tie.close (tie.spec mul-add-row mul-add-row-2 add-row-requires same-length returns returns-2)
+start-digit-spec = tie.close (tie.spec mul-add-words mul-add-words-2 add-words-requires same-length returns returns-2)

@@ -1,0 +1,39 @@
+use native.Mathlib.Omega.{arith}
+use borrow.Author.Needs.{needs}
+use Rattle.division_table.proofs.fill.doubled_fixed.Statement.{statement}
+use Rattle.division_table.proofs.fill.doubled_fixed.Tie as tie
+
+doubled-requires : tie.Need-doubled-requires
+doubled-requires c κs =
+    let p = c .before .before .pre in
+    let e = c .if1 .taken in
+    (omega arith, omega arith, omega arith, rw e at (p .3))
+
+returns : tie.Need-returns
+returns c = rw (c .before .if1 .taken) (c .doubled .ensures)
+
+doubled-requires-2 : tie.Need-doubled-requires-2
+doubled-requires-2 c κs =
+    let p = c .before .before .before .pre in
+    let e = c .if2 .taken in
+    (omega arith, omega arith, omega arith, rw e at (p .3))
+
+returns-2 : tie.Need-returns-2
+returns-2 c = rw (c .before .if2 .taken) (c .doubled2 .ensures)
+
+doubled-requires-3 : tie.Need-doubled-requires-3
+doubled-requires-3 c κs = search needs
+
+returns-3 : tie.Need-returns-3
+returns-3 c = search needs
+
+pub doubled-fixed-spec : {M : Type 1} → statement M
+doubled-fixed-spec =
+    tie.close
+    (tie.spec
+    doubled-requires
+    returns
+    doubled-requires-2
+    returns-2
+    doubled-requires-3
+    returns-3)
