@@ -7,10 +7,15 @@ use replies::Refusal;
 use replies::refusal_number;
 use text::Number;
 
-fn flips(block: u64, n: u8) {
+// The count of a block: its corrected bits, or 128 plus its zeros where it is erased.
+fn count(block: u64, n: u8) {
     say::reply(0);
     say::fact(b"block ", block, b", ");
-    say::fact(b"corrected bits ", n as u64, b"\n");
+    if n < 128 {
+        say::fact(b"corrected bits ", n as u64, b"\n");
+    } else {
+        say::fact(b"erased, zeros ", (n - 128) as u64, b"\n");
+    }
 }
 
 fn refused(plan: Plan, page: usize, refusal: Refusal) {
@@ -24,7 +29,7 @@ fn refused(plan: Plan, page: usize, refusal: Refusal) {
 
 fn answer(record: &[u8], plan: Plan, page: &[u8], block: u64) {
     match page_judge::judge_block(record, page, block) {
-        JudgeAnswer::Flips(n) => flips(block, n),
+        JudgeAnswer::Flips(n) => count(block, n),
         JudgeAnswer::Refused(refusal) => refused(plan, page.len(), refusal),
     }
 }

@@ -1,6 +1,7 @@
 // A page that the tool reads: into buffers, and what its line says.
 //
 //   read_into    a page, read into the buffers' first bytes
+//   flips_of     the counts of a page, 0 where a block is erased
 //   corrected    the corrected bits of a page that was read
 //   ruined       the blocks of a page that was not, each judged for itself
 use layout::Plan;
@@ -30,8 +31,29 @@ pub fn read_into(
     )
 }
 
+// The corrected bits of a block by its count, which is 128 and more where the block is erased.
+fn flips(n: u8) -> u8 {
+    if n < 128 { n } else { 0 }
+}
+
+// The corrected bits of the blocks.
+pub fn flips_of(counts: &[u8; 256]) -> [u8; 256] {
+    let mut all = [0u8; 256];
+    let mut i: usize = 0;
+    while i < 256 {
+        all[i] = flips(counts[i]);
+        i += 1;
+    }
+    all
+}
+
+// A block in a list: its corrected bits, or that it is erased and how many of its bits are zeros.
 fn count(n: u8) {
-    say::fact(b" ", n as u64, b"");
+    if n < 128 {
+        say::fact(b" ", n as u64, b"");
+    } else {
+        say::fact(b" erased:", (n - 128) as u64, b"");
+    }
 }
 
 fn counts_of(counts: &[u8]) {
@@ -44,10 +66,11 @@ fn counts_of(counts: &[u8]) {
 
 // The corrected bits of a page that was read, in all and by block.
 pub fn corrected(plan: Plan, counts: &[u8; 256]) {
-    say::fact(b"corrected bits ", text::total(counts), b"");
+    let flips = flips_of(counts);
+    say::fact(b"corrected bits ", text::total(&flips), b"");
     say::fact(
         b", at most ",
-        text::largest(counts) as u64,
+        text::largest(&flips) as u64,
         b" in a block; by block",
     );
     counts_of(text::front(counts, plan.blocks as usize));
@@ -64,11 +87,11 @@ fn refused(refusal: Refusal) -> u64 {
     0
 }
 
-// One block in a list: its corrected bits, or that it is ruined. Says how many ruined blocks that is.
+// One block in a list: its count, or that it is ruined. Says how many ruined blocks that is.
 fn entry(answer: JudgeAnswer) -> u64 {
     match answer {
         JudgeAnswer::Flips(n) => {
-            say::fact(b" ", n as u64, b"");
+            count(n);
             0
         }
         JudgeAnswer::Refused(refusal) => refused(refusal),

@@ -56,7 +56,8 @@ fn page_number(totals: Totals) {
 
 // A page that was read, and whether the outputs took it. Its line is printed where bits were corrected.
 fn done(totals: Totals, plan: Plan, counts: &[u8; 256], kept: bool) -> Totals {
-    let flips = text::total(counts);
+    let by_block = page_lines::flips_of(counts);
+    let flips = text::total(&by_block);
     if 0 < flips {
         page_number(totals);
         say::reply(0);
@@ -66,7 +67,7 @@ fn done(totals: Totals, plan: Plan, counts: &[u8; 256], kept: bool) -> Totals {
         pages: text::plus(totals.pages, 1),
         read: text::plus(totals.read, 1),
         corrected: text::plus(totals.corrected, flips),
-        most: text::larger(totals.most, text::largest(counts)),
+        most: text::larger(totals.most, text::largest(&by_block)),
         ruined: totals.ruined,
         more: kept,
         failed: !kept,
