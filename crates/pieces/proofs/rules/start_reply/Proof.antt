@@ -3,8 +3,8 @@ use native.Mathlib.Omega.{arith}
 use Rattle.remainder.proofs.Fold.{parity-bits-below}
 use Rattle.pieces.proofs.Replies.{reply-level, reply-empty, reply-plain, reply-long, reply-right, longest-most}
 use borrow.Author.Needs.{needs}
-use Rattle.pieces.proofs.rules.block_reply.Statement.{statement}
-use Rattle.pieces.proofs.rules.block_reply.Tie as tie
+use Rattle.pieces.proofs.rules.start_reply.Statement.{statement}
+use Rattle.pieces.proofs.rules.start_reply.Tie as tie
 
 returns : tie.Need-returns
 returns c = reply-level _ _ _ (c .if1 .taken)
@@ -46,8 +46,8 @@ returns-5 c = reply-long _ _ _ (omega arith) (omega arith) (omega arith) (omega 
 returns-6 : tie.Need-returns-6
 returns-6 c = reply-right _ _ _ (omega arith) (omega arith) (omega arith) (omega (arith, c .before .parity-bits .ensures, c .before .before .before .longest .ensures))
 
-pub block-reply-spec : {M : Type 1} → statement M
-block-reply-spec =
+pub start-reply-spec : {M : Type 1} → statement M
+start-reply-spec =
     tie.close
     (tie.spec
     returns

@@ -1,5 +1,7 @@
-// The bits of a piece taken into the parity of the bits before them: a long piece through the kernel that pages are written by, a
-// short one bit by bit, since making the table takes longer.
+// The bits of a piece of a message taken into the parity of the bits before them (document 02, E4): a long piece through the kernel
+// that pages are written by, a short one bit by bit, since making the table takes longer.
+//
+//   carried    the parity of some bits and of the bits of a piece after them
 use division::bitwise::parity_by_bits;
 use division::runs::parity_more;
 use division_table::make_table;
@@ -13,7 +15,7 @@ ghost use Rattle.field.specs.Field.{degree};
 ghost use Rattle.code.specs.Generator.{generator};
 ghost use Rattle.code.specs.Register.{register};
 ghost use Rattle.remainder.specs.Parity.{parityFrom};
-ghost use Rattle.pieces.specs.State.{bitsOf, carried};
+ghost use Rattle.piece_parity.specs.Carried.{bitsOf, carried};
 
 // By the table of the level, which is made here.
 fn parity_by_table(f: Field, t: usize, state: Register, piece: &[u8], n: usize) -> Register

@@ -1,6 +1,6 @@
 use borrow.Author.Needs.{needs}
-use Rattle.pieces.proofs.carry.parity_by_table.Statement.{statement}
-use Rattle.pieces.proofs.carry.parity_by_table.Tie as tie
+use Rattle.piece_parity.proofs.parity_by_table.Statement.{statement}
+use Rattle.piece_parity.proofs.parity_by_table.Tie as tie
 
 slice-aggregate-make-table : tie.Need-slice-aggregate-make-table
 slice-aggregate-make-table c = search needs

@@ -1,9 +1,9 @@
 use native.Mathlib.Omega.{arith}
 use borrow.Author.Needs.{needs}
-use Rattle.pieces.specs.State.{bitsOf}
-use Rattle.pieces.proofs.Carrying.{carried-none, carried-more}
-use Rattle.pieces.proofs.carry.carried.Statement.{statement}
-use Rattle.pieces.proofs.carry.carried.Tie as tie
+use Rattle.piece_parity.specs.Carried.{bitsOf}
+use Rattle.piece_parity.proofs.Carrying.{carried-none, carried-more}
+use Rattle.piece_parity.proofs.carried.Statement.{statement}
+use Rattle.piece_parity.proofs.carried.Tie as tie
 
 returns : tie.Need-returns
 returns c = carried-none _ _ _ _ (omega arith) (c .before .before .pre .1)
