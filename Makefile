@@ -5,8 +5,9 @@
 # make boards-test  try these archives against the model, by qemu-user
 # make bench        time and count instructions beside lib/bch.c of the Linux kernel
 # make compare      compare parities and decoded words with lib/bch.c of the Linux kernel
+# make install      install header, archive, tool and manual page below PREFIX (/usr/local), which DESTDIR goes before
 # make generators   compare the stored generators with those that PARI/GP computes
-.PHONY: test demo lib boards boards-test bench compare generators
+.PHONY: test demo lib install boards boards-test bench compare generators
 
 test:
 	@scripts/test
@@ -31,3 +32,6 @@ compare:
 
 generators:
 	@scripts/compare-generators
+
+install:
+	@PREFIX='$(PREFIX)' DESTDIR='$(DESTDIR)' scripts/install

@@ -1,5 +1,5 @@
 /*
- * Reading and writing pages: this library and lib/bch.c of the Linux kernel, built with -O2 and with -O3, side by side in one run.
+ * Writing pages, looking at them and taking them: this library and lib/bch.c of the Linux kernel, built with -O2 and with -O3, side by side in one run.
  *
  *   bench times      a line 'LAYOUT|ROW|OURS|O2|O3' for each row: microseconds of processor time of one page, the best of many short runs that the
  *                    three take in turn
@@ -8,7 +8,7 @@
  *
  * All work on warm buffers. A page of the kernel's is its blocks' data and parity bytes side by side, as a driver keeps them; it decodes each block from
  * data and parity and turns the found bits over, and where it finds no codeword it counts the zeros of the block, as its drivers do for erased flash.
- * Flips are placed by a seeded generator.
+ * Looking at a page and taking it each stand beside one such decoding of the whole page. Flips are placed by a seeded generator.
  */
 #include <stdbool.h>
 #include <stdint.h>
@@ -33,6 +33,8 @@ enum { MAX_PAGE = 8192, MAX_BLOCKS = 256, MAX_ECC = 128, BUILDS = 2, SIDES = 1 +
 			       const unsigned *syn, unsigned *errloc);
 BUILD(O2)
 BUILD(O3)
+
+enum call { WRITE, LOOK, TAKE };
 
 struct build {
 	struct bch_control *(*init)(int, int, unsigned, bool);
@@ -113,9 +115,14 @@ static void write_kernel(struct bench *b, unsigned build)
 	memcpy(b->kernel_clean, b->data, data_length(b));
 }
 
-static uint64_t read_ours(struct bench *b)
+static uint64_t look_ours(struct bench *b)
 {
-	return rudderfig_read_page(b->l.record, 8, b->page, b->l.page_bytes, NULL, 0, b->out, data_length(b), b->counts, b->l.blocks);
+	return rudderfig_look_page(b->l.record, 8, b->page, b->l.page_bytes, b->counts, b->l.blocks);
+}
+
+static uint64_t take_ours(struct bench *b)
+{
+	return rudderfig_take_page(b->l.record, 8, b->page, b->l.page_bytes, NULL, 0, b->out, data_length(b));
 }
 
 /* The zeros of some bytes, eight bytes at a time. Words of ones are passed over, and the count stops above `most`, as in the kernel's drivers. */
@@ -157,21 +164,26 @@ static int decode_kernel(struct bench *b, unsigned build, unsigned i, uint8_t *b
 	return found;
 }
 
-/* The flips of the worst block, or a negative number where one cannot be read. */
-static int read_kernel(struct bench *b, unsigned build)
+/*
+ * The flips of the worst block, or a negative number where one cannot be read: beside a take the decoding ends there, and beside a look, which counts
+ * every block, it goes on.
+ */
+static int read_kernel(struct bench *b, unsigned build, enum call call)
 {
-	int worst = 0;
+	int worst = 0, failed = 0;
 
 	memcpy(b->kernel_out, b->kernel_data, data_length(b));
 	for (unsigned i = 0; i < b->l.blocks; i++) {
 		int found = decode_kernel(b, build, i, b->kernel_out + i * b->l.data_bytes);
 
-		if (found < 0)
+		if (found < 0 && call == TAKE)
 			return found;
+		if (found < 0)
+			failed = found;
 		if (found > worst)
 			worst = found;
 	}
-	return worst;
+	return failed < 0 ? failed : worst;
 }
 
 static void unharmed(struct bench *b)
@@ -219,37 +231,45 @@ static void erase(struct bench *b, unsigned zeros)
 /* Every block must come back on all sides, the counts adding up to `sum` and the worst being `worst`. */
 static void check(struct bench *b, const uint8_t *data, unsigned sum, unsigned worst)
 {
-	if (rudderfig_reply(read_ours(b)) != 0 || memcmp(b->out, data, data_length(b)) != 0)
-		fail("a page did not read back");
+	if (rudderfig_reply(look_ours(b)) != RUDDERFIG_DONE)
+		fail("a page was refused");
 	for (unsigned i = 0; i < b->l.blocks; i++)
 		sum -= b->counts[i];
 	if (sum != 0)
 		fail("a count is wrong");
+	if (rudderfig_reply(take_ours(b)) != RUDDERFIG_DONE || memcmp(b->out, data, data_length(b)) != 0)
+		fail("a page did not read back");
 	for (unsigned build = 0; build < BUILDS; build++)
-		if (read_kernel(b, build) != (int)worst || memcmp(b->kernel_out, data, data_length(b)) != 0)
+		if (read_kernel(b, build, TAKE) != (int)worst || memcmp(b->kernel_out, data, data_length(b)) != 0)
 			fail("the kernel's page did not read back");
 }
 
+/* Every block must be ruined on all sides. */
 static void check_ruined(struct bench *b)
 {
-	if (rudderfig_reply(read_ours(b)) != 9)
+	if (rudderfig_reply(look_ours(b)) != RUDDERFIG_UNCORRECTABLE || rudderfig_reply(take_ours(b)) != RUDDERFIG_UNCORRECTABLE)
 		fail("a ruined page was read");
+	for (unsigned i = 0; i < b->l.blocks; i++)
+		if (!rudderfig_is_ruined(b->counts[i]))
+			fail("a block of a ruined page was read");
 	for (unsigned build = 0; build < BUILDS; build++)
-		if (read_kernel(b, build) >= 0)
+		if (read_kernel(b, build, LOOK) >= 0 || read_kernel(b, build, TAKE) >= 0)
 			fail("a ruined page was read by the kernel");
 }
 
 /* Side 0 is ours, the others are the builds of the kernel's. */
-static void once(struct bench *b, bool writes, unsigned side)
+static void once(struct bench *b, enum call call, unsigned side)
 {
-	if (side == 0 && writes)
+	if (side == 0 && call == WRITE)
 		write_ours(b);
+	else if (side == 0 && call == LOOK)
+		look_ours(b);
 	else if (side == 0)
-		read_ours(b);
-	else if (writes)
+		take_ours(b);
+	else if (call == WRITE)
 		write_kernel(b, side - 1);
 	else
-		read_kernel(b, side - 1);
+		read_kernel(b, side - 1, call);
 }
 
 /* Microseconds of processor time, so that other work on the machine counts as little as can be. */
@@ -261,20 +281,20 @@ static double now(void)
 	return t.tv_sec * 1e6 + t.tv_nsec / 1e3;
 }
 
-static double run(struct bench *b, bool writes, unsigned side)
+static double run(struct bench *b, enum call call, unsigned side)
 {
 	double start = now(), spent;
 	unsigned n = 0;
 
 	do {
-		once(b, writes, side);
+		once(b, call, side);
 		n++;
 		spent = now() - start;
 	} while (spent < RUN_MICROSECONDS);
 	return spent / n;
 }
 
-static void time_row(struct bench *b, const char *what, bool writes)
+static void time_row(struct bench *b, const char *what, enum call call)
 {
 	double best[SIDES];
 
@@ -282,7 +302,7 @@ static void time_row(struct bench *b, const char *what, bool writes)
 		best[side] = 1e18;
 	for (unsigned i = 0; i < RUNS; i++)
 		for (unsigned side = 0; side < SIDES; side++) {
-			double took = run(b, writes, side);
+			double took = run(b, call, side);
 
 			if (took < best[side])
 				best[side] = took;
@@ -292,54 +312,72 @@ static void time_row(struct bench *b, const char *what, bool writes)
 }
 
 /* One page of each side between callgrind's marks. */
-static void count_row(struct bench *b, const char *what, bool writes)
+static void count_row(struct bench *b, const char *what, enum call call)
 {
 	char label[96];
 
 	for (unsigned side = 0; side < SIDES; side++) {
-		once(b, writes, side);
+		once(b, call, side);
 		snprintf(label, sizeof label, "%s|%s|%s", b->l.name, what, side_names[side]);
 		CALLGRIND_ZERO_STATS;
-		once(b, writes, side);
+		once(b, call, side);
 		CALLGRIND_DUMP_STATS_AT(label);
 	}
 }
 
-static void row(struct bench *b, const char *what, bool writes, bool counting)
+static void row(struct bench *b, const char *what, enum call call, bool counting)
 {
 	if (counting)
-		count_row(b, what, writes);
+		count_row(b, what, call);
 	else
-		time_row(b, what, writes);
+		time_row(b, what, call);
 }
 
-static void read_row(struct bench *b, unsigned flips, bool counting)
+/* A page looked at, and taken. */
+static void read_rows(struct bench *b, const char *page, bool counting)
 {
-	char what[32];
+	char what[64];
+
+	snprintf(what, sizeof what, "look, %s", page);
+	row(b, what, LOOK, counting);
+	snprintf(what, sizeof what, "take, %s", page);
+	row(b, what, TAKE, counting);
+}
+
+static void damaged_rows(struct bench *b, unsigned flips, bool counting)
+{
+	char page[32];
 
 	damage(b, flips);
 	check(b, b->data, b->l.blocks * flips, flips);
-	snprintf(what, sizeof what, flips == 0 ? "read, clean" : flips == 1 ? "read, 1 flip a block" : "read, %u flips a block", flips);
-	row(b, what, false, counting);
+	snprintf(page, sizeof page, flips == 0 ? "clean" : flips == 1 ? "1 flip a block" : "%u flips a block", flips);
+	read_rows(b, page, counting);
 }
 
 /* The commonest damage: one flip in one block. */
-static void single_row(struct bench *b, bool counting)
+static void single_rows(struct bench *b, bool counting)
 {
 	unharmed(b);
 	damage_block(b, b->l.blocks / 2, 1);
 	check(b, b->data, 1, 1);
-	row(b, "read, 1 flip in all", false, counting);
+	read_rows(b, "1 flip in all", counting);
 }
 
-static void erased_row(struct bench *b, const char *what, unsigned zeros, bool counting)
+static void ruined_rows(struct bench *b, bool counting)
+{
+	damage(b, b->l.t + 5);
+	check_ruined(b);
+	read_rows(b, "every block ruined", counting);
+}
+
+static void erased_rows(struct bench *b, const char *page, unsigned zeros, bool counting)
 {
 	static uint8_t ones[MAX_PAGE];
 
 	memset(ones, 0xFF, sizeof ones);
 	erase(b, zeros);
 	check(b, ones, b->l.blocks * (128 + zeros), 128 + zeros);
-	row(b, what, false, counting);
+	read_rows(b, page, counting);
 }
 
 static void start(struct bench *b, struct layout l)
@@ -364,21 +402,19 @@ static void end(struct bench *b)
 		builds[build].release(b->control[build]);
 }
 
-static void bench_layout(struct layout l, const unsigned *flips, unsigned rows, bool counting)
+static void bench_layout(struct layout l, const unsigned *flips, unsigned sizes, bool counting)
 {
 	static struct bench b;
 
 	start(&b, l);
-	row(&b, "write", true, counting);
-	read_row(&b, 0, counting);
-	single_row(&b, counting);
-	for (unsigned i = 0; i < rows; i++)
-		read_row(&b, flips[i], counting);
-	damage(&b, l.t + 5);
-	check_ruined(&b);
-	row(&b, "read, first block ruined", false, counting);
-	erased_row(&b, "read, all ones", 0, counting);
-	erased_row(&b, "read, erased, 1 zero a block", 1, counting);
+	row(&b, "write", WRITE, counting);
+	damaged_rows(&b, 0, counting);
+	single_rows(&b, counting);
+	for (unsigned i = 0; i < sizes; i++)
+		damaged_rows(&b, flips[i], counting);
+	ruined_rows(&b, counting);
+	erased_rows(&b, "all ones", 0, counting);
+	erased_rows(&b, "erased, 1 zero a block", 1, counting);
 	end(&b);
 }
 
@@ -388,11 +424,11 @@ static void grow(const char *name, unsigned m, unsigned t, unsigned blocks, unsi
 	static struct bench b;
 
 	start(&b, make_layout(name, m, t, blocks, data_bytes));
-	row(&b, "write", true, true);
-	read_row(&b, 0, true);
+	row(&b, "write", WRITE, true);
+	damaged_rows(&b, 0, true);
 	damage(&b, flips);
 	check(&b, b.data, blocks * flips, flips);
-	row(&b, "read, damaged", false, true);
+	read_rows(&b, "damaged", true);
 	end(&b);
 }
 

@@ -4,9 +4,9 @@
  *   compare [SEED [PAGES]]    PAGES pages and as many remainders for each of the forty codes (m = 13, 14; t = 2, 4, .., 40)
  *
  * For each page: every block's parity, in the page and from its message in pieces, beside bch_encode's; then every block is damaged by 0 to t + 2
- * flips, and what rudderfig_judge_block, rudderfig_locate_errors and rudderfig_read_page answer stands beside bch_decode's. Then remainders alone:
- * random ones, and ones whose error places lie past the end of the word. lib/bch.c is linked twice: as the kernel builds it (bch_..), and with the
- * exhaustive root search that its authors keep for comparison (search_.., -DUSE_CHIEN_SEARCH).
+ * flips, and what rudderfig_judge_block, rudderfig_locate_errors, rudderfig_look_page and rudderfig_take_page answer stands beside bch_decode's. Then
+ * remainders alone: random ones, and ones whose error places lie past the end of the word. lib/bch.c is linked twice: as the kernel builds it
+ * (bch_..), and with the exhaustive root search that its authors keep for comparison (search_.., -DUSE_CHIEN_SEARCH).
  *
  * Every answer has to be that of the exhaustive search. Where the kernel's own root finder differs from both, its list is tried with bch_encode:
  * a list that gives no codeword is counted, anything else is a difference. The exit status is 0 only where there is none.
@@ -359,20 +359,41 @@ static struct places compare_block(struct code *c, struct page *p, unsigned b)
 	return ours;
 }
 
-/* Reads the damaged page: the first refused block, or every message as the listed places repair it, and the counts. */
-static void compare_read(struct code *c, struct page *p, const struct places *found)
+/* Whether a call about a page names its lowest refused block, or is done where there is none. */
+static bool names_lowest(const struct page *p, const struct places *found, uint64_t answer)
 {
-	uint8_t metadata[256], data[MAX_BLOCKS * MAX_BYTES], counts[MAX_BLOCKS], *out = data;
-	uint64_t answer = rudderfig_read_page(p->record, 8, p->bytes, p->page_bytes, metadata, p->metadata_bytes, data, data_length(p), counts, p->blocks);
+	unsigned lowest = 0;
 
+	while (lowest < p->blocks && found[lowest].count != REFUSED)
+		lowest++;
+	if (lowest == p->blocks)
+		return rudderfig_reply(answer) == RUDDERFIG_DONE;
+	return rudderfig_reply(answer) == RUDDERFIG_UNCORRECTABLE && rudderfig_block(answer) == lowest;
+}
+
+/* Looks at the damaged page: the lowest refused block, and the count of every block. */
+static void compare_look(struct code *c, struct page *p, const struct places *found)
+{
+	uint8_t counts[MAX_BLOCKS];
+	uint64_t answer = rudderfig_look_page(p->record, 8, p->bytes, p->page_bytes, counts, p->blocks);
+
+	if (!names_lowest(p, found, answer))
+		differ(c, &p->words[0], "looking at the page does not answer by its lowest ruined block");
 	for (unsigned b = 0; b < p->blocks; b++)
-		if (found[b].count == REFUSED) {
-			if (rudderfig_reply(answer) != RUDDERFIG_UNCORRECTABLE || rudderfig_block(answer) != b)
-				differ(c, &p->words[b], "reading the page does not name this ruined block");
-			return;
-		}
+		if (counts[b] != (found[b].count == REFUSED ? RUDDERFIG_RUINED : found[b].count))
+			differ(c, &p->words[b], "the count is not the number of places");
+}
+
+/* Takes the damaged page: the lowest refused block, or every message as the listed places repair it. */
+static void compare_take(struct code *c, struct page *p, const struct places *found)
+{
+	uint8_t metadata[256], data[MAX_BLOCKS * MAX_BYTES], *out = data;
+	uint64_t answer = rudderfig_take_page(p->record, 8, p->bytes, p->page_bytes, metadata, p->metadata_bytes, data, data_length(p));
+
+	if (!names_lowest(p, found, answer))
+		differ(c, &p->words[0], "taking the page does not answer by its lowest ruined block");
 	if (rudderfig_reply(answer) != RUDDERFIG_DONE)
-		differ(c, &p->words[0], "the page was not read");
+		return;
 	for (unsigned b = 0; b < p->blocks; b++) {
 		struct word *w = &p->words[b];
 		unsigned before = w->bytes - p->data_bytes[b];
@@ -380,10 +401,8 @@ static void compare_read(struct code *c, struct page *p, const struct places *fo
 		for (int i = 0; i < found[b].count; i++)
 			if (found[b].exponents[i] >= c->parity_bits)
 				turn(w->message, w->bits - 1 - found[b].exponents[i]);
-		if (counts[b] != found[b].count)
-			differ(c, w, "the count read is not the number of places");
 		if (memcmp(w->message, metadata, before) != 0 || memcmp(w->message + before, out, p->data_bytes[b]) != 0)
-			differ(c, w, "the message read is not the repaired one");
+			differ(c, w, "the message taken is not the repaired one");
 		out += p->data_bytes[b];
 	}
 }
@@ -447,7 +466,8 @@ static void compare_code(struct code *sums, unsigned m, unsigned t, unsigned pag
 			damage(&p, b, flips % (t + 3));
 			found[b] = compare_block(&c, &p, b);
 		}
-		compare_read(&c, &p, found);
+		compare_look(&c, &p, found);
+		compare_take(&c, &p, found);
 		compare_alone(&c, i);
 	}
 	printf("| %u | %u | %lu | %lu | %lu | %lu |\n", m, t, c.parities, c.near, c.ruined, c.wrong_lists);

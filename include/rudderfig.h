@@ -1,10 +1,13 @@
 /*
  * Rudderfig: NAND pages written and read through binary BCH codes.
  *
- * Link librudderfig.a, which `make lib` leaves beside this file. Eight calls answer the seven questions of the project's document 01, two more
+ * Link librudderfig.a, which `make lib` leaves beside this file. Nine calls answer the seven questions of the project's document 01, two more
  * hand a remainder to a hardware locator and take it back, and three take a block's message in pieces; the numbers and names below are the
  * documents'. Each call is total: any layout words, any lengths, any page content get an answer, and a caller has to have tested nothing. Each is
  * proved to return what its definition says, and to leave every lent byte as that definition says. The header is C99, and C++.
+ *
+ * For callers of rudderfig_read_page, which is gone: call rudderfig_look_page for the counts, then rudderfig_take_page for metadata and data, and
+ * test both replies; after reply 9 the counts no longer hold what they held, but the count of every block, 255 for a ruined one.
  *
  *
  * The answer word
@@ -16,8 +19,9 @@
  *     bits 24 to 31    the kind of an answer: 0, except for a page bit in the tail
  *     bits 32 to 63    the value of an answer
  *
- * On a refusal kind and value are 0, and every lent buffer is byte for byte as it was. Of several reasons the smallest number is given; only a
- * field choice that is not offered (7) comes before everything else, and the length of a layout record (6) before what the record says.
+ * On a refusal kind and value are 0, and every lent buffer is byte for byte as it was, but for the counts of rudderfig_look_page that replies 9:
+ * document 02, E6, has amended document 01 so in this one case. Of several reasons the smallest number is given; only a field choice that is not
+ * offered (7) comes before everything else, and the length of a layout record (6) before what the record says.
  *
  *
  * What is lent
@@ -86,14 +90,15 @@ enum rudderfig_reply_number {
 /*
  * Bytes of stack that a call takes at most on any of the four processors, its return address included. `make lib` and `make boards` compare them with
  * the code.
- * Most of it are the decoder's tables, which are made only where a block is damaged or erased: reading an undamaged page takes about 66,000 bytes,
- * judging an undamaged block about 32,000.
+ * Most of it are the decoder's tables, which are made only where a block is damaged or erased: taking an undamaged page takes about 66,000 bytes,
+ * looking at one or judging an undamaged block about 32,000.
  */
 #define RUDDERFIG_STACK_CHECK_LAYOUT 256
 #define RUDDERFIG_STACK_LOCATE_BIT 256
 #define RUDDERFIG_STACK_BIT_POSITION 256
 #define RUDDERFIG_STACK_WRITE_PAGE 36864
-#define RUDDERFIG_STACK_READ_PAGE 147456
+#define RUDDERFIG_STACK_LOOK_PAGE 114688
+#define RUDDERFIG_STACK_TAKE_PAGE 147456
 #define RUDDERFIG_STACK_JUDGE_BLOCK 114688
 #define RUDDERFIG_STACK_LOCATE_ERRORS 86016
 #define RUDDERFIG_STACK_CHECK_CLAIM 36864
@@ -104,7 +109,7 @@ enum rudderfig_reply_number {
 #define RUDDERFIG_STACK_PARITY_FINISH 1024
 
 /* The largest of them. */
-#define RUDDERFIG_STACK RUDDERFIG_STACK_READ_PAGE
+#define RUDDERFIG_STACK RUDDERFIG_STACK_TAKE_PAGE
 
 static inline unsigned rudderfig_reply(uint64_t answer) { return RUDDERFIG_CAST(unsigned, answer & 0xFF); }
 static inline unsigned rudderfig_block(uint64_t answer) { return RUDDERFIG_CAST(unsigned, answer >> 8 & 0xFFFF); }
@@ -117,13 +122,17 @@ static inline unsigned rudderfig_located_block(uint64_t answer) { return rudderf
 static inline unsigned rudderfig_located_exponent(uint64_t answer) { return rudderfig_value(answer) & 0xFFFF; }
 
 /*
- * What a count of rudderfig_read_page or the value of rudderfig_judge_block says of its block. Below 128 it is the number of flips, and the block was
- * repaired. From 128 on the block is erased, and the count is 128 plus its zeros: no codeword lies within t flips of it, and of its covered bits, data
- * and parity, at most t are zeros, as in flash that was never written. Its message reads as bytes of 0xFF. A block with t = 0 is never erased, and
- * one of nearly all ones that does lie within t flips of a codeword is read as that codeword. rudderfig_zeros is 0 for a block that is not erased.
+ * What a count of rudderfig_look_page or the value of rudderfig_judge_block says of its block. Below 128 it is the number of flips: the block is
+ * repaired to the codeword within t flips of it. From 128 on, but for 255, the block is erased, and the count is 128 plus its zeros: no codeword lies
+ * within t flips of it, and of its covered bits, data and parity, at most t are zeros, as in flash that was never written. Its message is taken as
+ * bytes of 0xFF. A block with t = 0 is never erased, and one of nearly all ones that does lie within t flips of a codeword is taken as that codeword.
+ * 255 is the count of a ruined block, which is neither; a look gives it with reply 9. rudderfig_zeros is 0 for a block that is not erased.
  */
-static inline int rudderfig_is_erased(uint32_t count) { return count >= 128; }
-static inline unsigned rudderfig_zeros(uint32_t count) { return count >= 128 ? count - 128 : 0; }
+#define RUDDERFIG_RUINED 255
+
+static inline int rudderfig_is_ruined(uint32_t count) { return count == RUDDERFIG_RUINED; }
+static inline int rudderfig_is_erased(uint32_t count) { return count >= 128 && count != RUDDERFIG_RUINED; }
+static inline unsigned rudderfig_zeros(uint32_t count) { return rudderfig_is_erased(count) ? count - 128 : 0; }
 
 /*
  * Is this layout acceptable? Reads the record. Replies 0 to 4 and 6; no value.
@@ -154,20 +163,29 @@ uint64_t rudderfig_write_page(const uint8_t *record, rudderfig_length record_len
                               uint8_t *page, rudderfig_length page_len);
 
 /*
- * Reads a page: each block is repaired to the codeword within t flips of it. Reads record and page; writes all of `metadata`, `data` and `counts`,
- * and only on reply 0, once every block is decided. counts[b] is the number of covered bits, data or parity, in which block b and its codeword
- * differ. A block that has no codeword within t flips, and at most t zeros, is erased: it reads as bytes of 0xFF, and counts[b] is 128 plus its zeros.
- * So a page of all ones is never refused. Replies 0 to 6, and 9 with the lowest block that is neither repaired nor erased; no value.
+ * Looks at a page: one count a block, before anything is taken. Reads record and page; writes all of `counts`, on reply 0 and on reply 9. counts[b] is
+ * the number of covered bits, data or parity, in which block b and the codeword within t flips of it differ; 128 plus its zeros where the block is
+ * erased; 255 where it is ruined. Replies 0 to 6, and 9 with the lowest ruined block: the one refusal of this header that writes, the counts of all
+ * blocks, those behind a ruined one too. 1 to 6 write nothing. A page of all ones is never refused. No value.
  */
-uint64_t rudderfig_read_page(const uint8_t *record, rudderfig_length record_len,
+uint64_t rudderfig_look_page(const uint8_t *record, rudderfig_length record_len,
                              const uint8_t *page, rudderfig_length page_len,
-                             uint8_t *metadata, rudderfig_length metadata_len,
-                             uint8_t *data, rudderfig_length data_len,
                              uint8_t *counts, rudderfig_length counts_len);
 
 /*
- * Judges one block of a page. Reads record and page, of the page no other bits than the block's; writes nothing. The value is the count that reading
- * the page gives for it: its flips, or 128 plus its zeros. Replies 0 to 6, 7 for a block that the layout does not have, and 9 with that block.
+ * Takes metadata and data out of a page: of each block the message of the codeword within t flips of it, or bytes of 0xFF where it is erased. Reads
+ * record and page; writes all of `metadata` and `data`, and only on reply 0, once every block is decided. Replies 0 to 6, and 9 with the lowest ruined
+ * block, as looking at the same page does; no value. A look need not come before it.
+ */
+uint64_t rudderfig_take_page(const uint8_t *record, rudderfig_length record_len,
+                             const uint8_t *page, rudderfig_length page_len,
+                             uint8_t *metadata, rudderfig_length metadata_len,
+                             uint8_t *data, rudderfig_length data_len);
+
+/*
+ * Judges one block of a page. Reads record and page, of the page no other bits than the block's; writes nothing. The value is the count that looking
+ * at the page gives for it: its flips, or 128 plus its zeros. Replies 0 to 6, 7 for a block that the layout does not have, and 9, with that block and
+ * no value, where it is ruined.
  */
 uint64_t rudderfig_judge_block(const uint8_t *record, rudderfig_length record_len,
                                const uint8_t *page, rudderfig_length page_len,

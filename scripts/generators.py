@@ -1,7 +1,7 @@
 #!/usr/bin/env python3
 """Computes the minimal polynomials and the generators of document 01, "The code", from their definition.
 
-    scripts/generators.py rows        the tables of crates/code/src/generators.rt, as they stand there
+    scripts/generators.py rows        the tables of crates/generators/src/lib.rt, as they stand there
     scripts/generators.py minimals    the lists of crates/code/specs/Generator.antt
 
 A polynomial over GF(2) is a number: bit p is the coefficient of x^p. The generator of a level t is the polynomial of least degree that is zero

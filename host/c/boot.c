@@ -1,7 +1,7 @@
 /*
  * The library as a boot loader has it: freestanding, with no C library, on a stack of its own that is as large as the header says, on x86-64, AArch64,
- * ARMv7-A and RISC-V. Writes a page of two blocks (case E of document 01), damages it, reads it back, then ruins it, takes a message in pieces, and reads
- * an erased page. The exit status is 0 where every byte is as it should be, and else the number of the first step that was not.
+ * ARMv7-A and RISC-V. Writes a page of two blocks (case E of document 01), damages it, looks at it and takes it, then ruins it, takes a message in
+ * pieces, and reads an erased page. The exit status is 0 where every byte is as it should be, and else the number of the first step that was not.
  */
 #include "rudderfig.h"
 
@@ -48,9 +48,34 @@ static const uint8_t record[8] = {0x01, 0x00, 0x08, 0x01, 0x00, 0x0F, 0x08, 0x01
 static const uint8_t payload[8] = {0x01, 0x23, 0x45, 0x67, 0x89, 0xAB, 0xCD, 0xEF};
 static const uint8_t written[15] = {0x01, 0x23, 0x45, 0x67, 0x32, 0x8F, 0xB5, 0x62, 0x6A, 0xF3, 0x7B, 0xC5, 0xFC, 0x52, 0x9F};
 
-static uint64_t read_into(const uint8_t *page, uint8_t *data, uint8_t *counts)
+static uint64_t look(const uint8_t *page, uint8_t *counts)
 {
-    return rudderfig_read_page(record, sizeof record, page, sizeof written, NULL, 0, data, sizeof payload, counts, 2);
+    return rudderfig_look_page(record, sizeof record, page, sizeof written, counts, 2);
+}
+
+static uint64_t take(const uint8_t *page, uint8_t *data)
+{
+    return rudderfig_take_page(record, sizeof record, page, sizeof written, NULL, 0, data, sizeof payload);
+}
+
+/* Looks at a page and then takes it: whether both are done. */
+static int read_into(const uint8_t *page, uint8_t *data, uint8_t *counts)
+{
+    return look(page, counts) == RUDDERFIG_DONE && take(page, data) == RUDDERFIG_DONE;
+}
+
+/* Whether both calls refuse a page for a block: the counts are these two, and the data keeps what it held. */
+static int refused(const uint8_t *page, unsigned block, uint8_t count_0, uint8_t count_1)
+{
+    static const uint8_t held[8] = {0x5A, 0x5A, 0x5A, 0x5A, 0x5A, 0x5A, 0x5A, 0x5A};
+    uint8_t data[8], counts[2] = {0x5A, 0x5A};
+    uint64_t looked = look(page, counts), taken;
+
+    memset(data, 0x5A, sizeof data);
+    taken = take(page, data);
+    if (rudderfig_reply(looked) != RUDDERFIG_UNCORRECTABLE || rudderfig_block(looked) != block || rudderfig_value(looked) != 0 || taken != looked)
+        return 0;
+    return counts[0] == count_0 && counts[1] == count_1 && same(data, held, sizeof data);
 }
 
 /* The page of all zeros has only the tail bits set; with bit 57 of block 0 turned over it reads as zeros again, with counts 1 and 0. */
@@ -65,7 +90,7 @@ static int zeros_read_back(void)
         return 0;
     page[0] = 0x80;
     data[3] = 0xFF;
-    if (read_into(page, data, counts) != RUDDERFIG_DONE || !same(data, zeros, sizeof data) || counts[0] != 1 || counts[1] != 0)
+    if (!read_into(page, data, counts) || !same(data, zeros, sizeof data) || counts[0] != 1 || counts[1] != 0)
         return 0;
     return rudderfig_check_claim(record, sizeof record, page, sizeof page, 0, right, 1) == RUDDERFIG_DONE
         && rudderfig_check_claim(record, sizeof record, page, sizeof page, 0, twice, 2) == RUDDERFIG_CLAIM_WRONG;
@@ -94,17 +119,15 @@ static int pieces_finish(void)
 static int erased_is_not_ruined(void)
 {
     uint8_t page[15], data[8], counts[2];
-    uint64_t answer;
 
     memset(page, 0xFF, sizeof page);
     page[12] = 0xFE;
-    if (read_into(page, data, counts) != RUDDERFIG_DONE || !rudderfig_is_erased(counts[0]) || !rudderfig_is_erased(counts[1]))
+    if (!read_into(page, data, counts) || !rudderfig_is_erased(counts[0]) || !rudderfig_is_erased(counts[1]))
         return 0;
     if (rudderfig_zeros(counts[0]) != 0 || rudderfig_zeros(counts[1]) != 1 || data[0] != 0xFF || data[7] != 0xFF)
         return 0;
     page[8] = 0xFC;
-    answer = read_into(page, data, counts);
-    return rudderfig_reply(answer) == RUDDERFIG_UNCORRECTABLE && rudderfig_block(answer) == 1;
+    return refused(page, 1, 128, RUDDERFIG_RUINED);
 }
 
 static int boot(void)
@@ -132,25 +155,19 @@ static int boot(void)
     page[14] ^= 0x0F;
     if (rudderfig_value(rudderfig_judge_block(record, sizeof record, page, sizeof page, 0)) != 2)
         return 6;
-    if (read_into(page, data, counts) != RUDDERFIG_DONE || !same(data, payload, sizeof data) || counts[0] != 2 || counts[1] != 1)
+    if (!read_into(page, data, counts) || !same(data, payload, sizeof data) || counts[0] != 2 || counts[1] != 1)
         return 7;
 
-    /* A third flip in block 0 leaves no codeword near: the page is refused and the outputs keep what they held. */
+    /* A third flip in block 0 leaves no codeword near: the page is refused, though a look counts both blocks. */
     page[1] ^= 0x80;
-    memset(data, 0x5A, sizeof data);
-    memset(counts, 0x5A, sizeof counts);
-    answer = read_into(page, data, counts);
-    if (rudderfig_reply(answer) != RUDDERFIG_UNCORRECTABLE || rudderfig_block(answer) != 0 || rudderfig_value(answer) != 0)
+    if (!refused(page, 0, RUDDERFIG_RUINED, 1))
         return 8;
-    for (size_t i = 0; i < sizeof data; i++)
-        if (data[i] != 0x5A || counts[i % 2] != 0x5A)
-            return 9;
 
     if (!zeros_read_back())
-        return 10;
+        return 9;
     if (!pieces_finish())
-        return 12;
-    return erased_is_not_ruined() ? 0 : 13;
+        return 10;
+    return erased_is_not_ruined() ? 0 : 11;
 }
 
 /* A stack of the size that the header names and what this program itself uses, between two filled areas that the calls must leave alone. */
@@ -261,5 +278,5 @@ int start(void)
     step = boot_on_own_stack(stack + sizeof stack - AROUND);
     if (step != 0)
         return step;
-    return untouched(stack) && untouched(stack + sizeof stack - AROUND) ? 0 : 11;
+    return untouched(stack) && untouched(stack + sizeof stack - AROUND) ? 0 : 12;
 }

@@ -1,7 +1,7 @@
 /*
  * Every call of rudderfig.h, with answers that another order of its arguments would change. A page of two blocks, each corrected up to 2 flips, is
- * written from 2 bytes of metadata and 8 of data, worn, read, judged and claimed; an erased page is read and judged; a remainder is located and handed
- * to a hardware locator; a message is taken in one piece. The program is C99 and C++. The exit status is 0 where every answer and every byte is as it
+ * written from 2 bytes of metadata and 8 of data, worn, looked at, taken, judged, claimed and ruined; an erased page is looked at, taken and judged; a
+ * remainder is located and handed to a hardware locator; a message is taken in one piece. The program is C99 and C++. The exit status is 0 where every answer and every byte is as it
  * should be; else the first line that was not is printed.
  */
 #include <stdio.h>
@@ -41,11 +41,30 @@ static int layouts(void)
     return 0;
 }
 
+/* Block 0 is ruined and block 1 has two flips: a look writes the counts, a take and a look with counts of a wrong length write nothing. */
+static int ruined(const uint8_t *page)
+{
+    uint8_t metadata_taken[METADATA] = {7, 7}, data_taken[DATA] = {7, 7, 7, 7, 7, 7, 7, 7}, counts[COUNTS] = {9, 9};
+    uint64_t answer;
+
+    CHECK(rudderfig_look_page(record, RECORD, page, PAGE, counts, 1) == RUDDERFIG_BUFFER_LENGTH && counts[0] == 9 && counts[1] == 9);
+    answer = rudderfig_look_page(record, RECORD, page, PAGE, counts, COUNTS);
+    CHECK(rudderfig_reply(answer) == RUDDERFIG_UNCORRECTABLE && rudderfig_block(answer) == 0);
+    CHECK(counts[0] == RUDDERFIG_RUINED && rudderfig_is_ruined(counts[0]) && !rudderfig_is_erased(counts[0]) && rudderfig_zeros(counts[0]) == 0);
+    CHECK(counts[1] == 2 && !rudderfig_is_ruined(counts[1]) && !rudderfig_is_erased(counts[1]));
+
+    answer = rudderfig_take_page(record, RECORD, page, PAGE, metadata_taken, METADATA, data_taken, DATA);
+    CHECK(rudderfig_reply(answer) == RUDDERFIG_UNCORRECTABLE && rudderfig_block(answer) == 0);
+    for (int i = 0; i < DATA; i++)
+        CHECK(data_taken[i] == 7 && metadata_taken[i % METADATA] == 7);
+    return 0;
+}
+
 /* Bit 1 of block 0 and bits 0 and 5 of block 1 turned over: exponents 72, and 57 and 52. */
 static int pages(void)
 {
     static const uint16_t right[2] = {57, 52};
-    uint8_t page[PAGE], metadata_read[METADATA] = {0, 0}, data_read[DATA] = {0}, counts[COUNTS] = {9, 9};
+    uint8_t page[PAGE], metadata_taken[METADATA] = {0, 0}, data_taken[DATA] = {0}, counts[COUNTS] = {9, 9};
     uint64_t answer;
 
     memset(page, 0, PAGE);
@@ -54,9 +73,10 @@ static int pages(void)
 
     page[0] = page[0] ^ 0x40;
     page[9] = page[9] ^ 0x21;
-    CHECK(rudderfig_read_page(record, RECORD, page, PAGE, metadata_read, METADATA, data_read, DATA, counts, COUNTS) == RUDDERFIG_DONE);
-    CHECK(memcmp(metadata_read, metadata, METADATA) == 0 && memcmp(data_read, data, DATA) == 0);
+    CHECK(rudderfig_look_page(record, RECORD, page, PAGE, counts, COUNTS) == RUDDERFIG_DONE);
     CHECK(counts[0] == 1 && counts[1] == 2);
+    CHECK(rudderfig_take_page(record, RECORD, page, PAGE, metadata_taken, METADATA, data_taken, DATA) == RUDDERFIG_DONE);
+    CHECK(memcmp(metadata_taken, metadata, METADATA) == 0 && memcmp(data_taken, data, DATA) == 0);
 
     answer = rudderfig_judge_block(record, RECORD, page, PAGE, 1);
     CHECK(rudderfig_reply(answer) == RUDDERFIG_DONE && rudderfig_value(answer) == 2);
@@ -65,24 +85,23 @@ static int pages(void)
     CHECK(rudderfig_check_claim(record, RECORD, page, PAGE, 0, right, 2) == RUDDERFIG_CLAIM_WRONG);
 
     page[1] = page[1] ^ 0xFF;
-    answer = rudderfig_read_page(record, RECORD, page, PAGE, metadata_read, METADATA, data_read, DATA, counts, COUNTS);
-    CHECK(rudderfig_reply(answer) == RUDDERFIG_UNCORRECTABLE && rudderfig_block(answer) == 0);
-    return 0;
+    return ruined(page);
 }
 
 /* A page of ones but for a zero in block 1. Three zeros there, of which two are parity, are more than t = 2. */
 static int erased(void)
 {
-    uint8_t page[PAGE], ones[DATA], metadata_read[METADATA] = {0, 0}, data_read[DATA] = {0}, counts[COUNTS] = {9, 9};
+    uint8_t page[PAGE], ones[DATA], metadata_taken[METADATA] = {0, 0}, data_taken[DATA] = {0}, counts[COUNTS] = {9, 9};
     uint64_t answer;
 
     memset(page, 0xFF, PAGE);
     memset(ones, 0xFF, DATA);
     page[10] = 0xFE;
-    CHECK(rudderfig_read_page(record, RECORD, page, PAGE, metadata_read, METADATA, data_read, DATA, counts, COUNTS) == RUDDERFIG_DONE);
-    CHECK(memcmp(metadata_read, ones, METADATA) == 0 && memcmp(data_read, ones, DATA) == 0);
+    CHECK(rudderfig_look_page(record, RECORD, page, PAGE, counts, COUNTS) == RUDDERFIG_DONE);
     CHECK(rudderfig_is_erased(counts[0]) && rudderfig_zeros(counts[0]) == 0);
-    CHECK(rudderfig_is_erased(counts[1]) && rudderfig_zeros(counts[1]) == 1);
+    CHECK(rudderfig_is_erased(counts[1]) && rudderfig_zeros(counts[1]) == 1 && !rudderfig_is_ruined(counts[1]));
+    CHECK(rudderfig_take_page(record, RECORD, page, PAGE, metadata_taken, METADATA, data_taken, DATA) == RUDDERFIG_DONE);
+    CHECK(memcmp(metadata_taken, ones, METADATA) == 0 && memcmp(data_taken, ones, DATA) == 0);
 
     answer = rudderfig_judge_block(record, RECORD, page, PAGE, 1);
     CHECK(rudderfig_reply(answer) == RUDDERFIG_DONE && rudderfig_is_erased(rudderfig_value(answer)));

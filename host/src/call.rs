@@ -25,12 +25,16 @@ pub enum Call {
         data: Vec<u8>,
         page: Vec<u8>,
     },
-    ReadPage {
+    LookPage {
+        record: Vec<u8>,
+        page: Vec<u8>,
+        counts: Vec<u8>,
+    },
+    TakePage {
         record: Vec<u8>,
         page: Vec<u8>,
         metadata: Vec<u8>,
         data: Vec<u8>,
-        counts: Vec<u8>,
     },
     JudgeBlock {
         record: Vec<u8>,
@@ -77,7 +81,7 @@ pub enum Call {
 }
 
 /// How many kinds of calls there are.
-pub const KINDS: usize = 13;
+pub const KINDS: usize = 14;
 
 /// The replies that each kind of call can give.
 pub const POSSIBLE: [&[usize]; KINDS] = [
@@ -85,6 +89,7 @@ pub const POSSIBLE: [&[usize]; KINDS] = [
     &[0, 1, 2, 3, 4, 6, 7],
     &[0, 1, 2, 3, 4, 6, 7],
     &[0, 1, 2, 3, 4, 5, 6],
+    &[0, 1, 2, 3, 4, 5, 6, 9],
     &[0, 1, 2, 3, 4, 5, 6, 9],
     &[0, 1, 2, 3, 4, 5, 6, 7, 9],
     &[0, 1, 2, 3, 6, 7, 8, 9],
@@ -118,15 +123,16 @@ impl Call {
             Call::LocateBit { .. } => 1,
             Call::BitPosition { .. } => 2,
             Call::WritePage { .. } => 3,
-            Call::ReadPage { .. } => 4,
-            Call::JudgeBlock { .. } => 5,
-            Call::LocateErrors { .. } => 6,
-            Call::CheckClaim { .. } => 7,
-            Call::ExportFragments { .. } => 8,
-            Call::ImportFragments { .. } => 9,
-            Call::ParityStart { .. } => 10,
-            Call::ParityFeed { .. } => 11,
-            Call::ParityFinish { .. } => 12,
+            Call::LookPage { .. } => 4,
+            Call::TakePage { .. } => 5,
+            Call::JudgeBlock { .. } => 6,
+            Call::LocateErrors { .. } => 7,
+            Call::CheckClaim { .. } => 8,
+            Call::ExportFragments { .. } => 9,
+            Call::ImportFragments { .. } => 10,
+            Call::ParityStart { .. } => 11,
+            Call::ParityFeed { .. } => 12,
+            Call::ParityFinish { .. } => 13,
         }
     }
 
@@ -137,7 +143,8 @@ impl Call {
             Call::LocateBit { .. } => "rudderfig_locate_bit",
             Call::BitPosition { .. } => "rudderfig_bit_position",
             Call::WritePage { .. } => "rudderfig_write_page",
-            Call::ReadPage { .. } => "rudderfig_read_page",
+            Call::LookPage { .. } => "rudderfig_look_page",
+            Call::TakePage { .. } => "rudderfig_take_page",
             Call::JudgeBlock { .. } => "rudderfig_judge_block",
             Call::LocateErrors { .. } => "rudderfig_locate_errors",
             Call::CheckClaim { .. } => "rudderfig_check_claim",
@@ -181,13 +188,17 @@ impl Call {
                 data,
                 page,
             } => vec![bytes(record), bytes(metadata), bytes(data), bytes(page)],
-            Call::ReadPage {
+            Call::LookPage {
+                record,
+                page,
+                counts,
+            } => vec![bytes(record), bytes(page), bytes(counts)],
+            Call::TakePage {
                 record,
                 page,
                 metadata,
                 data,
-                counts,
-            } => [record, page, metadata, data, counts].map(bytes).to_vec(),
+            } => vec![bytes(record), bytes(page), bytes(metadata), bytes(data)],
             Call::JudgeBlock {
                 record,
                 page,
@@ -250,13 +261,17 @@ impl Call {
                 data,
                 page,
             } => vec![record, metadata, data, page],
-            Call::ReadPage {
+            Call::LookPage {
+                record,
+                page,
+                counts,
+            } => vec![record, page, counts],
+            Call::TakePage {
                 record,
                 page,
                 metadata,
                 data,
-                counts,
-            } => vec![record, page, metadata, data, counts],
+            } => vec![record, page, metadata, data],
             Call::JudgeBlock { record, page, .. } | Call::CheckClaim { record, page, .. } => {
                 vec![record, page]
             }
@@ -351,7 +366,8 @@ impl Call {
                 block, exponent, ..
             } => library.bit_position(next(), block, exponent),
             Call::WritePage { .. } => library.write_page(next(), next(), next(), next()),
-            Call::ReadPage { .. } => library.read_page(next(), next(), next(), next(), next()),
+            Call::LookPage { .. } => library.look_page(next(), next(), next()),
+            Call::TakePage { .. } => library.take_page(next(), next(), next(), next()),
             Call::JudgeBlock { block, .. } => library.judge_block(next(), next(), block),
             Call::LocateErrors {
                 level_field,
@@ -381,15 +397,10 @@ impl Call {
     pub fn fill_outputs(&mut self, random: &mut Random) {
         match self {
             Call::WritePage { page, .. } => *page = random.bytes(page.len()),
-            Call::ReadPage {
-                metadata,
-                data,
-                counts,
-                ..
-            } => {
-                for output in [metadata, data, counts] {
-                    *output = random.bytes(output.len());
-                }
+            Call::LookPage { counts, .. } => *counts = random.bytes(counts.len()),
+            Call::TakePage { metadata, data, .. } => {
+                *metadata = random.bytes(metadata.len());
+                *data = random.bytes(data.len());
             }
             Call::LocateErrors { places, .. } => {
                 places

@@ -55,7 +55,7 @@ impl<'a> Comparison<'a> {
         self.keeping = true;
     }
 
-    /// One round of calls of every kind, some 14,000.
+    /// One round of calls of every kind, some 18,000.
     pub fn round(&mut self) -> Result<(), Box<Difference>> {
         self.layouts()?;
         self.remainders()?;
@@ -203,23 +203,26 @@ impl<'a> Comparison<'a> {
         self.sequence(&written)
     }
 
-    /// Writes a page, reads it damaged and then ruined into the same outputs, and writes what was
-    /// read over the ruined page.
+    /// Writes a page; looks at it damaged, ruined and damaged again with the same counts; takes it damaged
+    /// and then ruined, which the last look was not, into the same outputs; and writes what was taken over
+    /// the ruined page.
     fn sequence(&mut self, written: &WrittenPage) -> Result<(), Box<Difference>> {
         self.perform_filled(written.write())?;
         let damaged = written.damaged(&mut self.random);
-        let read = self.perform_filled(written.read(damaged))?;
         let (mut ruined, block) = written.overdamaged(&mut self.random);
         damage_tail(&mut ruined, &written.layout, &mut self.random);
         self.perform(written.judge(ruined.clone(), block))?;
-        let reread = self.perform(with_page(read, &ruined))?;
-        if let Call::ReadPage {
+        let [look, take] = written.read(damaged.clone());
+        let look = self.perform_filled(look)?;
+        let take = self.perform_filled(take)?;
+        let look = self.perform(with_page(look, &ruined))?;
+        self.perform(with_page(look, &damaged))?;
+        if let Call::TakePage {
             record,
             page,
             metadata,
             data,
-            ..
-        } = reread
+        } = self.perform(with_page(take, &ruined))?
         {
             self.perform(Call::WritePage {
                 record,
@@ -233,7 +236,7 @@ impl<'a> Comparison<'a> {
 }
 
 /// The layouts of one round's pages.
-pub fn page_layouts(random: &mut Random) -> Vec<LayoutWords> {
+fn page_layouts(random: &mut Random) -> Vec<LayoutWords> {
     let mut layouts = Vec::new();
     for most_page_bytes in [20, 40, 70, 120, 250, 600] {
         layouts.extend((0..20).map(|_| accepted_words(random, most_page_bytes)));
@@ -256,9 +259,9 @@ fn edge_words(random: &mut Random) -> LayoutWords {
     }
 }
 
-/// A read call with the same outputs but another page.
+/// A look or a take with the same outputs but another page.
 fn with_page(mut call: Call, other: &[u8]) -> Call {
-    if let Call::ReadPage { page, .. } = &mut call {
+    if let Call::LookPage { page, .. } | Call::TakePage { page, .. } = &mut call {
         *page = other.to_vec();
     }
     call

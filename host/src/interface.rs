@@ -32,7 +32,16 @@ unsafe extern "C" {
         page_len: usize,
     ) -> u64;
 
-    pub fn rudderfig_read_page(
+    pub fn rudderfig_look_page(
+        record: *const u8,
+        record_len: usize,
+        page: *const u8,
+        page_len: usize,
+        counts: *mut u8,
+        counts_len: usize,
+    ) -> u64;
+
+    pub fn rudderfig_take_page(
         record: *const u8,
         record_len: usize,
         page: *const u8,
@@ -41,8 +50,6 @@ unsafe extern "C" {
         metadata_len: usize,
         data: *mut u8,
         data_len: usize,
-        counts: *mut u8,
-        counts_len: usize,
     ) -> u64;
 
     pub fn rudderfig_judge_block(

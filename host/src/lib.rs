@@ -1,12 +1,14 @@
 //! A model of document 01 in plain Rust: layout words, page bits, the BCH codes over GF(2^13) and
-//! GF(2^14), the page writer and reader, locating from a remainder and checking claims.
+//! GF(2^14), writing pages and reading them, locating from a remainder and checking claims.
 //!
 //! The model is the yardstick of the tests, so it follows the paper's definitions and is not fast.
 //! A word is a vector of bits, highest power first. The calls of document 01 are
 //!
 //! - [`check_layout`]: is this layout acceptable?
 //! - [`locate_bit`], [`bit_position`]: page bit to block and exponent, and back;
-//! - [`write_page`], [`read_page`]: payload to page, and page to payload and one count a block;
+//! - [`write_page`]: payload to page;
+//! - [`look_page`], [`take_page`]: page to one count a block, and page to payload (document 02, E6, makes
+//!   two calls of reading);
 //! - [`judge_block`]: the count of one block: its flips, or 128 plus its zeros if it is erased
 //!   (document 02, E1);
 //! - [`locate_errors`]: the wrong bits, from a remainder alone;
@@ -18,7 +20,7 @@
 //! - [`export_fragments`], [`import_fragments`]: a remainder to a hardware locator's fragments, and back.
 //!
 //! Each takes any arguments. `Ok` is reply 0; a [`Refusal`] holds the reply's number and block, and
-//! then every lent buffer keeps its content.
+//! then every lent buffer keeps its content, but for the counts of a look that is refused with 9.
 //!
 //! The decoder is that of Peterson, Gorenstein and Zierler: the error locator solves a linear system
 //! of syndromes, every exponent below n is tried as a root, and the set found is returned only if
@@ -48,5 +50,5 @@ pub mod samples;
 pub use fragments::{export_fragments, import_fragments};
 pub use layout::{BitPlace, Layout, bit_position, check_layout, locate_bit};
 pub use locate::locate_errors;
-pub use page::{check_claim, judge_block, read_page, write_page};
+pub use page::{check_claim, judge_block, look_page, take_page, write_page};
 pub use reply::{Refusal, Reply};

@@ -3,7 +3,7 @@
 use crate::fragments::{export_fragments, import_fragments};
 use crate::layout::{BitPlace, bit_position, check_layout, locate_bit};
 use crate::locate::locate_errors;
-use crate::page::{check_claim, judge_block, read_page, write_page};
+use crate::page::{check_claim, judge_block, look_page, take_page, write_page};
 use crate::pieces::{feed_state, finish_state, start_state};
 use crate::reply::Refusal;
 
@@ -21,14 +21,9 @@ pub trait Library {
 
     fn write_page(&self, record: &[u8], metadata: &[u8], data: &[u8], page: &mut [u8]) -> u64;
 
-    fn read_page(
-        &self,
-        record: &[u8],
-        page: &[u8],
-        metadata: &mut [u8],
-        data: &mut [u8],
-        counts: &mut [u8],
-    ) -> u64;
+    fn look_page(&self, record: &[u8], page: &[u8], counts: &mut [u8]) -> u64;
+
+    fn take_page(&self, record: &[u8], page: &[u8], metadata: &mut [u8], data: &mut [u8]) -> u64;
 
     /// The value is the block's count.
     fn judge_block(&self, record: &[u8], page: &[u8], block: u64) -> u64;
@@ -87,15 +82,12 @@ impl Library for Model {
         answer(write_page(record, metadata, data, page).map(|()| (0, 0)))
     }
 
-    fn read_page(
-        &self,
-        record: &[u8],
-        page: &[u8],
-        metadata: &mut [u8],
-        data: &mut [u8],
-        counts: &mut [u8],
-    ) -> u64 {
-        answer(read_page(record, page, metadata, data, counts).map(|()| (0, 0)))
+    fn look_page(&self, record: &[u8], page: &[u8], counts: &mut [u8]) -> u64 {
+        answer(look_page(record, page, counts).map(|()| (0, 0)))
+    }
+
+    fn take_page(&self, record: &[u8], page: &[u8], metadata: &mut [u8], data: &mut [u8]) -> u64 {
+        answer(take_page(record, page, metadata, data).map(|()| (0, 0)))
     }
 
     fn judge_block(&self, record: &[u8], page: &[u8], block: u64) -> u64 {

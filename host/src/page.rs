@@ -1,4 +1,5 @@
-//! Writing, reading and judging pages, and checking claims (document 01; document 02, E1).
+//! Writing pages, looking at them, taking their payload, judging blocks and checking claims (document 01;
+//! document 02, E1 and E6).
 
 use crate::bits::{bit, bits_of, bytes_of};
 use crate::code::flip_exponents;
@@ -14,13 +15,7 @@ pub fn write_page(
     page: &mut [u8],
 ) -> Result<(), Refusal> {
     let layout = check_layout(record)?;
-    refuse_by(&[
-        (Reply::PageLength, page.len() != layout.page_length),
-        (
-            Reply::BufferLength,
-            metadata.len() != layout.metadata_length || data.len() != layout.data_length(),
-        ),
-    ])?;
+    payload_lengths(&layout, page, metadata, data)?;
     let payload = bits_of(&[metadata, data].concat());
     let mut messages = payload.as_slice();
     let mut stream = Vec::new();
@@ -36,39 +31,67 @@ pub fn write_page(
     Ok(())
 }
 
-/// What the count of an erased block has beside its zeros.
-pub const ERASED: usize = 128;
-
-/// Reads a page into metadata, data and one count per block.
-pub fn read_page(
-    record: &[u8],
+/// Refuses a page or a payload of a length that is not the layout's.
+fn payload_lengths(
+    layout: &Layout,
     page: &[u8],
-    metadata: &mut [u8],
-    data: &mut [u8],
-    counts: &mut [u8],
+    metadata: &[u8],
+    data: &[u8],
 ) -> Result<(), Refusal> {
-    let layout = check_layout(record)?;
     refuse_by(&[
         (Reply::PageLength, page.len() != layout.page_length),
         (
             Reply::BufferLength,
-            metadata.len() != layout.metadata_length
-                || data.len() != layout.data_length()
-                || counts.len() != layout.blocks(),
+            metadata.len() != layout.metadata_length || data.len() != layout.data_length(),
         ),
+    ])
+}
+
+/// What the count of an erased block has beside its zeros.
+pub const ERASED: usize = 128;
+
+/// The count of a ruined block.
+pub const RUINED: u8 = 255;
+
+/// Looks at a page: one count per block, and that of a ruined block is 255. Where a block is ruined the
+/// call is refused and names the lowest, and the counts are written all the same: no other refusal writes.
+pub fn look_page(record: &[u8], page: &[u8], counts: &mut [u8]) -> Result<(), Refusal> {
+    let layout = check_layout(record)?;
+    refuse_by(&[
+        (Reply::PageLength, page.len() != layout.page_length),
+        (Reply::BufferLength, counts.len() != layout.blocks()),
     ])?;
+    let blocks: Vec<_> = (0..layout.blocks())
+        .map(|number| read_block(&layout, page, number))
+        .collect();
+    for (count, block) in counts.iter_mut().zip(&blocks) {
+        *count = match block {
+            Ok((_, count)) => *count as u8,
+            Err(_) => RUINED,
+        };
+    }
+    blocks.into_iter().try_for_each(|block| block.map(|_| ()))
+}
+
+/// Takes metadata and data out of a page. Where a block is ruined the call is refused and names the
+/// lowest, and no byte changes.
+pub fn take_page(
+    record: &[u8],
+    page: &[u8],
+    metadata: &mut [u8],
+    data: &mut [u8],
+) -> Result<(), Refusal> {
+    let layout = check_layout(record)?;
+    payload_lengths(&layout, page, metadata, data)?;
     let mut payload = Vec::new();
-    let mut read_counts = Vec::new();
     for number in 0..layout.blocks() {
-        let (message, count) = read_block(&layout, page, number)?;
+        let (message, _) = read_block(&layout, page, number)?;
         payload.extend(message);
-        read_counts.push(count as u8);
     }
     let payload = bytes_of(&payload);
-    let (read_metadata, read_data) = payload.split_at(layout.metadata_length);
-    metadata.copy_from_slice(read_metadata);
-    data.copy_from_slice(read_data);
-    counts.copy_from_slice(&read_counts);
+    let (taken_metadata, taken_data) = payload.split_at(layout.metadata_length);
+    metadata.copy_from_slice(taken_metadata);
+    data.copy_from_slice(taken_data);
     Ok(())
 }
 

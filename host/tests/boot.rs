@@ -25,10 +25,10 @@ fn the_first_program_runs() {
     assert_eq!(
         said.lines().collect::<Vec<_>>(),
         [
-            "written: reply 0",
-            "worn: reply 0, flips by block 8 0 0 1 0 0 0 0, data as written: yes",
-            "ruined: reply 9, block 5",
-            "never written: reply 0, zeros by block 0 0 0 1 0 0 0 0, blocks erased: 8",
+            "written: write replies 0",
+            "worn: look replies 0, by block 8 0 0 1 0 0 0 0; take replies 0, data as written: yes",
+            "ruined: look replies 9 for block 5, by block 8 0 0 1 0 ruined 0 0; take replies 9",
+            "never written: look replies 0, by block erased:0 erased:0 erased:0 erased:1 erased:0 erased:0 erased:0 erased:0",
         ]
     );
 }

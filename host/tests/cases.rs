@@ -95,12 +95,10 @@ fn case_g() {
     let mut page = page_of_zeros();
     page[0] = 0x80;
     let (mut data, mut counts) = ([0xFF; 8], [0xFF; 2]);
-    assert_eq!(
-        read_page(&case_e(), &page, &mut [], &mut data, &mut counts),
-        Ok(())
-    );
-    assert_eq!(data, [0; 8]);
+    assert_eq!(look_page(&case_e(), &page, &mut counts), Ok(()));
     assert_eq!(counts, [1, 0]);
+    assert_eq!(take_page(&case_e(), &page, &mut [], &mut data), Ok(()));
+    assert_eq!(data, [0; 8]);
     assert_eq!(judge_block(&case_e(), &page, 0), Ok(1));
     assert_eq!(bit_position(&case_e(), 0, 57), Ok(0));
 }

@@ -1,13 +1,15 @@
-//! The comparison finds nothing against the model itself, provokes every reply, and finds faulty
-//! libraries out.
+//! The comparison finds nothing against the model itself, provokes every reply, meets every edge of the
+//! rules for erased and ruined blocks, and finds faulty libraries out.
 
-use model::bits::flip;
+use model::bits::{bit, flip};
 use model::call::POSSIBLE;
 use model::check_layout;
 use model::compare::Comparison;
 use model::library::{Library, Model};
 use model::outcome::zeros;
-use model::page::block_word;
+use model::page::{RUINED, block_word};
+use model::samples::edges::{EDGES, edges};
+use std::cell::Cell;
 
 #[test]
 fn the_model_is_itself() {
@@ -27,6 +29,24 @@ fn the_model_is_itself() {
     }
 }
 
+/// One round of pages meets each edge at least ten times.
+#[test]
+fn the_compared_pages_meet_every_edge() {
+    let mut comparison = Comparison::new(&Model, 25);
+    comparison.keep();
+    comparison.pages().unwrap();
+    let mut met = [0; EDGES.len()];
+    for seen in &comparison.seen {
+        met.iter_mut()
+            .zip(edges(&seen.call))
+            .for_each(|(sum, edge)| *sum += edge);
+    }
+    for (edge, times) in EDGES.iter().zip(met) {
+        println!("{times:6} {edge}");
+    }
+    assert!(met.iter().all(|&times| times >= 10), "{met:?}");
+}
+
 /// One thing that a library does wrongly.
 #[derive(Clone, Copy, Debug, PartialEq)]
 enum Fault {
@@ -34,15 +54,28 @@ enum Fault {
     BlockCutShort,
     NothingWritten,
     TailOfZeros,
-    EveryPageRefused,
-    PayloadOfZeros,
-    PayloadBeforeRefusal,
+    EveryLookRefused,
     CountsOfBlock0Only,
-    RuinedBlockNotNamed,
-    FlipsOfJudgedBlockForgotten,
-    ErasedRefused,
-    ErasedMessageAsRead,
+    LookStopsAtRuined,
+    LookWritesNothingOnRefusal,
+    CountsWrittenOnWrongPage,
+    CountsWrittenOnWrongLength,
+    RuinedCountOtherwise,
+    RuinedCountedAndDone,
+    ErasedCountedAsRuined,
     ErasedCountedAsFlips,
+    LookedHighestNamed,
+    LookedBlockNotNamed,
+    EveryTakeRefused,
+    PayloadOfZeros,
+    MetadataBeforeRefusal,
+    EarlyBlocksBeforeRefusal,
+    TakeTrustsLook,
+    TakenHighestNamed,
+    TakenBlockNotNamed,
+    ErasedTakeRefused,
+    ErasedMessageAsRead,
+    FlipsOfJudgedBlockForgotten,
     ZerosBeforeDecoding,
     OneZeroMore,
     ZerosOfMessageAlone,
@@ -60,13 +93,46 @@ enum Fault {
     PieceTakenInPart,
 }
 
-/// The model with a fault.
-struct Faulty(Fault);
+/// The model with a fault, and what it answered to the last look.
+struct Faulty {
+    fault: Fault,
+    looked: Cell<u64>,
+}
 
+const PAGE_LENGTH: u64 = 5;
 const BUFFER_LENGTH: u64 = 6;
 const TOO_WIDE: u64 = 8;
 const UNCORRECTABLE: u64 = 9;
 const START_BIT: u32 = 0x1_0000;
+
+/// The counts of a page by the model.
+fn counts_of(record: &[u8], page: &[u8]) -> Vec<u8> {
+    let mut counts = vec![0; check_layout(record).unwrap().blocks()];
+    Model.look_page(record, page, &mut counts);
+    counts
+}
+
+/// Reply 9 with the highest ruined block.
+fn highest_named(record: &[u8], page: &[u8]) -> u64 {
+    let counts = counts_of(record, page);
+    let highest = counts.iter().rposition(|&count| count == RUINED).unwrap();
+    UNCORRECTABLE | (highest as u64) << 8
+}
+
+/// The page with zeros in the place of each ruined block, so that every block can be taken.
+fn without_ruined(record: &[u8], page: &[u8]) -> Vec<u8> {
+    let layout = check_layout(record).unwrap();
+    let mut page = page.to_vec();
+    for (block, count) in counts_of(record, &page).into_iter().enumerate() {
+        let positions = layout.start(block)..layout.start(block + 1);
+        for position in positions.filter(|_| count == RUINED) {
+            if bit(&page, position) {
+                flip(&mut page, position);
+            }
+        }
+    }
+    page
+}
 
 impl Library for Faulty {
     fn check_layout(&self, record: &[u8]) -> u64 {
@@ -74,14 +140,14 @@ impl Library for Faulty {
     }
 
     fn locate_bit(&self, record: &[u8], position: u64) -> u64 {
-        match self.0 {
+        match self.fault {
             Fault::PositionCutShort => Model.locate_bit(record, position as u32 as u64),
             _ => Model.locate_bit(record, position),
         }
     }
 
     fn bit_position(&self, record: &[u8], block: u64, exponent: u64) -> u64 {
-        match self.0 {
+        match self.fault {
             Fault::BlockCutShort => Model.bit_position(record, block as u32 as u64, exponent),
             _ => Model.bit_position(record, block, exponent),
         }
@@ -90,7 +156,7 @@ impl Library for Faulty {
     fn write_page(&self, record: &[u8], metadata: &[u8], data: &[u8], page: &mut [u8]) -> u64 {
         let held = page.to_vec();
         let answer = Model.write_page(record, metadata, data, page);
-        match self.0 {
+        match self.fault {
             Fault::NothingWritten => page.copy_from_slice(&held),
             Fault::TailOfZeros if answer == 0 => {
                 let used = check_layout(record).unwrap().used_bits();
@@ -101,26 +167,62 @@ impl Library for Faulty {
         answer
     }
 
-    fn read_page(
-        &self,
-        record: &[u8],
-        page: &[u8],
-        metadata: &mut [u8],
-        data: &mut [u8],
-        counts: &mut [u8],
-    ) -> u64 {
-        let answer = Model.read_page(record, page, metadata, data, counts);
-        match (self.0, answer & 0xFF) {
-            (Fault::EveryPageRefused, 0) => return UNCORRECTABLE,
-            (Fault::PayloadOfZeros, 0) => data.fill(0),
-            (Fault::PayloadBeforeRefusal, UNCORRECTABLE) => metadata.fill(0),
+    fn look_page(&self, record: &[u8], page: &[u8], counts: &mut [u8]) -> u64 {
+        let held = counts.to_vec();
+        let answer = Model.look_page(record, page, counts);
+        self.looked.set(answer);
+        let named = (answer >> 8) as usize;
+        let is_erased = |count: u8| (128..RUINED).contains(&count);
+        match (self.fault, answer & 0xFF) {
+            (Fault::EveryLookRefused, 0) => return UNCORRECTABLE,
             (Fault::CountsOfBlock0Only, 0) => counts[1..].fill(0),
-            (Fault::RuinedBlockNotNamed, UNCORRECTABLE) => return UNCORRECTABLE,
-            (Fault::ErasedRefused, 0) if counts.iter().any(|&count| count >= 128) => {
+            (Fault::LookStopsAtRuined, UNCORRECTABLE) => {
+                counts[named + 1..].copy_from_slice(&held[named + 1..]);
+            }
+            (Fault::LookWritesNothingOnRefusal, UNCORRECTABLE) => counts.copy_from_slice(&held),
+            (Fault::CountsWrittenOnWrongPage, PAGE_LENGTH)
+            | (Fault::CountsWrittenOnWrongLength, BUFFER_LENGTH) => counts.fill(RUINED),
+            (Fault::RuinedCountOtherwise, UNCORRECTABLE) => counts[named] = 254,
+            (Fault::RuinedCountedAndDone, UNCORRECTABLE) => return 0,
+            (Fault::ErasedCountedAsRuined, 0 | UNCORRECTABLE) => {
+                let erased = counts.iter_mut().filter(|count| is_erased(**count));
+                erased.for_each(|count| *count = RUINED);
+            }
+            (Fault::ErasedCountedAsFlips, 0 | UNCORRECTABLE) => {
+                let erased = counts.iter_mut().filter(|count| is_erased(**count));
+                erased.for_each(|count| *count -= 128);
+            }
+            (Fault::LookedHighestNamed, UNCORRECTABLE) => return highest_named(record, page),
+            (Fault::LookedBlockNotNamed, UNCORRECTABLE) => return UNCORRECTABLE,
+            _ => (),
+        }
+        answer
+    }
+
+    fn take_page(&self, record: &[u8], page: &[u8], metadata: &mut [u8], data: &mut [u8]) -> u64 {
+        let (held, answer) = (data.to_vec(), Model.take_page(record, page, metadata, data));
+        match (self.fault, answer & 0xFF) {
+            (Fault::EveryTakeRefused, 0) => return UNCORRECTABLE,
+            (Fault::PayloadOfZeros, 0) => data.fill(0),
+            (Fault::MetadataBeforeRefusal, UNCORRECTABLE) => metadata.fill(0),
+            (Fault::EarlyBlocksBeforeRefusal, UNCORRECTABLE) if answer >> 8 > 0 => {
+                Model.take_page(record, &without_ruined(record, page), metadata, data);
+                let layout = check_layout(record).unwrap();
+                let message = |block| layout.block(block).message_bits / 8;
+                let early = (0..(answer >> 8) as usize).map(message).sum::<usize>();
+                let kept = early - metadata.len()..;
+                data[kept.clone()].copy_from_slice(&held[kept]);
+            }
+            (Fault::TakeTrustsLook, UNCORRECTABLE) if self.looked.get() == 0 => {
+                let repaired = without_ruined(record, page);
+                return Model.take_page(record, &repaired, metadata, data);
+            }
+            (Fault::TakenHighestNamed, UNCORRECTABLE) => return highest_named(record, page),
+            (Fault::TakenBlockNotNamed, UNCORRECTABLE) => return UNCORRECTABLE,
+            (Fault::ErasedTakeRefused, 0) if counts_of(record, page).iter().any(|&c| c >= 128) => {
                 return UNCORRECTABLE;
             }
-            (Fault::ErasedCountedAsFlips, 0) => counts.iter_mut().for_each(|count| *count %= 128),
-            (Fault::ErasedMessageAsRead, 0) if counts[0] >= 128 => {
+            (Fault::ErasedMessageAsRead, 0) if counts_of(record, page)[0] >= 128 => {
                 metadata.copy_from_slice(&page[..metadata.len()]);
             }
             _ => (),
@@ -139,7 +241,7 @@ impl Library for Faulty {
         let (t, all) = (shape.t(), zeros(&word));
         let in_message = zeros(&word[..shape.message_bits]);
         let erased = |zeros: usize| (128 + zeros as u64) << 32;
-        match self.0 {
+        match self.fault {
             Fault::FlipsOfJudgedBlockForgotten => answer & 0xFFFF_FFFF,
             Fault::ZerosBeforeDecoding if t > 0 && all <= t => erased(all),
             Fault::OneZeroMore if answer != 0 && all == t + 1 => erased(all),
@@ -159,7 +261,7 @@ impl Library for Faulty {
     ) -> u64 {
         let answer = Model.locate_errors(level_field, field_choice, n, remainder, places);
         let size = (answer >> 32) as usize;
-        match (self.0, answer & 0xFF) {
+        match (self.fault, answer & 0xFF) {
             (Fault::PlacesAscending, 0) => places[..size].reverse(),
             (Fault::PlacesAfterwardsCleared, 0) => places[size..].fill(0),
             (Fault::PlaceWrittenOnRefusal, UNCORRECTABLE) => places[0] ^= 1,
@@ -170,7 +272,7 @@ impl Library for Faulty {
 
     fn check_claim(&self, record: &[u8], page: &[u8], block: u64, claims: &[u16]) -> u64 {
         let mut claims = claims.to_vec();
-        if self.0 == Fault::EqualClaimsAccepted {
+        if self.fault == Fault::EqualClaimsAccepted {
             claims.sort();
             claims.dedup();
         }
@@ -179,7 +281,7 @@ impl Library for Faulty {
 
     fn export_fragments(&self, level_field: u64, remainder: &[u8], fragments: &mut [u32]) -> u64 {
         let answer = Model.export_fragments(level_field, remainder, fragments);
-        match (self.0, answer & 0xFF) {
+        match (self.fault, answer & 0xFF) {
             (Fault::FragmentsReversed, 0) => fragments.reverse(),
             (Fault::StartBitSet, 0) => fragments[6] |= START_BIT,
             _ => (),
@@ -189,11 +291,11 @@ impl Library for Faulty {
 
     fn import_fragments(&self, level_field: u64, fragments: &[u32], remainder: &mut [u8]) -> u64 {
         let mut fragments = fragments.to_vec();
-        if let (Fault::StartBitPassed, Some(last)) = (self.0, fragments.get_mut(6)) {
+        if let (Fault::StartBitPassed, Some(last)) = (self.fault, fragments.get_mut(6)) {
             *last &= !START_BIT;
         }
         let answer = Model.import_fragments(level_field, &fragments, remainder);
-        if self.0 == Fault::RemainderWrittenOnRefusal && answer == TOO_WIDE {
+        if self.fault == Fault::RemainderWrittenOnRefusal && answer == TOO_WIDE {
             remainder[0] ^= 1;
         }
         answer
@@ -201,7 +303,7 @@ impl Library for Faulty {
 
     fn parity_start(&self, state: &mut [u64], level: u64, choice: u64, length: u64) -> u64 {
         let answer = Model.parity_start(state, level, choice, length);
-        if self.0 == Fault::StateWrittenOnRefusal && answer != 0 {
+        if self.fault == Fault::StateWrittenOnRefusal && answer != 0 {
             state[0] ^= 1;
         }
         answer
@@ -209,7 +311,7 @@ impl Library for Faulty {
 
     fn parity_feed(&self, state: &mut [u64], piece: &[u8]) -> u64 {
         let answer = Model.parity_feed(state, piece);
-        if self.0 == Fault::PieceTakenInPart && answer == BUFFER_LENGTH {
+        if self.fault == Fault::PieceTakenInPart && answer == BUFFER_LENGTH {
             let left = (state[2] - state[3]) as usize;
             Model.parity_feed(state, &piece[..left]);
         }
@@ -218,11 +320,21 @@ impl Library for Faulty {
 
     fn parity_finish(&self, state: &mut [u64], parity: &mut [u8]) -> u64 {
         let answer = Model.parity_finish(state, parity);
-        if self.0 == Fault::StateWrittenByFinish && answer == 0 {
+        if self.fault == Fault::StateWrittenByFinish && answer == 0 {
             state[3] = 0;
         }
         answer
     }
+}
+
+/// The faults of a list that a comparison of one kind of calls does not find.
+fn not_found(faults: &[Fault], compare: fn(&mut Comparison) -> bool) -> Vec<Fault> {
+    let found_out = |fault: Fault| {
+        let looked = Cell::new(0);
+        compare(&mut Comparison::new(&Faulty { fault, looked }, 12))
+    };
+    let faults = faults.iter().copied();
+    faults.filter(|&fault| !found_out(fault)).collect()
 }
 
 #[test]
@@ -233,53 +345,51 @@ fn faulty_libraries_are_found_out() {
         Fault::PlacesAfterwardsCleared,
         Fault::PlaceWrittenOnRefusal,
     ];
-    let pages = [
-        Fault::NothingWritten,
-        Fault::TailOfZeros,
-        Fault::EveryPageRefused,
-        Fault::PayloadOfZeros,
-        Fault::PayloadBeforeRefusal,
-        Fault::CountsOfBlock0Only,
-        Fault::RuinedBlockNotNamed,
-        Fault::FlipsOfJudgedBlockForgotten,
-        Fault::ErasedRefused,
-        Fault::ErasedMessageAsRead,
-        Fault::ErasedCountedAsFlips,
-        Fault::ZerosBeforeDecoding,
-        Fault::OneZeroMore,
-        Fault::ZerosOfMessageAlone,
-        Fault::ZerosWithoutEcc,
-        Fault::EqualClaimsAccepted,
-    ];
-    for fault in layouts {
-        let found_out = Comparison::new(&Faulty(fault), 12).layouts().is_err();
-        assert!(found_out, "{fault:?}");
-    }
-    for fault in remainders {
-        let found_out = Comparison::new(&Faulty(fault), 12).remainders().is_err();
-        assert!(found_out, "{fault:?}");
-    }
     let fragments = [
         Fault::FragmentsReversed,
         Fault::StartBitSet,
         Fault::StartBitPassed,
         Fault::RemainderWrittenOnRefusal,
     ];
-    for fault in fragments {
-        let found_out = Comparison::new(&Faulty(fault), 12).fragments().is_err();
-        assert!(found_out, "{fault:?}");
-    }
     let pieces = [
         Fault::StateWrittenOnRefusal,
         Fault::StateWrittenByFinish,
         Fault::PieceTakenInPart,
     ];
-    for fault in pieces {
-        let found_out = Comparison::new(&Faulty(fault), 12).pieces().is_err();
-        assert!(found_out, "{fault:?}");
-    }
-    for fault in pages {
-        let found_out = Comparison::new(&Faulty(fault), 12).pages().is_err();
-        assert!(found_out, "{fault:?}");
-    }
+    let pages = [
+        Fault::NothingWritten,
+        Fault::TailOfZeros,
+        Fault::EveryLookRefused,
+        Fault::CountsOfBlock0Only,
+        Fault::LookStopsAtRuined,
+        Fault::LookWritesNothingOnRefusal,
+        Fault::CountsWrittenOnWrongPage,
+        Fault::CountsWrittenOnWrongLength,
+        Fault::RuinedCountOtherwise,
+        Fault::RuinedCountedAndDone,
+        Fault::ErasedCountedAsRuined,
+        Fault::ErasedCountedAsFlips,
+        Fault::LookedHighestNamed,
+        Fault::LookedBlockNotNamed,
+        Fault::EveryTakeRefused,
+        Fault::PayloadOfZeros,
+        Fault::MetadataBeforeRefusal,
+        Fault::EarlyBlocksBeforeRefusal,
+        Fault::TakeTrustsLook,
+        Fault::TakenHighestNamed,
+        Fault::TakenBlockNotNamed,
+        Fault::ErasedTakeRefused,
+        Fault::ErasedMessageAsRead,
+        Fault::FlipsOfJudgedBlockForgotten,
+        Fault::ZerosBeforeDecoding,
+        Fault::OneZeroMore,
+        Fault::ZerosOfMessageAlone,
+        Fault::ZerosWithoutEcc,
+        Fault::EqualClaimsAccepted,
+    ];
+    assert_eq!(not_found(&layouts, |c| c.layouts().is_err()), []);
+    assert_eq!(not_found(&remainders, |c| c.remainders().is_err()), []);
+    assert_eq!(not_found(&fragments, |c| c.fragments().is_err()), []);
+    assert_eq!(not_found(&pieces, |c| c.pieces().is_err()), []);
+    assert_eq!(not_found(&pages, |c| c.pages().is_err()), []);
 }

@@ -90,66 +90,12 @@ fn damage_up_to_t_reads_back() {
             flips.push(count as u8);
         }
         damage_tail(&mut page, &layout, &mut random);
-        let mut read_metadata = random.bytes(metadata.len());
-        let mut read_data = random.bytes(data.len());
         let mut counts = random.bytes(layout.blocks());
-        let reply = read_page(
-            &record,
-            &page,
-            &mut read_metadata,
-            &mut read_data,
-            &mut counts,
-        );
+        assert_eq!(look_page(&record, &page, &mut counts), Ok(()));
+        let mut taken = (random.bytes(metadata.len()), random.bytes(data.len()));
+        let reply = take_page(&record, &page, &mut taken.0, &mut taken.1);
         assert_eq!(reply, Ok(()));
-        assert_eq!((read_metadata, read_data, counts), (metadata, data, flips));
-    }
-}
-
-#[test]
-fn reading_names_the_lowest_ruined_block() {
-    let mut random = Random::new(10);
-    for _ in 0..150 {
-        let WrittenPage {
-            record,
-            layout,
-            mut page,
-            ..
-        } = written(&mut random, 400);
-        for block in 0..layout.blocks() {
-            if random.chance(layout.blocks()) {
-                let n = layout.block(block).covered_bits();
-                let count = n.min(layout.block(block).t() + random.within(1, 9));
-                damage(&mut page, &layout, block, count, &mut random);
-            }
-        }
-        let judged: Vec<_> = (0..layout.blocks())
-            .map(|block| judge_block(&record, &page, block as u64))
-            .collect();
-        let (metadata, data) = (
-            random.bytes(layout.metadata_length),
-            random.bytes(layout.data_length()),
-        );
-        let counts = random.bytes(layout.blocks());
-        let mut lent = (metadata.clone(), data.clone(), counts.clone());
-        let reply = read_page(&record, &page, &mut lent.0, &mut lent.1, &mut lent.2);
-        match judged.iter().position(|judged| judged.is_err()) {
-            Some(block) => {
-                assert_eq!(reply, Err(Refusal::uncorrectable(block)));
-                assert_eq!(judged[block], Err(Refusal::uncorrectable(block)));
-                assert_eq!(lent, (metadata, data, counts));
-            }
-            None => {
-                let flips: Vec<usize> = judged.iter().map(|judged| judged.unwrap()).collect();
-                assert_eq!(reply, Ok(()));
-                assert_eq!(
-                    lent.2
-                        .iter()
-                        .map(|&count| count as usize)
-                        .collect::<Vec<_>>(),
-                    flips
-                );
-            }
-        }
+        assert_eq!((taken, counts), ((metadata, data), flips));
     }
 }
 
@@ -175,28 +121,23 @@ fn precedence_in_page_calls() {
     assert_eq!(number(check_claim(&good, &page, 1 << 32, &[58])), 7);
     assert_eq!(number(check_claim(&good, &page, 1, &[58])), 10);
     assert_eq!(number(check_claim(&good, &page, 1, &[])), 0);
-    assert_eq!(
-        number(read_page(&good, &page[..3], &mut [0], &mut [], &mut [])),
-        5
-    );
-    assert_eq!(
-        number(read_page(
-            &good,
-            &ruined,
-            &mut [0],
-            &mut [0; 8],
-            &mut [0; 2]
-        )),
-        6
-    );
-    assert_eq!(
-        number(read_page(&good, &ruined, &mut [], &mut [0; 7], &mut [0; 2])),
-        6
-    );
-    assert_eq!(
-        number(read_page(&good, &ruined, &mut [], &mut [0; 8], &mut [0; 3])),
-        6
-    );
+    assert_eq!(number(look_page(&good[..7], &page[..3], &mut [])), 6);
+    assert_eq!(number(look_page(&refused, &page[..3], &mut [])), 1);
+    assert_eq!(number(look_page(&good, &page[..3], &mut [])), 5);
+    assert_eq!(number(look_page(&good, &ruined, &mut [0; 1])), 6);
+    assert_eq!(number(look_page(&good, &ruined, &mut [0; 3])), 6);
+    assert_eq!(number(look_page(&good, &ruined, &mut [0; 2])), 9);
+    let take = |record, page, metadata: usize, data: usize| {
+        let (mut metadata, mut data) = (vec![0; metadata], vec![0; data]);
+        number(take_page(record, page, &mut metadata, &mut data))
+    };
+    assert_eq!(take(&good[..7], &page[..3], 1, 0), 6);
+    assert_eq!(take(&refused, &page[..3], 1, 0), 1);
+    assert_eq!(take(&good, &page[..3], 1, 0), 5);
+    assert_eq!(take(&good, &ruined, 1, 8), 6);
+    assert_eq!(take(&good, &ruined, 0, 7), 6);
+    assert_eq!(take(&good, &ruined, 0, 9), 6);
+    assert_eq!(take(&good, &ruined, 0, 8), 9);
     assert_eq!(number(write_page(&good, &[], &[0; 9], &mut [0; 14])), 5);
     assert_eq!(number(write_page(&good, &[], &[0; 9], &mut [0; 15])), 6);
 }

@@ -1,116 +1,83 @@
 // What the arguments of the tool say. An error is printed where an argument is not what it has to be.
 //
-//   are            whether there are so many arguments
-//   number         a number
-//   word           a number of 32 bits
-//   word_list      a list of numbers
-//   layout_words   the two words of a layout
-//   bad_remainder  the error about a remainder that cannot be read
+//   command, scripted           where the command stands, and whether scripts/nandpage puts its number in front of it
+//   run_number                  the number of the run, by which new files are named
+//   find_options                the options after the command
+//   are, whole                  whether there are so many arguments; whether one is not cut short
+//   number, word, word_list     numbers
+//   layout_words                the two words of a layout
+//   bad_remainder               the error about a remainder that cannot be read
+mod choices;
+mod numbers;
+
+pub use choices::Options;
+pub use choices::PAGE;
+pub use choices::QUIET;
+pub use choices::RANGE;
+pub use choices::RAW;
+pub use choices::STDOUT;
+pub use choices::find_options;
+use libc::ENAMETOOLONG;
+pub use numbers::WORD;
+pub use numbers::Words;
+pub use numbers::bad_remainder;
+pub use numbers::layout_words;
+pub use numbers::number;
+pub use numbers::word;
+pub use numbers::word_list;
 use text::Number;
 
-// The words of a layout, each of 32 bits, or none where an error was printed.
-pub enum Words {
-    Are { first: u32, second: u32 },
-    Bad,
+// Whether scripts/nandpage runs the program: it puts `--script` and a number before the command, and is told the exit status
+// on descriptor 9.
+pub fn scripted() -> bool {
+    let mut given = [0u8; 16];
+    let n = os::arg(1, &mut given);
+    check::same(&given[..n], b"--script")
 }
 
-// Whether there are so many arguments, the names of program and command among them; an error is printed where not.
-pub fn are(count: usize, usage: &[u8]) -> bool {
-    if os::arg_count() == count {
+// The number by which a new file beside an old one is named: the script's, or 0 without it.
+pub fn run_number() -> u64 {
+    if !scripted() {
+        return 0;
+    }
+    let mut given = [0u8; 16];
+    let n = os::arg(2, &mut given);
+    match text::parse_number(&given[..n]) {
+        Number::Is(v) => v,
+        Number::Bad => 0,
+    }
+}
+
+// The number of the argument that is the command.
+pub fn command() -> usize {
+    if scripted() {
+        return 3;
+    }
+    1
+}
+
+// The number of the argument `k` places on.
+pub fn place(at: usize, k: usize) -> usize {
+    if 18446744073709551615 - k < at {
+        return at;
+    }
+    at + k
+}
+
+// Whether there are so many arguments from place `at` on; an error is printed where not.
+pub fn are(out: &mut [u8; 32768], at: usize, count: usize, usage: &[u8]) -> bool {
+    if os::arg_count() == place(at, count) {
         return true;
     }
-    say::error(usage);
+    say::error(out, usage);
     false
 }
 
-// A number; an error is printed where the argument is none.
-pub fn number(i: usize, name: &[u8]) -> Number {
-    let mut given = [0u8; 64];
-    let n = os::arg(i, &mut given);
-    let found = text::parse_number(&given[..n]);
-    if let Number::Bad = found {
-        say::bad_argument(
-            name,
-            &given[..n],
-            b"is no number (decimal, or hexadecimal after 0x) of at most 64 bits",
-        );
+// Whether the argument that was just asked for is not cut short; an error is printed where it is.
+pub fn whole(out: &mut [u8; 32768], name: &[u8]) -> bool {
+    if os::errno() != ENAMETOOLONG {
+        return true;
     }
-    found
-}
-
-// The largest exponent of a claim, and the largest word.
-pub const EXPONENT: u64 = 65535;
-
-pub const WORD: u64 = 4294967295;
-
-fn too_large(most: u64) {
-    if most == EXPONENT {
-        say::error(b"an exponent has 16 bits, at most 65535");
-        return;
-    }
-    say::error(b"a word has 32 bits, at most 0xFFFFFFFF");
-}
-
-// A number of at most `most`; an error is printed where the argument is none.
-fn at_most(i: usize, name: &[u8], most: u64) -> Number {
-    let Number::Is(v) = number(i, name) else {
-        return Number::Bad;
-    };
-    if most < v {
-        too_large(most);
-        return Number::Bad;
-    }
-    Number::Is(v)
-}
-
-// A word of 32 bits; an error is printed where the argument is none.
-pub fn word(i: usize, name: &[u8]) -> Number {
-    at_most(i, name, WORD)
-}
-
-// The lowest 32 bits of a number.
-fn low(v: u64) -> u32 {
-    (v % 4294967296) as u32
-}
-
-// Puts a number to place `at` of the list, where there is such a place.
-fn put(list: &mut [u32], at: usize, v: u64) {
-    if at < list.len() {
-        list[at] = low(v);
-    }
-}
-
-// Puts the arguments from `first` up to `end` to the front of the list, until one is no number of at most `most`: then an
-// error is printed. Says whether all are.
-pub fn word_list(first: usize, end: usize, name: &[u8], most: u64, list: &mut [u32]) -> bool {
-    let mut i = first;
-    while i < end {
-        let Number::Is(v) = at_most(i, name, most) else {
-            return false;
-        };
-        put(list, i - first, v);
-        i += 1;
-    }
-    true
-}
-
-// An error about a remainder that cannot be read.
-pub fn bad_remainder() {
-    say::error(
-        b"REMAINDER is an even number of hexadecimal digits, at most 256, highest coefficient first",
-    );
-}
-
-// The two words of a layout, arguments 2 and 3.
-pub fn layout_words() -> Words {
-    let Number::Is(first) = word(2, b"WORD0") else {
-        return Words::Bad;
-    };
-    let Number::Is(second) = word(3, b"WORD1") else {
-        return Words::Bad;
-    };
-    Words::Are {
-        first: low(first),
-        second: low(second),
-    }
+    say::bad_argument(out, name, b"..", b"is too long");
+    false
 }

@@ -1,3 +1,2 @@
-pub mod Locating
 pub mod Replies
 pub mod Remainder

@@ -18,9 +18,9 @@ use Rattle.code.specs.Word.{Word, ones}
 use Rattle.code.specs.Code.{Fits}
 use Rattle.code.specs.Locations.{Locations, Locates, listed, exponents, nowhere, locate}
 use Rattle.code.proofs.Locations.{listed-length, locate-exponents, locate-nowhere}
-use Rattle.remainder.specs.Remainder.{numberOf}
+use Rattle.remainder.specs.Remainder.{bytesFor, numberOf}
 use Rattle.replies.specs.Replies.{unless}
-use Rattle.bch.specs.Answers.{Ended, done, refused, levelOf, bytesFor, requestReply, listIn, remainderIn, locateIn, locateFor, locateOf}
+use Rattle.bch.specs.Answers.{Ended, done, refused, levelOf, requestReply, listIn, remainderIn, locateIn, locateFor, locateOf}
 
 pub record Right (f : Field) (field n : ℕ) (remainder places : List ℕ) : Type 0 where
   pub request : requestReply f field n (length remainder) (length places) ≡ 0
@@ -39,7 +39,7 @@ module _ (f : Field) (field n : ℕ) (remainder places : List ℕ) (h : Right f 
   unfolding requestReply levelOf
   right-fits =
       let a = tests-hold (leb field 20) (ltb 0 field) (ltb (degree f * (2 * field)) n) (leb n (longest f))
-      (eqb (length remainder) (bytesFor f (2 * field))) (leb (2 * field) (length places)) (h .request) in
+      (eqb (length remainder) (bytesFor (degree f * (2 * field)))) (leb (2 * field) (length places)) (h .request) in
       let l : field ≤ 20 = leb-true field 20 (a .0) in
       record { short = λ t. leb-true n (longest f) (a .1); level = omega arith }
 

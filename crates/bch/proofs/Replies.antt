@@ -13,15 +13,15 @@ use Rattle.field.specs.declared.Field.{Field}
 use Rattle.field.specs.Field.{degree, longest}
 use Rattle.code.specs.Code.{Fits}
 use Rattle.code.specs.Locations.{exponents, locate}
-use Rattle.bch.specs.declared.Found.{Found}
+use Rattle.decoder.specs.declared.Found.{Found}
 use Rattle.replies.specs.declared.Refusal.{Refusal}
 use Rattle.replies.specs.declared.Refusal.the-variants as refusal
 use Rattle.replies.specs.Replies.{number, block}
 use Rattle.bch.specs.declared.LocateAnswer.the-variants.{Located, Refused}
-use Rattle.bch.specs.Locating.{answer}
-use Rattle.remainder.specs.Remainder.{numberOf}
-use Rattle.bch.specs.Answers.{Ended, ended, levelOf, bytesFor, requestReply, listIn, remainderIn, locateIn}
-use Rattle.bch.proofs.Locating.{zero-located}
+use Rattle.decoder.specs.Locating.{answer}
+use Rattle.remainder.specs.Remainder.{bytesFor, numberOf}
+use Rattle.bch.specs.Answers.{Ended, ended, levelOf, requestReply, listIn, remainderIn, locateIn}
+use Rattle.decoder.proofs.Locating.{zero-located}
 
 -- ---- the list
 
@@ -84,17 +84,17 @@ module _ (f : Field) (field n : ℕ) (remainder d : List ℕ) where
             (unfold requestReply number in rw (le-leb field 20 low, lt-ltb 0 field positive, lt-ltb (degree f * levelOf field) n room, lt-leb n (longest f) h)) (unfold number in refl) (unfold block in refl)
 
         module _ (short : n ≤ longest f) where
-          pub in-bytes : ¬ (length remainder ≡ bytesFor f (levelOf field)) → ended (Refused refusal.BufferLength) d ≡ locateIn f field n remainder d
+          pub in-bytes : ¬ (length remainder ≡ bytesFor (degree f * levelOf field)) → ended (Refused refusal.BufferLength) d ≡ locateIn f field n remainder d
           in-bytes h = refused-in refusal.BufferLength
               (unfold requestReply number in rw (
                 le-leb field 20 low,
                 lt-ltb 0 field positive,
                 lt-ltb (degree f * levelOf field) n room,
                 le-leb n (longest f) short,
-                ne-eqb (length remainder) (bytesFor f (levelOf field)) h,
+                ne-eqb (length remainder) (bytesFor (degree f * levelOf field)) h,
               )) (unfold number in refl) (unfold block in refl)
 
-          module _ (bytes : length remainder ≡ bytesFor f (levelOf field)) where
+          module _ (bytes : length remainder ≡ bytesFor (degree f * levelOf field)) where
             pub in-places : length d < levelOf field → ended (Refused refusal.BufferLength) d ≡ locateIn f field n remainder d
             in-places h = refused-in refusal.BufferLength
                 (unfold requestReply number in rw (
@@ -102,7 +102,7 @@ module _ (f : Field) (field n : ℕ) (remainder d : List ℕ) where
                   lt-ltb 0 field positive,
                   lt-ltb (degree f * levelOf field) n room,
                   le-leb n (longest f) short,
-                  eq-eqb (length remainder) (bytesFor f (levelOf field)) bytes,
+                  eq-eqb (length remainder) (bytesFor (degree f * levelOf field)) bytes,
                   lt-leb (levelOf field) (length d) h,
                 )) (unfold number in refl) (unfold block in refl)
 
@@ -113,6 +113,6 @@ module _ (f : Field) (field n : ℕ) (remainder d : List ℕ) where
                   lt-ltb 0 field positive,
                   lt-ltb (degree f * levelOf field) n room,
                   le-leb n (longest f) short,
-                  eq-eqb (length remainder) (bytesFor f (levelOf field)) bytes,
+                  eq-eqb (length remainder) (bytesFor (degree f * levelOf field)) bytes,
                   le-leb (levelOf field) (length d) h,
                 ) g

@@ -6,7 +6,6 @@
 -- done, refused         how the call ends with a set, and without
 -- ended answer places   document 01's numbers for an answer of the code that leaves the list so
 -- levelOf field         the level t of a level field
--- bytesFor f t          the number of bytes of a remainder
 -- requestReply ..       the reply about the numbers and lengths, 0 where they are right
 -- listIn l places       how the call ends by what the remainder locates
 -- remainderIn ..        the call for a remainder x
@@ -14,7 +13,7 @@
 -- locateOf ..           the call
 use mathlib.Core.Bool.{cond}
 use mathlib.Core.List.{List, _++_}
-use Prim.Native.Nat.{ℕ, _+_, _*_, _/_, _^_}
+use Prim.Native.Nat.{ℕ, _*_, _^_}
 use lib.ListN.{length, drop}
 use lib.Dec.{eqb, ltb, leb}
 use Rattle.field.specs.declared.Field.{Field}
@@ -22,7 +21,7 @@ use Rattle.field.specs.declared.Choice.{Choice}
 use Rattle.field.specs.declared.Choice.the-variants.{Offered, Unknown}
 use Rattle.field.specs.Field.{degree, longest, chosen}
 use Rattle.code.specs.Locations.{Locations, exponents, nowhere, locate}
-use Rattle.remainder.specs.Remainder.{numberOf}
+use Rattle.remainder.specs.Remainder.{bytesFor, numberOf}
 use Rattle.replies.specs.Replies.{number, block, unless}
 use Rattle.bch.specs.declared.LocateAnswer.{LocateAnswer}
 use Rattle.bch.specs.declared.LocateAnswer.the-variants as answer
@@ -46,10 +45,6 @@ ended (answer.Refused r) places = record { reply = number r; block = block r; si
 unfoldable pub levelOf : ℕ → ℕ
 levelOf field = 2 * field
 
--- mt / 8 rounded up
-unfoldable pub bytesFor : Field → ℕ → ℕ
-bytesFor f t = (degree f * t + 7) / 8
-
 -- 1: the level field is at most 0x14. 2: t is not 0, and n is more than mt. 3: n is at most 2^m - 1.
 -- 6: the remainder has its bytes, and the list has at least t places.
 unfoldable pub requestReply : Field → ℕ → ℕ → ℕ → ℕ → ℕ
@@ -58,7 +53,7 @@ requestReply f field n remainder places =
     (unless (ltb 0 field) 2
     (unless (ltb (degree f * levelOf field) n) 2
     (unless (leb n (longest f)) 3
-    (unless (eqb remainder (bytesFor f (levelOf field))) 6
+    (unless (eqb remainder (bytesFor (degree f * levelOf field))) 6
     (unless (leb (levelOf field) places) 6
     0)))))
 

@@ -18,8 +18,8 @@ use Rattle.field.specs.declared.Choice.{Choice}
 use Rattle.field.specs.declared.Choice.the-variants.{Offered, Unknown}
 use Rattle.field.specs.Field.{degree, longest, chosen}
 use Rattle.code.specs.Locations.{Locations, exponents, nowhere, locate}
-use Rattle.remainder.specs.Remainder.{numberOf}
-use Rattle.bch.specs.Answers.{Ended, refused, levelOf, bytesFor, requestReply, listIn, remainderIn, locateIn, locateFor, locateOf}
+use Rattle.remainder.specs.Remainder.{bytesFor, numberOf}
+use Rattle.bch.specs.Answers.{Ended, refused, levelOf, requestReply, listIn, remainderIn, locateIn, locateFor, locateOf}
 use Rattle.bch_replies.specs.ReplyRules.{isNowhere, rulesIn, locateRules, LocateEnds}
 
 -- How the call ends by its tests, in their order.
@@ -67,7 +67,7 @@ module _ (field n : ℕ) (remainder places : List ℕ) where
   -- the call in a field goes by these tests
   in-replied : (f : Field) → locateIn f field n remainder places
       ≡ replied places (leb field 20) (ltb 0 field) (ltb (degree f * levelOf field) n) (leb n (longest f))
-      (eqb (length remainder) (bytesFor f (levelOf field))) (leb (levelOf field) (length places))
+      (eqb (length remainder) (bytesFor (degree f * levelOf field))) (leb (levelOf field) (length places))
       (ltb (numberOf remainder) (2 ^ (degree f * levelOf field))) (locate f (levelOf field) n (numberOf remainder))
   unfolding locateIn requestReply remainderIn replied number
   in-replied f = refl
@@ -85,7 +85,7 @@ module _ (field n : ℕ) (remainder places : List ℕ) where
         leb-not (2 ^ (degree f * levelOf field)) (numberOf remainder),
       )
       (replied-follows places (leb field 20) (ltb 0 field) (ltb (degree f * levelOf field) n) (leb n (longest f))
-      (eqb (length remainder) (bytesFor f (levelOf field))) (leb (levelOf field) (length places))
+      (eqb (length remainder) (bytesFor (degree f * levelOf field))) (leb (levelOf field) (length places))
       (ltb (numberOf remainder) (2 ^ (degree f * levelOf field))) (locate f (levelOf field) n (numberOf remainder)))
 
   in-ends : (f : Field) → LocateEnds places (locateIn f field n remainder places)

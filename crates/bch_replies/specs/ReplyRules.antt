@@ -17,8 +17,8 @@ use Rattle.field.specs.declared.Field.{Field}
 use Rattle.field.specs.declared.Field.the-variants.{Thirteen, Fourteen}
 use Rattle.field.specs.Field.{degree, longest}
 use Rattle.code.specs.Locations.{Locations, exponents, nowhere, locate}
-use Rattle.remainder.specs.Remainder.{numberOf}
-use Rattle.bch.specs.Answers.{Ended, refused, levelOf, bytesFor}
+use Rattle.remainder.specs.Remainder.{bytesFor, numberOf}
+use Rattle.bch.specs.Answers.{Ended, refused, levelOf}
 
 unfoldable pub isNowhere : Locations → Bool
 isNowhere (exponents ps) = false
@@ -31,7 +31,7 @@ rulesIn f field n remainder places =
     ∷ rule (eqb field 0) EmptyMessage
     ∷ rule (leb n (degree f * levelOf field)) EmptyMessage
     ∷ rule (ltb (longest f) n) BlockTooLong
-    ∷ rule (unequal (length remainder) (bytesFor f (levelOf field))) BufferLength
+    ∷ rule (unequal (length remainder) (bytesFor (degree f * levelOf field))) BufferLength
     ∷ rule (ltb (length places) (levelOf field)) BufferLength
     ∷ rule (leb (2 ^ (degree f * levelOf field)) (numberOf remainder)) RemainderTooWide
     ∷ rule (isNowhere (locate f (levelOf field) n (numberOf remainder))) (Uncorrectable 0)

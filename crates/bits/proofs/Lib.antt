@@ -3,5 +3,4 @@ pub mod Numbers
 pub mod Runs
 pub mod Pages
 pub mod Placed
-pub mod Parts
 pub mod Steps

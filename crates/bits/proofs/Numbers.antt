@@ -9,7 +9,7 @@ use native.Mathlib.Nat.{add-zero, mul-add-div-right, mul-add-mod-self-right, pow
 use native.Mathlib.Numerals.{add-one}
 use lib.ListN.{length, getD, length-append, length-replicate}
 use lib.Seq.{ext-getD}
-use lib.Pow.{split, high, low, shr-shr, pow-pos, pow-add, mod-pow-add}
+use lib.Pow.{split, high, shr-shr, pow-pos, pow-add, mod-pow-add}
 use lib.Arith.{digits-lt}
 use lib.Dec.{eqb}
 use Rattle.bits.specs.Bits.{bit, run, ones, digit, number, digits}
@@ -92,12 +92,9 @@ number-append (b ∷ v) w =
     let p : 2 ^ length (v ++ w) ≡ 2 ^ length v * 2 ^ length w = ap (λ (n : ℕ). 2 ^ n) (length-append v w) ∙ pow-add 2 (length v) (length w) in
     rw (p, number-append v w, add-mul, mul-assoc, add-assoc)
 
--- the upper and the lower part of a number given by its digits
+-- the upper part of a number given by its digits
 pub number-high : (v w : List Bool) → number (v ++ w) / 2 ^ length w ≡ number v
 number-high v w = rw number-append (high (number v) (length w) (number-lt w))
-
-pub number-low : (v w : List Bool) → number (v ++ w) % 2 ^ length w ≡ number w
-number-low v w = rw number-append (low (number v) (length w) (number-lt w))
 
 pub number-bit : (w : List Bool) (j : ℕ) → j < length w → bit (number w) j ≡ digit (getD w (length w - suc j) false)
 unfolding number

@@ -1,5 +1,5 @@
 -- Laws of the bits of pages, and of bytes given by their bits.
-use mathlib.Core.Path.{_≡_, refl, sym, ap, _∙_}
+use mathlib.Core.Path.{_≡_, sym, ap, _∙_}
 use mathlib.Core.Bool.{Bool, false}
 use mathlib.Core.List.{List}
 use Prim.Native.Nat.{ℕ, suc, _+_, _-_, _*_, _/_, _%_, _^_, _<_, _≤_}
@@ -100,9 +100,6 @@ bytes-bit f n p h =
 
 pub bytes-ext : (f : ℕ → Bool) (n : ℕ) (l : List ℕ) → Bytes n l → ((p : ℕ) → p < 8 * n → bitOf l p ≡ f p) → bytes f n ≡ l
 bytes-ext f n l b h = bits-ext n (bytes f n) l (bytes-bytes f n) b (λ p k. bytes-bit f n p k ∙ sym (h p k))
-
-pub bytes-self : (n : ℕ) (l : List ℕ) → Bytes n l → bytes (bitOf l) n ≡ l
-bytes-self n l b = bytes-ext (bitOf l) n l b (λ p h. refl)
 
 pub bytes-cong : (f g : ℕ → Bool) (n : ℕ) → ((p : ℕ) → p < 8 * n → f p ≡ g p) → bytes f n ≡ bytes g n
 bytes-cong f g n h = bytes-ext f n (bytes g n) (bytes-bytes g n) (λ p k. bytes-bit g n p k ∙ sym (h p k))

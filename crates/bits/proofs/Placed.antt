@@ -10,7 +10,7 @@ use lib.ListN.{length, getD, length-append, List·getD-append, List·getD-eq-def
 use lib.Seq.{getD-append-add}
 use borrow.Author.Tests.{le-leb, lt-leb}
 use Rattle.bits.specs.Bits.{bitOf, run, bytes, Bytes, placedBit, placed}
-use Rattle.bits.proofs.Runs.{run-length, run-ext, run-cong, run-append}
+use Rattle.bits.proofs.Runs.{run-length, run-ext, run-append}
 use Rattle.bits.proofs.Pages.{bitOf-past, bytes-length, bytes-bytes, bytes-bit, bytes-ext, bytes-cong}
 
 -- a position lies in the word, or outside it
@@ -73,15 +73,9 @@ module _ (page : List ℕ) (s : ℕ) (w : List Bool) where
     | no h ↦ bitOf-past (placed page s w) p (omega (arith, placed-length)) ∙ sym (bitOf-past page p (omega arith))
   ]
 
-  -- the word reads back, and so does every run that it does not touch
+  -- the word reads back
   pub placed-run : s + length w ≤ 8 * length page → run (bitOf (placed page s w)) s (length w) ≡ w
   placed-run h = run-ext _ s w (length w) false refl (λ j l. placed-inside j false l (omega arith))
-
-  pub placed-run-before : (r n : ℕ) → r + n ≤ s → run (bitOf (placed page s w)) r n ≡ run (bitOf page) r n
-  placed-run-before r n h = run-cong _ _ r r n (λ j l. placed-outside (r + j) (λ a b. omega arith))
-
-  pub placed-run-after : (r n : ℕ) → s + length w ≤ r → run (bitOf (placed page s w)) r n ≡ run (bitOf page) r n
-  placed-run-after r n h = run-cong _ _ r r n (λ j l. placed-outside (r + j) (λ a b. omega arith))
 
   -- a page with the word at its position and every other bit as before
   pub placed-ext : (after : List ℕ) → Bytes (length page) after → ((j : ℕ) → j < length w → s + j < 8 * length page → bitOf after (s + j) ≡ getD w j false)

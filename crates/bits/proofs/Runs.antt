@@ -36,7 +36,3 @@ module _ {A : Type 0} where
   unfolding run
   run-append f s zero k = rw (zero-add k, add-zero s)
   run-append f s (suc n) k = rw (suc-add n k, run-append f (suc s) n k, suc-add s n, add-suc s n)
-
-  -- a list is the run of its elements
-  pub run-self : (w : List A) (d : A) → run (λ p. getD w p d) 0 (length w) ≡ w
-  run-self w d = run-ext (λ p. getD w p d) 0 w (length w) d refl (λ j l. ap (λ (i : ℕ). getD w i d) (zero-add j))

@@ -4,14 +4,14 @@ ghost use Prim.Native.Nat.{_+_, _-_, _*_, _/_, _%_, _^_, _≤_, _<_};
 ghost use lib.ListN.{length, getD};
 ghost use Rattle.bits.specs.Bits.{bitAt, bitOf, run, number};
 
-// Internal: the bit at position p.
+// The bit at position p.
 pub fn bit_at(page: &[u8], p: usize) -> u8
     ensures { λ r. ⌜ r ≡ bitAt (now (page .entry)) p ⌝ }
 {
     (byte_or_zero(page, p / 8) >> (7 - p % 8)) % 2
 }
 
-// Internal: the byte that position p lies in.
+// The byte that position p lies in.
 pub fn byte_of(p: usize) -> usize
     ensures { λ r. ⌜ r ≡ p / 8 ⌝ }
 {
@@ -25,7 +25,7 @@ fn byte_or_zero(page: &[u8], i: usize) -> u8
     if i < page.len() { page[i] } else { 0 }
 }
 
-// Internal: the eight bits from bit k on, counted from the highest, of two bytes that follow each other.
+// The eight bits from bit k on, counted from the highest, of two bytes that follow each other.
 pub fn joined(high: u8, low: u8, k: usize) -> u8
     requires { ⌜ k < 8 ⌝ }
     ensures { λ r. ⌜ r ≡ high * 2 ^ k % 256 + low / 2 ^ (8 - k) ⌝ }
@@ -35,7 +35,7 @@ pub fn joined(high: u8, low: u8, k: usize) -> u8
     (upper + lower) as u8
 }
 
-// Internal: the eight bits from position p on, as a number.
+// The eight bits from position p on, as a number.
 pub fn byte_at(page: &[u8], p: usize) -> u8
     ensures { λ r. ⌜ r ≡ number (run (bitOf (now (page .entry))) p 8) ⌝ }
 {
@@ -45,7 +45,7 @@ pub fn byte_at(page: &[u8], p: usize) -> u8
     joined(high, low, p % 8)
 }
 
-// Internal: n bits from position p on, at most eight, as a number.
+// N bits from position p on, at most eight, as a number.
 pub fn bits_at(page: &[u8], p: usize, n: usize) -> u8
     requires { ⌜ n ≤ 8 ⌝ }
     ensures { λ r. ⌜ r ≡ number (run (bitOf (now (page .entry))) p n) ⌝ }
@@ -90,7 +90,7 @@ fn word_of(upper: u32, lower: u32, next: u8, k: usize) -> u64
     (word << k) + (next as u64 >> (8 - k))
 }
 
-// Internal: the 64 bits from position p on, as a number.
+// The 64 bits from position p on, as a number.
 pub fn word_at(page: &[u8], p: usize) -> u64
     ensures { λ r. ⌜ r ≡ number (run (bitOf (now (page .entry))) p 64) ⌝ }
 {

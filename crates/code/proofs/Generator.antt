@@ -15,7 +15,7 @@ use Rattle.field.specs.declared.Field.the-variants.{Thirteen, Fourteen}
 use Rattle.field.specs.Field.{degree, longest}
 use Rattle.field.proofs.Xor.{mod2, digit-le}
 use Rattle.field.proofs.Primitive.{primitive, usable}
-use Rattle.field.proofs.Instance.{gf, a, el-same, el-nil, el-one, el-pow, order}
+use Rattle.field.proofs.Instance.{gf, a, el-same, el-one, el-pow, order}
 use Rattle.algebra.specs.Polynomial.{pow, horner, Distinct}
 use Rattle.algebra.specs.Word as word
 use Rattle.algebra.proofs.Field.{nil-mul, mul-nil, one-mul as one-mul-of}
@@ -23,7 +23,7 @@ use Rattle.algebra.proofs.Polynomial.{pow-add, pow-one, pow-pow, horner-squares
 use Rattle.code.specs.Word.{Word}
 use Rattle.code.specs.Code.{Codeword, Generator}
 use Rattle.code.specs.Generator.{times, minimals, generator}
-use Rattle.code.proofs.Codeword.{elements, elements-square, el-value, value-element, codeword-odd}
+use Rattle.code.proofs.Codeword.{elements, elements-square, value-element, codeword-odd}
 use Rattle.code.proofs.Polynomial.{valueAt, valueAt-times, valueAt-longer, digits-value}
 use Rattle.code.proofs.MinimalTest.{minimals-minimal}
 use Rattle.code.proofs.Conjugates.{exponent}
@@ -76,13 +76,6 @@ module _ (f : Field) where
   unfolding elements
   valueAt-digits n x y = sym (digits-value (gf f) n x y)
 
-  minimal-zero : (i : ℕ) → i < 62 → valueAt (gf f) (suc (degree f)) (getD (minimals f) i 0) (pow (gf f) (a f) (suc (i + i))) ≡ gf f .nil
-  minimal-zero i h =
-      valueAt-digits _ _ _ ∙ el-same f _ _ (el-value f _ _ (suc (degree f)) ∙ rw (el-pow f (suc (i + i)), ← e) (minimals-minimal f i h .zero) ∙ sym (el-nil f))
-    where
-      e : 1 + (i + i) ≡ suc (i + i)
-      e = omega arith
-
   pub generator-zero : (t i : ℕ) → t ≤ 62 → i < t → valueAt (gf f) (suc (degree f * t)) (generator f t) (pow (gf f) (a f) (suc (i + i))) ≡ gf f .nil
   unfolding generator
   generator-zero zero i h l = absurd (omega arith)
@@ -103,7 +96,7 @@ module _ (f : Field) where
       go : Dec (i < t) → (i < t → valueAt (gf f) (suc (degree f * t)) (generator f t) y ≡ gf f .nil)
           → gf f .mul (valueAt (gf f) (suc (degree f * t)) (generator f t) y) (valueAt (gf f) (suc (degree f)) M y) ≡ gf f .nil
       go (yes p) r = rw (r p) (nil-mul (gf f) _)
-      go (no p) r = let e : i ≡ t = omega arith in let z : valueAt (gf f) (suc (degree f)) M y ≡ gf f .nil = rw e (minimal-zero t h) in rw z (mul-nil (gf f) _)
+      go (no p) r = let e : i ≡ t = omega arith in let z : valueAt (gf f) (suc (degree f)) M y ≡ gf f .nil = rw e (minimals-minimal f t h .zero) in rw z (mul-nil (gf f) _)
 
   pub generator-codeword : (t : ℕ) → t ≤ 62 → Codeword f t (digits (generator f t) (suc (degree f * t)))
   generator-codeword t h = codeword-odd f t _ (λ i l. rw (digits-length (generator f t) (suc (degree f * t))) (sym (valueAt-digits _ _ _) ∙ generator-zero t i h l))

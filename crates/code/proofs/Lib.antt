@@ -5,7 +5,6 @@ pub mod Codeword
 pub mod Outcome
 pub mod Zeros
 pub mod Polynomial
-pub mod Register
 pub mod Minimal
 pub mod MinimalTest
 pub mod Conjugates
@@ -18,5 +17,4 @@ pub mod Flips
 pub mod Descending
 pub mod Locations
 pub mod Unique
-pub mod Rows
 pub mod Multiple

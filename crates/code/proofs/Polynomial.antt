@@ -23,7 +23,7 @@ use Rattle.algebra.specs.Word.{flip, differ}
 use Rattle.algebra.specs.Word as word
 use Rattle.algebra.proofs.Field.{ring}
 use Rattle.algebra.proofs.Sum.{sum-cong, sum-short}
-use Rattle.algebra.proofs.Polynomial.{horner-cong, low-add, low-cons, low-nil, low-horner}
+use Rattle.algebra.proofs.Polynomial.{horner-cong, low-zero, low-add, low-cons, low-nil, low-horner}
 use Rattle.algebra.proofs.Word.{bit-differ}
 use Rattle.code.specs.Generator.{times}
 
@@ -116,6 +116,14 @@ module _ (K : BinaryField) where
   unfolding valueAt
   valueAt-next n x b y = low-cong (suc n) _ _ y (λ p l. terms-next x b p) ∙ low-cons K n (word.bit K b) (terms x) y
 
+  -- The lowest digit apart from the others.
+  pub valueAt-digit : (n x : ℕ) (b : Bool) (y : F) → x % 2 ≡ digit b → valueAt (suc n) x y ≡ word.bit K b ⊕ y ⊗ valueAt n (x / 2) y
+  valueAt-digit n x b y e = let d : x ≡ x / 2 * 2 + digit b = omega arith in ap (λ v. valueAt (suc n) v y) d ∙ valueAt-next n (x / 2) b y
+
+  pub valueAt-none : (x : ℕ) (y : F) → valueAt 0 x y ≡ 𝟘
+  unfolding valueAt
+  valueAt-none x y = low-zero K (terms x) y
+
   pub valueAt-zero : (n : ℕ) (y : F) → valueAt n 0 y ≡ 𝟘
   unfolding valueAt
   valueAt-zero n y = low-nil K n (terms 0) y (λ p l. terms-high 0 p (pow-pos p))
@@ -138,12 +146,9 @@ module _ (K : BinaryField) where
           → valueAt (suc (n + k)) (times k x (z / 2) * 2) y ≡ y ⊗ (valueAt n x y ⊗ valueAt k (z / 2) y)
       first r = ap (λ v. valueAt (suc (n + k)) v y) (sym (add-zero (times k x (z / 2) * 2))) ∙ valueAt-next (n + k) (times k x (z / 2)) false y ∙ rw r (simp ring)
 
-      rest : (b : Bool) → z % 2 ≡ digit b → valueAt (suc k) z y ≡ word.bit K b ⊕ y ⊗ valueAt k (z / 2) y
-      rest b e = let d : z ≡ z / 2 * 2 + digit b = omega arith in ap (λ v. valueAt (suc k) v y) d ∙ valueAt-next k (z / 2) b y
-
       go : (u : ℕ) → z % 2 ≡ u → valueAt (suc (n + k)) (z % 2 * x) y ⊕ y ⊗ (valueAt n x y ⊗ valueAt k (z / 2) y) ≡ valueAt n x y ⊗ valueAt (suc k) z y
-      go zero e = rw (rest false e, e, zero-mul x, valueAt-zero (suc (n + k)) y) (simp ring)
-      go (suc zero) e = rw (rest true e, e, one-mul x, valueAt-longer n (suc (n + k)) x y (omega arith) h) (simp ring)
+      go zero e = rw (valueAt-digit k z false y e, e, zero-mul x, valueAt-zero (suc (n + k)) y) (simp ring)
+      go (suc zero) e = rw (valueAt-digit k z true y e, e, one-mul x, valueAt-longer n (suc (n + k)) x y (omega arith) h) (simp ring)
       go (suc (suc u)) e = absurd (omega arith)
 
   -- The value of the word of the n lowest digits.

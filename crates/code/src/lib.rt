@@ -19,8 +19,3 @@
 //   Generator, Unique                   the product of the minimal polynomials is the generator, of degree m t, and the only one
 //   Remainder, Dividend                 remainder 0 is codeword; parity; syndromes from the remainder; sums, cuts and leading zeros
 //   Repair, Flips, Descending, Locations the recheck, completeness of the decoder, locating from a remainder and reading by it
-//   Register, Rows                      the tables of generators
-//
-// The code:
-//   generators::generator_row           the generator of a level, from a table of constants
-pub mod generators;

@@ -2,10 +2,10 @@
 use mathlib.Core.Path.{_≡_, refl, sym, ap, ap₂, _∙_}
 use mathlib.Core.Bool.{false}
 use mathlib.Core.List.{List, _++_}
-use Prim.Native.Nat.{ℕ, _+_, _-_, _*_, _/_, _^_, _<_, _≤_}
+use Prim.Native.Nat.{ℕ, _+_, _-_, _*_, _/_, _%_, _^_, _<_, _≤_}
 use native.Mathlib.Omega.{arith}
 use native.Mathlib.Decide.{ℕ-discrete}
-use native.Mathlib.Nat.{mul-le-mul, le-trans, zero-mul, zero-add}
+use native.Mathlib.Nat.{le-of-eq, le-trans, lt-of-le-of-lt, mod-le, mod-eq-of-lt, zero-mul, zero-add}
 use lib.ListN.{length, replicate}
 use lib.Pow.{pow-mono, shl-shr, shl-lt}
 use lib.Bits.{bitXor}
@@ -17,6 +17,7 @@ use Rattle.field.specs.declared.Field.the-variants.{Thirteen, Fourteen}
 use Rattle.field.specs.Field.{degree}
 use Rattle.code.specs.Word.{Word}
 use Rattle.code.specs.Generator.{generator, remainder}
+use Rattle.code.specs.Register.{low}
 use Rattle.code.proofs.Remainder.{remainder-below}
 use Rattle.remainder.specs.Remainder.{remainderFrom}
 use Rattle.remainder.specs.Parity.{parityFrom}
@@ -39,24 +40,26 @@ remainder-none f t w et ex =
     ex ∙ omega arith
 
 -- The parity r so far is moved up to u whole words, more is divided there by the generator moved up as far, and the result is moved down.
-module _ (f : Field) (t : ℕ) (h : 0 < t) (room : degree f * t ≤ 576) {d u : ℕ} (ed : d ≡ degree f * t) (eu : u ≡ width d) (r : ℕ) (hr : r < 2 ^ (degree f * t)) where
-  pub up-below : {b : ℕ} → b ≡ r * 2 ^ (64 * u - d) → b < 2 ^ (64 * u)
+module _ (f : Field) (t : ℕ) (h : 0 < t) (most : t ≤ 62) {d u : ℕ} (ed : d ≡ degree f * t) (eu : u ≡ width d) (r : ℕ) (hr : r < 2 ^ (degree f * t)) where
+  pub up-below : {b : ℕ} → b ≡ r * 2 ^ (64 * u - d) % 2 ^ 896 → b < 2 ^ (64 * u)
   up-below eb =
-      let m = level-room f t room ed eu in
+      let m = level-room f t most ed eu in
       let e : d + (64 * u - d) ≡ 64 * u = omega arith in
       let l : r * 2 ^ (64 * u - d) < 2 ^ (d + (64 * u - d)) = shl-lt d (64 * u - d) (rw ed hr) in
-      rw eb (rw e at l)
+      lt-of-le-of-lt (le-trans (le-of-eq eb) (mod-le (r * 2 ^ (64 * u - d)) (2 ^ 896))) (rw e at l)
 
-  pub up-fits : r * 2 ^ (64 * u - d) < 2 ^ 896
-  up-fits = let w = level-words f t room ed eu in le-trans (up-below refl) (pow-mono {i = 64 * u} {j = 896} (omega arith))
-
-  pub up-lowers : {a : ℕ} → a < 2 ^ (64 * u) → a < 2 ^ 832
-  up-lowers l = let w = level-words f t room ed eu in le-trans l (pow-mono {i = 64 * u} {j = 832} (omega arith))
+  pub up-fits : {b : ℕ} → b ≡ r * 2 ^ (64 * u - d) % 2 ^ 896 → b ≡ r * 2 ^ (64 * u - d)
+  up-fits eb =
+      let w = level-words f t most ed eu in
+      let m = level-room f t most ed eu in
+      let e : d + (64 * u - d) ≡ 64 * u = omega arith in
+      let l : r * 2 ^ (64 * u - d) < 2 ^ (d + (64 * u - d)) = shl-lt d (64 * u - d) (rw ed hr) in
+      eb ∙ mod-eq-of-lt (le-trans (rw e at l) (pow-mono {i = 64 * u} {j = 896} (omega arith)))
 
   pub up-divided : (w : Word) {G b a x : ℕ} → G ≡ generator f t * 2 ^ (64 * u - d) → b ≡ r * 2 ^ (64 * u - d) → a ≡ parityFrom (64 * u) G b w → x ≡ a / 2 ^ (64 * u - d)
       → x ≡ parityFrom (degree f * t) (generator f t) r w
   up-divided w eG eb ea ex =
-      let m = level-room f t room ed eu in
+      let m = level-room f t most ed eu in
       let D : ℕ = degree f * t in
       let g : ℕ = generator f t in
       let k : ℕ = 64 * u - d in
@@ -64,7 +67,13 @@ module _ (f : Field) (t : ℕ) (h : 0 < t) (room : degree f * t ≤ 576) {d u : 
       ex ∙ ap (λ y. y / 2 ^ k) (ea ∙ ap₂ (λ (x y : ℕ). parityFrom (64 * u) x y w) eG eb ∙ ap (λ n. parityFrom n (g * 2 ^ k) (r * 2 ^ k) w) e ∙ parity-up k D g (degree-some f t h) r w)
       ∙ shl-shr (parityFrom D g r w) k
 
--- the table of the level
+-- the divisor of the level, in words and in its table
+
+pub divisor-is : (f : Field) (t : ℕ) {d u : ℕ} → d ≡ degree f * t → u ≡ width d → (row : List ℕ)
+    → 2 ^ (64 * width (degree f * t)) + low row (width (degree f * t)) ≡ generator f t * 2 ^ gap (degree f * t) → 2 ^ (64 * u) + low row u ≡ generator f t * 2 ^ (64 * u - d)
+unfolding gap
+divisor-is f t ed eu row e = rw (eu, ed) e
+
 module _ (f : Field) (t : ℕ) {words : List ℕ} (table : Table f t words) (h : 0 < t) {d u : ℕ} (ed : d ≡ degree f * t) (eu : u ≡ width d) where
   pub table-rests : Rests u words
   table-rests = rw (eu, ed) (table .rests h)

@@ -4,18 +4,18 @@ use mathlib.Core.List.{List, [], _∷_}
 use Prim.Native.Nat.{ℕ, zero, suc, _+_, _-_, _*_, _/_, _%_, _^_, _<_, _≤_}
 use native.Mathlib.Omega.{arith}
 use native.Mathlib.Nat.{add-zero, mod-eq-of-lt}
-use lib.ListN.{length}
 use lib.Dec.{eqb}
 use lib.Bits.{bitXor, xor-zero-l, xor-self}
 use lib.Pow.{shr-lt}
 use Rattle.bits.specs.Bits.{bit, bitAt, bitOf, run, digits}
 use Rattle.bits.proofs.Numbers.{bit-zero}
 use Rattle.code.specs.Word.{Word}
-use Rattle.code.specs.Register.{low, register}
+use Rattle.code.specs.Register.{low}
 use Rattle.remainder.specs.Parity.{parityFrom, rest}
-use Rattle.remainder.proofs.Words.{Words, register-mod}
+use Rattle.remainder.proofs.Words.{Words, low-lt}
 use Rattle.remainder.proofs.Parity.{rest-zero, rest-one, parity-digits, parity-below}
-use Rattle.division.specs.Steps.{Aligned}
+use Rattle.division_table.specs.Table.{RowWords}
+use Rattle.division_table.proofs.Filling.{wide-some, divisor-monic, divisor-rest}
 use Rattle.division.proofs.Steps.{parity-parts}
 
 -- two digits that differ sum up to 1
@@ -28,18 +28,19 @@ differ-one zero (suc (suc y)) hx hy ne = absurd (omega arith)
 differ-one (suc zero) (suc (suc y)) hx hy ne = absurd (omega arith)
 differ-one (suc (suc x)) y hx hy ne = absurd (omega arith)
 
-aligned-some : {used : ℕ} {row : List ℕ} → Aligned used row → 0 < 64 * used
-aligned-some aligned = let s = aligned .some in omega arith
+-- a divisor of degree 64 used, whose other coefficients are in the first words of a row
+module _ (used : ℕ) (row : List ℕ) (wide : RowWords used) (words : Words row) where
+  abbrev G : ℕ
+  G = 2 ^ (64 * used) + low row used
 
-pub taken-below : (used : ℕ) (row : List ℕ) → Aligned used row → (r : ℕ) (w : Word) {x : ℕ} → r < 2 ^ (64 * used) → x ≡ parityFrom (64 * used) (register row) r w → x < 2 ^ (64 * used)
-taken-below used row aligned r w h e = rw e (parity-below (64 * used) (register row) (aligned-some aligned) (aligned .monic) r w h)
-
-module _ (used : ℕ) (row : List ℕ) (aligned : Aligned used row) (words : Words row) (len : length row ≡ 14) where
   some : 0 < 64 * used
-  some = aligned-some aligned
+  some = let s = wide-some wide in omega arith
 
-  divisor-low : register row % 2 ^ (64 * used) ≡ low row used
-  divisor-low = register-mod row words used (let r = aligned .room in omega arith)
+  monic : G / 2 ^ (64 * used) ≡ 1
+  monic = divisor-monic used (low row used) (low-lt row words used)
+
+  pub taken-below : (r : ℕ) (w : Word) {x : ℕ} → r < 2 ^ (64 * used) → x ≡ parityFrom (64 * used) G r w → x < 2 ^ (64 * used)
+  taken-below r w h e = rw e (parity-below (64 * used) G some monic r w h)
 
   module _ (r b : ℕ) (hr : r < 2 ^ (64 * used)) (hb : b < 2) {highest next : ℕ} (eh : highest ≡ bit r (64 * used - 1)) (en : next ≡ (r * 2 + 0) % 2 ^ (64 * used)) where
     top-small : r / 2 ^ (64 * used - 1) < 2
@@ -55,20 +56,20 @@ module _ (used : ℕ) (row : List ℕ) (aligned : Aligned used row) (words : Wor
     next-is : next ≡ r * 2 ^ 1 % 2 ^ (64 * used)
     next-is = en ∙ ap (λ x. x % 2 ^ (64 * used)) (add-zero (r * 2))
 
-    stepped : {v : ℕ} → v ≡ bitXor (r / 2 ^ (64 * used - 1)) b → parityFrom (64 * used) (register row) r (digits b 1) ≡ bitXor (rest (64 * used) (register row) v) (r * 2 ^ 1 % 2 ^ (64 * used))
-    stepped ev = parity-digits (64 * used) (register row) some 1 r b (let s = some in omega arith) hr hb ev
+    stepped : {v : ℕ} → v ≡ bitXor (r / 2 ^ (64 * used - 1)) b → parityFrom (64 * used) G r (digits b 1) ≡ bitXor (rest (64 * used) G v) (r * 2 ^ 1 % 2 ^ (64 * used))
+    stepped ev = parity-digits (64 * used) G some 1 r b (let s = some in omega arith) hr hb ev
 
-    pub bit-kept : highest ≡ b → next ≡ parityFrom (64 * used) (register row) r (digits b 1)
+    pub bit-kept : highest ≡ b → next ≡ parityFrom (64 * used) G r (digits b 1)
     bit-kept e =
         let z : 0 ≡ bitXor (r / 2 ^ (64 * used - 1)) b = sym (ap₂ bitXor (sym top-is ∙ e) refl ∙ xor-self b) in
-        next-is ∙ sym (stepped z ∙ rw (rest-zero (64 * used) (register row)) (xor-zero-l _))
+        next-is ∙ sym (stepped z ∙ rw (rest-zero (64 * used) G) (xor-zero-l _))
 
-    pub bit-added : {x : ℕ} → (highest ≡ b → ⊥) → x ≡ bitXor (low row used) next → x ≡ parityFrom (64 * used) (register row) r (digits b 1)
+    pub bit-added : {x : ℕ} → (highest ≡ b → ⊥) → x ≡ bitXor (low row used) next → x ≡ parityFrom (64 * used) G r (digits b 1)
     bit-added ne ex =
         let l = top-small in
         let o : 1 ≡ bitXor (r / 2 ^ (64 * used - 1)) b = sym (differ-one (r / 2 ^ (64 * used - 1)) b l hb (λ e. ne (top-is ∙ e))) in
         ex ∙ ap (bitXor (low row used)) next-is
-        ∙ sym (stepped o ∙ ap (λ y. bitXor y (r * 2 ^ 1 % 2 ^ (64 * used))) (rest-one (64 * used) (register row) some (aligned .monic) ∙ divisor-low))
+        ∙ sym (stepped o ∙ ap (λ y. bitXor y (r * 2 ^ 1 % 2 ^ (64 * used))) (rest-one (64 * used) G some monic ∙ divisor-rest used (low row used) (low-lt row words used)))
 
 -- one more bit of a run, as the loop takes it
 digit-one : (b : ℕ) → b < 2 → digits b 1 ≡ eqb b 1 ∷ []

@@ -17,77 +17,91 @@ use Rattle.code.specs.Word.{Word}
 use Rattle.code.specs.Register.{low, register}
 use Rattle.remainder.specs.Parity.{parityFrom}
 use Rattle.remainder.specs.Parity.{rest}
-use Rattle.division_table.specs.Table.{place, rowOf, divisorOf, Rests}
+use Rattle.division_table.specs.Table.{RowWords, four, nine, fourteen, digitBits, rowsOf, place, rowOf, divisorOf, Rests}
 use Rattle.remainder.proofs.Words.{Words, register-zeros, register-mod, top-digits}
-use Rattle.division_table.proofs.Filling.{row-inside, row-product, place-row}
+use Rattle.division_table.proofs.Filling.{wide-some, row-inside, row-product, place-row}
 use Rattle.remainder.proofs.Parity.{mod-up, rest-xor, rest-zero, rest-below, parity-append, parity-digits, parity-below}
 
--- The digits of five of a number v, the lowest first: k of them are done, and `left` has the others.
-module _ (u : ℕ) (words : List ℕ) (table : Rests u words) (v : ℕ) (hv : v < 18446744073709551616) where
+-- the last digit of a number of 64 binary digits has a row too
+last-five : (k : ℕ) {v left : ℕ} → v < 18446744073709551616 → 5 * k < 64 → left ≡ v / 2 ^ (5 * k) → 32 * k + left % 32 < 400
+last-five k {v} hv h el = elim (decLt k 12) [
+  | yes l ↦ omega arith
+  | no l ↦
+      let e : k ≡ 12 = omega arith in
+      let m : v / 2 ^ (5 * k) < 16 = rw e (shr-lt 4 60 hv) in
+      omega arith
+]
+
+digit-inside : {u : ℕ} → RowWords u → (k : ℕ) {v left : ℕ} → v < 18446744073709551616 → digitBits u * k < 64 → left ≡ v / 2 ^ (digitBits u * k)
+    → 2 ^ digitBits u * k + left % 2 ^ digitBits u < rowsOf u
+unfolding digitBits rowsOf
+digit-inside four k hv h el = last-five k hv h el
+digit-inside nine k hv h el = last-five k hv h el
+digit-inside fourteen k hv h el = omega arith
+
+-- The digits of a number v, of b binary digits each, the lowest first: k of them are done, and `left` has the others.
+module _ (u : ℕ) (words : List ℕ) (table : Rests u words) {b : ℕ} (eb : b ≡ digitBits u) (v : ℕ) (hv : v < 18446744073709551616) where
   positive : 64 ≤ 64 * u
-  positive = let s = table .some in omega arith
+  positive = let s = wide-some (table .wide) in omega arith
 
-  pub row-below : (k : ℕ) {left : ℕ} → k < 13 → left ≡ v / 2 ^ (5 * k) → 32 * k + left % 32 < 400
-  row-below k {left} h el = elim (decLt k 12) [
-    | yes l ↦ omega arith
-    | no l ↦
-        let e : k ≡ 12 = omega arith in
-        let m : v / 2 ^ (5 * k) < 16 = rw e (shr-lt 4 60 hv) in
-        omega arith
-  ]
+  pub row-below : (k : ℕ) {left row : ℕ} → b * k < 64 → left ≡ v / 2 ^ (b * k) → row ≡ 2 ^ b * k + left % 2 ^ b → row < rowsOf u
+  row-below k h el er = rw (er, eb) (digit-inside (table .wide) k hv (rw eb at h) (rw eb at el))
 
-  pub row-room : (k : ℕ) {left : ℕ} → k < 13 → left ≡ v / 2 ^ (5 * k) → (32 * k + left % 32) * u + u ≤ length words
-  row-room k h el = row-inside _ u (row-below k h el) (table .size)
+  pub row-room : (k : ℕ) {left row : ℕ} → b * k < 64 → left ≡ v / 2 ^ (b * k) → row ≡ 2 ^ b * k + left % 2 ^ b → row * u + u ≤ length words
+  row-room k h el er = row-inside _ u _ (row-below k h el er) (table .size)
 
-  pub row-fits : (k : ℕ) {left : ℕ} → k < 13 → left ≡ v / 2 ^ (5 * k) → (32 * k + left % 32) * u < 18446744073709551616
-  row-fits k h el = row-product _ u (row-below k h el) (table .room)
+  pub row-fits : (k : ℕ) {left row : ℕ} → b * k < 64 → left ≡ v / 2 ^ (b * k) → row ≡ 2 ^ b * k + left % 2 ^ b → row * u < 18446744073709551616
+  row-fits k h el er = row-product _ (table .wide) (row-below k h el er)
 
-  pub left-first : v ≡ v / 2 ^ (5 * 0)
-  left-first = sym (ap (λ n. n / 1) (sym (mul-one v)) ∙ shl-shr v 0)
+  pub left-first : v ≡ v / 2 ^ (b * 0)
+  left-first = let e : b * 0 ≡ 0 = omega arith in sym (ap (λ n. v / 2 ^ n) e ∙ ap (λ n. n / 1) (sym (mul-one v)) ∙ shl-shr v 0)
 
-  pub left-next : (k : ℕ) {left : ℕ} → left ≡ v / 2 ^ (5 * k) → left / 32 ≡ v / 2 ^ (5 * (k + 1))
+  pub left-next : (k : ℕ) {left : ℕ} → left ≡ v / 2 ^ (b * k) → left / 2 ^ b ≡ v / 2 ^ (b * (k + 1))
   left-next k el =
-      let e : 5 * k + 5 ≡ 5 * (k + 1) = omega arith in
-      ap (λ n. n / 32) el ∙ shr-shr v (5 * k) 5 ∙ ap (λ n. v / 2 ^ n) e
+      let e : b * k + b ≡ b * (k + 1) = omega arith in
+      ap (λ n. n / 2 ^ b) el ∙ shr-shr v (b * k) b ∙ ap (λ n. v / 2 ^ n) e
 
   module _ (r : ℕ) where
-    pub rows-first : r ≡ bitXor (rest (64 * u) (divisorOf u words) (v % 2 ^ (5 * 0))) r
+    pub rows-first : r ≡ bitXor (rest (64 * u) (divisorOf u words) (v % 2 ^ (b * 0))) r
     rows-first =
-        let e : v % 1 ≡ 0 = omega arith in
+        let z : b * 0 ≡ 0 = omega arith in
+        let e : v % 2 ^ (b * 0) ≡ 0 = ap (λ n. v % 2 ^ n) z ∙ omega arith in
         sym (ap (λ n. bitXor (rest (64 * u) (divisorOf u words) n) r) e ∙ ap (λ n. bitXor n r) (rest-zero (64 * u) (divisorOf u words)) ∙ xor-zero-l r)
 
-    pub rows-next : (k : ℕ) {left x y : ℕ} → k < 13 → left ≡ v / 2 ^ (5 * k) → x ≡ bitXor (rest (64 * u) (divisorOf u words) (v % 2 ^ (5 * k))) r
-        → y ≡ bitXor (low (drop ((32 * k + left % 32) * u) words) u) x → y ≡ bitXor (rest (64 * u) (divisorOf u words) (v % 2 ^ (5 * (k + 1)))) r
+    pub rows-next : (k : ℕ) {left row x y : ℕ} → b * k < 64 → left ≡ v / 2 ^ (b * k) → row ≡ 2 ^ b * k + left % 2 ^ b
+        → x ≡ bitXor (rest (64 * u) (divisorOf u words) (v % 2 ^ (b * k))) r → y ≡ bitXor (low (drop (row * u) words) u) x
+        → y ≡ bitXor (rest (64 * u) (divisorOf u words) (v % 2 ^ (b * (k + 1)))) r
     unfolding rowOf
-    rows-next k {left} h el ex ey =
+    rows-next k {left} {row} h el er ex ey =
         let g : ℕ = divisorOf u words in
-        let e : 5 * (k + 1) ≡ 5 + 5 * k = omega arith in
-        let p : ℕ = v / 2 ^ (5 * k) % 32 * 2 ^ (5 * k) in
-        let q : ℕ = v % 2 ^ (5 * k) in
-        let m : v % 2 ^ (5 * (k + 1)) ≡ bitXor p q =
-        ap (λ n. v % 2 ^ n) e ∙ mod-pow-add v 5 (5 * k) ∙ sym (xor-shifted (v / 2 ^ (5 * k) % 32) (5 * k) q (mod-lt v (pow-pos (5 * k)))) in
-        let c : place (32 * k + left % 32) ≡ p = place-row k (left % 32) (omega arith) ∙ ap (λ n. n % 32 * 2 ^ (5 * k)) el in
-        let w : low (drop ((32 * k + left % 32) * u) words) u ≡ rest (64 * u) g p = table .rows _ (row-below k h el) ∙ ap (rest (64 * u) g) c in
+        let e : b * (k + 1) ≡ b + b * k = omega arith in
+        let p : ℕ = v / 2 ^ (b * k) % 2 ^ b * 2 ^ (b * k) in
+        let q : ℕ = v % 2 ^ (b * k) in
+        let m : v % 2 ^ (b * (k + 1)) ≡ bitXor p q =
+        ap (λ n. v % 2 ^ n) e ∙ mod-pow-add v b (b * k) ∙ sym (xor-shifted (v / 2 ^ (b * k) % 2 ^ b) (b * k) q (mod-lt v (pow-pos (b * k)))) in
+        let c : place b row ≡ p = ap (place b) er ∙ place-row b k (left % 2 ^ b) (mod-lt left (pow-pos b)) ∙ ap (λ n. n % 2 ^ b * 2 ^ (b * k)) el in
+        let w : low (drop (row * u) words) u ≡ rest (64 * u) g p = table .rows row (row-below k h el er) ∙ ap (λ n. rest (64 * u) g (place n row)) (sym eb) ∙ ap (rest (64 * u) g) c in
         ey ∙ ap₂ bitXor w ex ∙ sym (xor-assoc (rest (64 * u) g p) (rest (64 * u) g q) r) ∙ ap (λ n. bitXor n r) (sym (rest-xor (64 * u) g p q) ∙ ap (rest (64 * u) g) (sym m))
 
-    pub rows-below : (k : ℕ) {x : ℕ} → r < 2 ^ (64 * u) → x ≡ bitXor (rest (64 * u) (divisorOf u words) (v % 2 ^ (5 * k))) r → x < 2 ^ (64 * u)
+    pub rows-below : (k : ℕ) {x : ℕ} → r < 2 ^ (64 * u) → x ≡ bitXor (rest (64 * u) (divisorOf u words) (v % 2 ^ (b * k))) r → x < 2 ^ (64 * u)
     rows-below k h ex =
         let s = positive in
         let m : 2 ^ 64 ≤ 2 ^ (64 * u) = pow-mono {i = 64} {j = 64 * u} s in
-        let l : v % 2 ^ (5 * k) ≤ v = mod-le v (2 ^ (5 * k)) in
-        rw ex (xor-lt (64 * u) _ r (rest-below (64 * u) (divisorOf u words) (omega arith) (table .monic) (v % 2 ^ (5 * k)) (omega arith)) h)
+        let l : v % 2 ^ (b * k) ≤ v = mod-le v (2 ^ (b * k)) in
+        rw ex (xor-lt (64 * u) _ r (rest-below (64 * u) (divisorOf u words) (omega arith) (table .monic) (v % 2 ^ (b * k)) (omega arith)) h)
 
-    pub rows-all : (k : ℕ) {x : ℕ} → k ≡ 13 → x ≡ bitXor (rest (64 * u) (divisorOf u words) (v % 2 ^ (5 * k))) r → x ≡ bitXor (rest (64 * u) (divisorOf u words) v) r
-    rows-all k ek ex =
-        let e : v % 2 ^ 65 ≡ v = mod-eq-of-lt (omega arith) in
-        ex ∙ ap (λ n. bitXor (rest (64 * u) (divisorOf u words) (v % 2 ^ (5 * n))) r) ek ∙ ap (λ n. bitXor (rest (64 * u) (divisorOf u words) n) r) e
+    pub rows-all : (k : ℕ) {x : ℕ} → 64 ≤ b * k → x ≡ bitXor (rest (64 * u) (divisorOf u words) (v % 2 ^ (b * k))) r → x ≡ bitXor (rest (64 * u) (divisorOf u words) v) r
+    rows-all k h ex =
+        let m : 2 ^ 64 ≤ 2 ^ (b * k) = pow-mono h in
+        let e : v % 2 ^ (b * k) ≡ v = mod-eq-of-lt (omega arith) in
+        ex ∙ ap (λ n. bitXor (rest (64 * u) (divisorOf u words) n) r) e
 
 -- From the parity r, with the k coefficients b: h has the k highest digits of r, and the rows of v are added.
 -- One step by the table is as many single steps as it takes coefficients.
 pub table-step : (u : ℕ) (words : List ℕ) → Rests u words → (r b k : ℕ) → r < 2 ^ (64 * u) → k ≤ 64 → b < 2 ^ k → {h n x : ℕ} → h ≡ r / 2 ^ (64 * u - k)
     → n ≡ r * 2 ^ k % 2 ^ (64 * u) → x ≡ bitXor (rest (64 * u) (divisorOf u words) (bitXor h b)) n → x ≡ parityFrom (64 * u) (divisorOf u words) r (digits b k)
 table-step u words table r b k hr hk hb {h} eh en ex =
-    let s = table .some in
+    let s = wide-some (table .wide) in
     ex ∙ ap (bitXor (rest (64 * u) (divisorOf u words) (bitXor h b))) en ∙ sym (parity-digits (64 * u) (divisorOf u words) (omega arith) k r b (omega arith) hr hb (ap (λ y. bitXor y b) eh))
 
 -- the number in u words moved up by one word, and its highest word
@@ -109,7 +123,7 @@ pub step-room : (x u : ℕ) {n : ℕ} → n ≡ x % 2 ^ (64 * u) → n < 2 ^ (64
 step-room x u en = rw en (mod-lt x (pow-pos (64 * u)))
 
 pub rests-below : (u : ℕ) (words : List ℕ) → Rests u words → (r : ℕ) (w : Word) → r < 2 ^ (64 * u) → parityFrom (64 * u) (divisorOf u words) r w < 2 ^ (64 * u)
-rests-below u words table r w h = let s = table .some in parity-below (64 * u) (divisorOf u words) (omega arith) (table .monic) r w h
+rests-below u words table r w h = let s = wide-some (table .wide) in parity-below (64 * u) (divisorOf u words) (omega arith) (table .monic) r w h
 
 -- The n highest bits of a word that is read at some position.
 module _ (page : List ℕ) (s n : ℕ) (h : n ≤ 64) {w b : ℕ} (ew : w ≡ number (run (bitOf page) s 64)) (eb : b ≡ w / 2 ^ (64 - n)) where

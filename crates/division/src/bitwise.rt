@@ -4,12 +4,12 @@ ghost use Prim.Native.Nat.{_+_, _*_, _%_, _^_, _≤_, _<_};
 ghost use Rattle.bits.specs.Bits.{bitOf, run, digits};
 ghost use Rattle.field.specs.Field.{degree};
 ghost use Rattle.code.specs.Generator.{generator};
-ghost use Rattle.code.specs.Register.{register};
+ghost use Rattle.code.specs.Register.{low, register};
 ghost use Rattle.remainder.specs.Parity.{parityFrom};
-ghost use Rattle.division.specs.Steps.{Aligned};
+ghost use Rattle.division_table.specs.Table.{RowWords};
 use bit_reader::next_bit;
 use bit_reader::steps::bit_or_zero;
-use code::generators::generator_row;
+use division_table::divisor_row;
 use division_table::row_words;
 use field::Field;
 use remainder::Register;
@@ -20,10 +20,10 @@ use remainder::shift::lowered;
 use remainder::shift::pushed;
 use remainder::shift::raised;
 
-// One more coefficient b, by the divisor of degree 64 used in `row`.
+// One more coefficient b, by the divisor of degree 64 used whose other coefficients are in the first words of `row`.
 fn bit_taken(state: Register, row: [u64; 14], used: usize, b: u64) -> Register
-    requires { ⌜ (Aligned used row) × (register (state .words) < 2 ^ (64 * used)) × (b < 2) ⌝ }
-    ensures { λ r. ⌜ register (r .words) ≡ parityFrom (64 * used) (register row) (register (state .words)) (digits b 1) ⌝ }
+    requires { ⌜ (RowWords used) × (register (state .words) < 2 ^ (64 * used)) × (b < 2) ⌝ }
+    ensures { λ r. ⌜ register (r .words) ≡ parityFrom (64 * used) (2 ^ (64 * used) + low row used) (register (state .words)) (digits b 1) ⌝ }
 {
     let highest = coefficient(state, 64 * used - 1);
     let next = pushed(state, used, 1, 0);
@@ -42,9 +42,9 @@ fn bits_taken(
     at: usize,
     n: usize,
 ) -> Register
-    requires { ⌜ (Aligned used row) × (register (state .words) < 2 ^ (64 * used)) × (at + n < 18446744073709551616) ⌝ }
+    requires { ⌜ (RowWords used) × (register (state .words) < 2 ^ (64 * used)) × (at + n < 18446744073709551616) ⌝ }
     ensures { λ r. ⌜ register (r .words)
-        ≡ parityFrom (64 * used) (register row) (register (state .words)) (run (bitOf (now (bytes .entry))) at n) ⌝ }
+        ≡ parityFrom (64 * used) (2 ^ (64 * used) + low row used) (register (state .words)) (run (bitOf (now (bytes .entry))) at n) ⌝ }
 {
     let mut r = state;
     let mut i = 0;
@@ -66,9 +66,9 @@ fn bits_taken_fixed(
     at: usize,
     n: usize,
 ) -> Register
-    requires { ⌜ (Aligned used row) × (register (state .words) < 2 ^ (64 * used)) × (at + n < 18446744073709551616) ⌝ }
+    requires { ⌜ (RowWords used) × (register (state .words) < 2 ^ (64 * used)) × (at + n < 18446744073709551616) ⌝ }
     ensures { λ r. ⌜ register (r .words)
-        ≡ parityFrom (64 * used) (register row) (register (state .words)) (run (bitOf (now (bytes .entry))) at n) ⌝ }
+        ≡ parityFrom (64 * used) (2 ^ (64 * used) + low row used) (register (state .words)) (run (bitOf (now (bytes .entry))) at n) ⌝ }
 {
     if used == 4 {
         return bits_taken(state, row, 4, bytes, at, n);
@@ -76,7 +76,7 @@ fn bits_taken_fixed(
     if used == 9 {
         return bits_taken(state, row, 9, bytes, at, n);
     }
-    bits_taken(state, row, used, bytes, at, n)
+    bits_taken(state, row, 14, bytes, at, n)
 }
 
 // The parity of n more bits of a message, from the parity of those before on.
@@ -95,9 +95,7 @@ pub fn parity_by_bits(
     let d = parity_bits(f, t);
     let used = row_words(d);
     let gap = 64 * used - d;
-    let words = generator_row(f, t / 2);
-    let moved = raised(Register { words: words }, gap);
-    let row = moved.words;
+    let row = divisor_row(f, t);
     let before = raised(state, gap);
     let after = bits_taken_fixed(before, row, used, bytes, at, n);
     lowered(after, gap)

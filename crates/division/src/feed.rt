@@ -8,6 +8,8 @@ ghost use Rattle.code.specs.Register.{register};
 ghost use Rattle.remainder.specs.Parity.{parityFrom, rest};
 ghost use Rattle.division_table.specs.Table.{divisorOf, Rests};
 use bits::read::word_at;
+use division_table::digits::digit_bits;
+use division_table::digits::digit_row;
 use remainder::Register;
 use remainder::add::row_added;
 use remainder::shift::pushed;
@@ -21,19 +23,20 @@ fn top(state: Register, used: usize, k: usize) -> u64
     words[used - 1] >> (64 - k)
 }
 
-// The sum over GF(2) of the remainder of v, moved up to the degree, and of the number in a register: the rows of the 13 digits of v.
+// The sum over GF(2) of the remainder of v, moved up to the degree, and of the number in a register: the rows of the digits of v.
 fn rows_added(state: Register, table: &[u64], used: usize, v: u64) -> Register
     requires { ⌜ (Rests used (now table)) × (register (state .words) < 2 ^ (64 * used)) ⌝ }
     ensures { λ r. ⌜ register (r .words)
         ≡ bitXor (rest (64 * used) (divisorOf used (now (table .entry))) v) (register (state .words)) ⌝ }
 {
+    let bits = digit_bits(used);
     let mut r = state;
     let mut left = v;
     let mut k = 0usize;
-    while k < 13 {
-        let row = 32 * k + (left % 32) as usize;
+    while bits * k < 64 {
+        let row = digit_row(bits, k, left);
         r = row_added(r, table, row * used, used);
-        left = left >> 5;
+        left = left >> bits;
         k += 1;
     }
     r
@@ -101,7 +104,7 @@ fn feed_words(
     r
 }
 
-// The same with the number of words in use written out: the loops over words are then unrolled.
+// The same with the number of words in use written out: the loops over words and digits are then unrolled.
 fn feed_words_fixed(
     state: Register,
     table: &[u64],
@@ -120,7 +123,7 @@ fn feed_words_fixed(
     if used == 9 {
         return feed_words(state, table, 9, bytes, at, count);
     }
-    feed_words(state, table, used, bytes, at, count)
+    feed_words(state, table, 14, bytes, at, count)
 }
 
 // A run of bits of which there are fewer than 64.
@@ -143,6 +146,28 @@ fn feed_bits(
     step_bits(state, table, used, n, w >> (64 - n))
 }
 
+// The same with the number of words in use written out.
+fn feed_bits_fixed(
+    state: Register,
+    table: &[u64],
+    used: usize,
+    bytes: &[u8],
+    at: usize,
+    n: usize,
+) -> Register
+    requires { ⌜ (Rests used (now table)) × (register (state .words) < 2 ^ (64 * used)) × (n < 64) ⌝ }
+    ensures { λ r. ⌜ register (r .words)
+        ≡ parityFrom (64 * used) (divisorOf used (now (table .entry))) (register (state .words)) (run (bitOf (now (bytes .entry))) at n) ⌝ }
+{
+    if used == 4 {
+        return feed_bits(state, table, 4, bytes, at, n);
+    }
+    if used == 9 {
+        return feed_bits(state, table, 9, bytes, at, n);
+    }
+    feed_bits(state, table, 14, bytes, at, n)
+}
+
 // A run of n bits: its words, then its odd bits.
 pub fn feed_run(
     state: Register,
@@ -158,5 +183,5 @@ pub fn feed_run(
 {
     let long = n / 64;
     let most = feed_words_fixed(state, table, used, bytes, at, long);
-    feed_bits(most, table, used, bytes, at + 64 * long, n % 64)
+    feed_bits_fixed(most, table, used, bytes, at + 64 * long, n % 64)
 }

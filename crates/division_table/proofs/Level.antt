@@ -2,93 +2,95 @@
 use mathlib.Core.Path.{_≡_, sym, ap, ap₂, _∙_}
 use mathlib.Core.Bool.{Bool, true, false, cond}
 use mathlib.Core.List.{List}
-use Prim.Native.Nat.{ℕ, suc, _+_, _-_, _*_, _/_, _%_, _^_, _<_, _≤_}
+use Prim.Native.Nat.{ℕ, _+_, _-_, _*_, _/_, _%_, _^_, _<_, _≤_}
 use native.Mathlib.Omega.{arith}
 use native.Mathlib.Decide.{decLt}
-use native.Mathlib.Nat.{mul-le-mul, le-trans, mod-lt, pow-suc, div-lt-iff-lt-mul, one-mul}
+use native.Mathlib.Nat.{mul-le-mul, one-mul}
 use borrow.Author.Tests.{le-leb, lt-leb}
 use lib.Dec.{leb}
-use lib.Pow.{pow-pos, pow-mono, shl-shr, shl-lt, shr-shr, split}
+use lib.ListN.{length}
+use lib.Pow.{shl-shr, shr-shr, split, mod-mod-pow}
 use Rattle.field.specs.declared.Field.{Field}
 use Rattle.field.specs.Field.{degree}
 use Rattle.code.specs.Generator.{generator}
+use Rattle.code.specs.Register.{low, register}
 use Rattle.code.proofs.Generator.{generator-monic}
 use Rattle.remainder.proofs.Fold.{degree-most}
+use Rattle.remainder.proofs.Words.{Words, low-lt, register-mod}
+use Rattle.remainder.specs.Parity.{rest}
 use Rattle.remainder.proofs.Parity.{rest-one}
-use Rattle.division_table.specs.Table.{width, gap, place, rowOf, divisorOf, Filled, Rests, Table}
-use Rattle.division_table.proofs.Filling.{divisor-rest}
+use Rattle.division_table.specs.Table.{width, RowWords, four, nine, fourteen, gap, digitBits, rowsOf, rowOf, divisorOf, Filled, Rests, Table}
+use Rattle.division_table.proofs.Filling.{wide-some, wide-most, bits-some, rows-some, place-first, divisor-rest}
 
 -- the words of a row
 
-pub width-some : (d : ℕ) → 0 < width d
+pub width-wide : (d : ℕ) → RowWords (width d)
 unfolding width
-width-some d = all (leb d 256)
+width-wide d = all (leb d 256) (leb d 576)
   where
-    all : (b : Bool) → 0 < cond b 4 9
-    all true = omega arith
-    all false = omega arith
+    all : (a b : Bool) → RowWords (cond a 4 (cond b 9 14))
+    all true b = four
+    all false true = nine
+    all false false = fourteen
 
-pub width-most : (d : ℕ) → width d ≤ 9
-unfolding width
-width-most d = all (leb d 256)
-  where
-    all : (b : Bool) → cond b 4 9 ≤ 9
-    all true = omega arith
-    all false = omega arith
-
-pub width-room : (d : ℕ) → d ≤ 576 → d ≤ 64 * width d
+pub width-room : (d : ℕ) → d ≤ 896 → d ≤ 64 * width d
 unfolding width
 width-room d h = elim (decLt 256 d) [
-  | yes l ↦ rw (lt-leb d 256 l) (omega arith)
+  | yes l ↦ elim (decLt 576 d) [
+    | yes m ↦ rw (lt-leb d 256 l, lt-leb d 576 m) (omega arith)
+    | no m ↦ rw (lt-leb d 256 l, le-leb d 576 (omega arith)) (omega arith)
+  ]
   | no l ↦ rw (le-leb d 256 (omega arith)) (omega arith)
 ]
 
-pub level-degree : (f : Field) (t : ℕ) → t ≤ 40 → degree f * t ≤ 576
-level-degree f t l = let m : degree f * t ≤ 560 = mul-le-mul (degree-most f) l in omega arith
+pub level-degree : (f : Field) (t : ℕ) → t ≤ 62 → degree f * t ≤ 868
+level-degree f t l = mul-le-mul (degree-most f) l
 
 -- u words for the degree d of the level t
-module _ (f : Field) (t : ℕ) (room : degree f * t ≤ 576) {d u : ℕ} (ed : d ≡ degree f * t) (eu : u ≡ width d) where
-  pub level-words : (0 < u) × (u ≤ 9)
-  level-words = rw eu (width-some d, width-most d)
+module _ (f : Field) (t : ℕ) (most : t ≤ 62) {d u : ℕ} (ed : d ≡ degree f * t) (eu : u ≡ width d) where
+  pub level-wide : RowWords u
+  level-wide = rw eu (width-wide d)
+
+  pub level-words : (0 < u) × (u ≤ 14)
+  level-words = (wide-some level-wide, wide-most level-wide)
 
   pub level-room : d ≤ 64 * u
-  level-room = rw eu (width-room d (rw ed room))
+  level-room =
+      let m = level-degree f t most in
+      rw eu (width-room d (omega arith))
 
-  -- the generator moved up to fill them
-  module _ (most : t ≤ 62) {g : ℕ} (eg : g ≡ generator f t) where
-    monic : g / 2 ^ d ≡ 1
-    monic = rw (eg, ed) (generator-monic f t most)
-
-    pub level-fits : g * 2 ^ (64 * u - d) < 2 ^ 896
-    level-fits =
-        let r = level-room in
-        let w = level-words .1 in
-        let k : ℕ = 64 * u - d in
-        let q = monic in
-        let p : 2 ^ suc d ≡ 2 ^ d * 2 = pow-suc 2 d in
-        let l : g < 2 * 2 ^ d = div-lt-iff-lt-mul (pow-pos d) .0 (omega arith) in
-        let n : g * 2 ^ k < 2 ^ (suc d + k) = shl-lt (suc d) k (omega arith) in
-        le-trans n (pow-mono {i = suc d + k} {j = 896} (omega arith))
-
-    pub level-monic : {x : ℕ} → x ≡ g * 2 ^ (64 * u - d) → x / 2 ^ (64 * u) ≡ 1
-    level-monic ex =
-        let r = level-room in
-        let k : ℕ = 64 * u - d in
-        let e : 64 * u ≡ k + d = omega arith in
-        ap₂ (λ (y z : ℕ). y / 2 ^ z) ex e ∙ sym (shr-shr (g * 2 ^ k) k d) ∙ ap (λ y. y / 2 ^ d) (shl-shr g k) ∙ monic
-
--- the table that is made
-pub table-made : (f : Field) (t : ℕ) → t ≤ 40 → {d u : ℕ} → d ≡ degree f * t → u ≡ width d → {words : List ℕ} {g x : ℕ} → g ≡ generator f t → x ≡ g * 2 ^ (64 * u - d)
-    → Filled u (2 ^ (64 * u) + x % 2 ^ (64 * u)) 400 words → Table f t words
-unfolding divisorOf gap place
-table-made f t m {d} {u} ed eu {words} {g} {x} eg ex filled =
-    let room = level-degree f t m in
-    let w = level-words f t room ed eu in
+-- the generator moved up to fill them; its highest coefficient is left out, for which a register need not have room
+pub divisor-made : (f : Field) (t : ℕ) → t ≤ 62 → {d u : ℕ} → d ≡ degree f * t → u ≡ width d → (words : List ℕ) → Words words → length words ≡ 14
+    → {g : ℕ} → g ≡ generator f t → register words ≡ g * 2 ^ (64 * u - d) % 2 ^ 896
+    → 2 ^ (64 * width (degree f * t)) + low words (width (degree f * t)) ≡ generator f t * 2 ^ gap (degree f * t)
+unfolding gap
+divisor-made f t most {d} {u} ed eu words fit len {g} eg ex =
+    let r = level-room f t most ed eu in
+    let w = level-words f t most ed eu in
     let k : ℕ = 64 * u - d in
     let P : ℕ = 2 ^ (64 * u) in
-    let e1 : rowOf u words 1 ≡ x % P = filled .rows 1 (omega arith) ∙ rest-one (64 * u) (P + x % P) (omega arith) (filled .monic) ∙ divisor-rest u (x % P) (mod-lt x (pow-pos (64 * u))) in
+    let m : g / 2 ^ d ≡ 1 = rw (eg, ed) (generator-monic f t most) in
+    let e : 64 * u ≡ k + d = omega arith in
+    let monic : g * 2 ^ k / P ≡ 1 = ap (λ z. g * 2 ^ k / 2 ^ z) e ∙ sym (shr-shr (g * 2 ^ k) k d) ∙ ap (λ y. y / 2 ^ d) (shl-shr g k) ∙ m in
+    let n : 896 ≡ 896 - 64 * u + 64 * u = omega arith in
+    let rest-is : low words u ≡ g * 2 ^ k % P =
+    sym (register-mod words fit u (omega arith)) ∙ ap (λ z. z % P) (ex ∙ ap (λ n. g * 2 ^ k % 2 ^ n) n) ∙ mod-mod-pow (g * 2 ^ k) (896 - 64 * u) (64 * u) in
+    let all : P + low words u ≡ generator f t * 2 ^ k =
+    ap₂ _+_ (sym (one-mul P) ∙ ap (λ z. z * P) (sym monic)) rest-is ∙ split (g * 2 ^ k) (64 * u) ∙ ap (λ z. z * 2 ^ k) eg in
+    rw (eu, ed) at all
+
+-- the table that is made
+pub table-made : (f : Field) (t : ℕ) → t ≤ 62 → {u : ℕ} → u ≡ width (degree f * t) → (divisor : List ℕ) → Words divisor
+    → 2 ^ (64 * width (degree f * t)) + low divisor (width (degree f * t)) ≡ generator f t * 2 ^ gap (degree f * t)
+    → {words : List ℕ} → Filled u (2 ^ (64 * u) + low divisor u) (rowsOf u) words → Table f t words
+unfolding divisorOf
+table-made f t most {u} eu divisor fit eg {words} filled =
+    let s = wide-some (filled .wide) in
+    let l = rows-some u in
+    let P : ℕ = 2 ^ (64 * u) in
+    let e1 : rowOf u words 1 ≡ low divisor u =
+    filled .rows 1 (omega arith) ∙ ap (rest (64 * u) (P + low divisor u)) (place-first (digitBits u) 1 (bits-some u) (omega arith))
+    ∙ rest-one (64 * u) (P + low divisor u) (omega arith) (filled .monic) ∙ divisor-rest u (low divisor u) (low-lt divisor fit u) in
     let rests : Rests u words = rw e1 filled in
-    let q : x / P ≡ 1 = level-monic f t room ed eu (omega arith) eg ex in
-    let v : P + rowOf u words 1 ≡ x = ap₂ _+_ (sym (one-mul P) ∙ ap (λ y. y * P) (sym q)) e1 ∙ split x (64 * u) in
-    let gen : P + rowOf u words 1 ≡ generator f t * 2 ^ k = v ∙ ex ∙ ap (λ y. y * 2 ^ k) eg in
-    record { level = omega arith; room = room; rests = λ z. rw (eu, ed) at rests; generates = λ z. rw (eu, ed) at gen }
+    let gen : P + rowOf u words 1 ≡ generator f t * 2 ^ gap (degree f * t) = ap (λ z. P + z) e1 ∙ rw eu eg in
+    record { level = most; rests = λ z. rw eu at rests; generates = λ z. rw eu at gen }

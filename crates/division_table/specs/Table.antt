@@ -1,18 +1,21 @@
--- Inner promises: the table by which the parity of a message is worked out 64 coefficients at a time, 400 remainders. A number of 64 binary
--- digits is cut into 13 digits of five, the last of four; the table has a row for each value of each of them, in its place.
--- A polynomial over GF(2) is a number: its binary digit p is the coefficient of x^p.
+-- Inner promises: the table by which the parity of a message is worked out 64 coefficients at a time. A number of 64 binary digits is cut
+-- into digits of b binary digits each, the last of the 64 % b that are left where b does not divide 64; the table has a row for each value of
+-- each of them, in its place. A polynomial over GF(2) is a number: its binary digit p is the coefficient of x^p.
 --
 -- A row has u words of 64 bits, and the divisor has the degree 64 u, so that no place in a word depends on the level. A generator of
--- degree d becomes such a divisor by moving it up by 64 u - d digits; its remainders then stand as many digits higher.
+-- degree d becomes such a divisor by moving it up by 64 u - d binary digits; its remainders then stand as many higher.
 --
 -- width d                how many words a row has for a generator of degree d
--- gap d                  by how many digits that generator is moved up
--- place v                the number that row v is for: the value v % 32 of digit v / 32
--- powerRow i             the row of 2^i
+-- RowWords u             u is such a number
+-- gap d                  by how many binary digits that generator is moved up
+-- digitBits u            how many binary digits make a digit in a table of rows of u words
+-- rowsOf u               how many rows that table has
+-- place b v              the number that row v is for: the value v % 2^b of digit v / 2^b
+-- powerRow b i           the row of 2^i
 -- rowOf u words v        the number in row v of a table
 -- divisorOf u words      the divisor of a table: its row 1, and x^(64u)
 -- Filled u g n words     the first n rows are the remainders by g of their numbers, moved up to the degree of g
--- Rests u words          that holds for all 400 rows and the divisor of the table
+-- Rests u words          that holds for all rows and the divisor of the table
 -- Apart a b n            n words from a on and n words from b on do not overlap
 -- Only at n before after  nothing but n words from `at` on has changed
 -- Table f t words        the divisor is the generator of the level t, moved up
@@ -21,25 +24,37 @@ use mathlib.Core.Bool.{cond}
 use mathlib.Core.List.{List}
 use Prim.Native.Nat.{ℕ, _+_, _-_, _*_, _/_, _%_, _^_, _<_, _≤_}
 use lib.ListN.{length, getD, drop}
-use lib.Dec.{leb}
+use lib.Dec.{eqb, leb}
 use Rattle.field.specs.declared.Field.{Field}
 use Rattle.field.specs.Field.{degree}
 use Rattle.code.specs.Generator.{generator}
 use Rattle.code.specs.Register.{low}
 use Rattle.remainder.specs.Parity.{rest}
 
--- Four words, or nine: enough for t = 40.
+-- Four words, nine, which is enough for t = 40, or fourteen, which is enough for t = 62.
 unfoldable pub width : ℕ → ℕ
-width d = cond (leb d 256) 4 9
+width d = cond (leb d 256) 4 (cond (leb d 576) 9 14)
+
+pub data RowWords : ℕ → Type 0 where
+  four : RowWords 4
+  nine : RowWords 9
+  fourteen : RowWords 14
 
 unfoldable pub gap : ℕ → ℕ
 gap d = 64 * width d - d
 
-unfoldable pub place : ℕ → ℕ
-place v = v % 32 * 2 ^ (5 * (v / 32))
+-- 13 digits, twelve of five and one of four binary digits; or 16 of four. Both tables have room in 3,600 words.
+unfoldable pub digitBits : ℕ → ℕ
+digitBits u = cond (eqb u 14) 4 5
 
-unfoldable pub powerRow : ℕ → ℕ
-powerRow i = 32 * (i / 5) + 2 ^ (i % 5)
+unfoldable pub rowsOf : ℕ → ℕ
+rowsOf u = cond (eqb u 14) 256 400
+
+unfoldable pub place : ℕ → ℕ → ℕ
+place b v = v % 2 ^ b * 2 ^ (b * (v / 2 ^ b))
+
+unfoldable pub powerRow : ℕ → ℕ → ℕ
+powerRow b i = 2 ^ b * (i / b) + 2 ^ (i % b)
 
 unfoldable pub rowOf : ℕ → List ℕ → ℕ → ℕ
 rowOf u words v = low (drop (v * u) words) u
@@ -49,14 +64,13 @@ divisorOf u words = 2 ^ (64 * u) + rowOf u words 1
 
 -- The rows stand one after the other, and each has room in a register.
 pub record Filled (u g n : ℕ) (words : List ℕ) : Type 0 where
-  pub some : 0 < u
-  pub room : u ≤ 14
-  pub size : 400 * u ≤ length words
+  pub wide : RowWords u
+  pub size : rowsOf u * u ≤ length words
   pub monic : g / 2 ^ (64 * u) ≡ 1
-  pub rows : (v : ℕ) → v < n → rowOf u words v ≡ rest (64 * u) g (place v)
+  pub rows : (v : ℕ) → v < n → rowOf u words v ≡ rest (64 * u) g (place (digitBits u) v)
 
 abbrev pub Rests : ℕ → List ℕ → Type 0
-Rests u words = Filled u (divisorOf u words) 400 words
+Rests u words = Filled u (divisorOf u words) (rowsOf u) words
 
 pub record Only (at n : ℕ) (before after : List ℕ) : Type 0 where
   pub lower : (k : ℕ) → k < at → getD after k 0 ≡ getD before k 0
@@ -70,6 +84,5 @@ pub data Apart (a b n : ℕ) : Type 0 where
 -- At t = 0 there is nothing to divide by, and no table is made.
 pub record Table (f : Field) (t : ℕ) (words : List ℕ) : Type 0 where
   pub level : t ≤ 62
-  pub room : degree f * t ≤ 576
   pub rests : 0 < t → Rests (width (degree f * t)) words
   pub generates : 0 < t → divisorOf (width (degree f * t)) words ≡ generator f t * 2 ^ gap (degree f * t)

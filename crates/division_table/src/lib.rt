@@ -2,26 +2,33 @@
 //
 //   make_table    the table of the generator of a level
 //   row_words     how many words of 64 bits its rows have
+//   divisor_row   the generator of a level as it stands in a row
 //
 // A number of 64 binary digits is cut into 13 digits of five, the last of four, and the table has a row for each value of each of them: the
 // remainder of the number that has that digit and zeros elsewhere, moved up to the degree. The remainder of the number is the sum of 13
 // rows, none of which waits for another. The generator is moved up to fill four or nine words: no place in a word then depends on the level.
+// Above mt = 576 the rows have fourteen words, and the number is cut into 16 digits of four, so that the table takes no more room.
 //
+//   digits  how a word is cut into digits, and the rows that they belong to
 //   row     rows of words in a slice: cleared, added
 //   fill    the rows of the powers of 2 by doubling, the others as sums
 //
 // What a table is stands in specs/Table.antt; proofs/ has the laws: Rows (rows of words), Filling (the table while it is made), Level (the
 // table of a level).
+pub mod digits;
 mod fill;
 mod row;
 
 ghost use mathlib.Core.Path.{_≡_};
-ghost use Prim.Native.Nat.{_%_, _≤_};
+ghost use Prim.Native.Nat.{_+_, _*_, _%_, _^_, _≤_};
 ghost use lib.ListN.{length};
-ghost use Rattle.division_table.specs.Table.{width, Table};
-use code::generators::generator_row;
+ghost use Rattle.division_table.specs.Table.{width, gap, Table};
+ghost use Rattle.field.specs.Field.{degree};
+ghost use Rattle.code.specs.Generator.{generator};
+ghost use Rattle.code.specs.Register.{low};
 use field::Field;
-use fill::fill_words;
+use fill::fill;
+use generators::generator_row;
 use remainder::Register;
 use remainder::coefficients::parity_bits;
 use remainder::shift::raised;
@@ -30,7 +37,23 @@ use remainder::shift::raised;
 pub fn row_words(degree: usize) -> usize
     ensures { λ r. ⌜ r ≡ width degree ⌝ }
 {
-    if degree <= 256 { 4 } else { 9 }
+    if degree <= 256 {
+        return 4;
+    }
+    if degree <= 576 { 9 } else { 14 }
+}
+
+// The generator of the level t moved up to fill the words of a row, without its highest coefficient.
+pub fn divisor_row(f: Field, t: usize) -> [u64; 14]
+    requires { ⌜ (t % 2 ≡ 0) × (t ≤ 40) ⌝ }
+    ensures { λ r. ⌜ 2 ^ (64 * width (degree f * t)) + low r (width (degree f * t)) ≡ generator f t * 2 ^ gap (degree f * t) ⌝ }
+{
+    let degree = parity_bits(f, t);
+    let used = row_words(degree);
+    let words = generator_row(f, t / 2);
+    let row = Register { words: words };
+    let moved = raised(row, 64 * used - degree);
+    moved.words
 }
 
 // Makes the table of the generator of the level t. At t = 0 there is nothing to divide by, and none is made.
@@ -41,11 +64,7 @@ pub fn make_table(f: Field, t: usize, table: &mut [u64])
     if t == 0 {
         return;
     }
-    let degree = parity_bits(f, t);
-    let used = row_words(degree);
-    let words = generator_row(f, t / 2);
-    let row = Register { words: words };
-    let moved = raised(row, 64 * used - degree);
-    let divisor = moved.words;
-    fill_words(table, divisor, used);
+    let used = row_words(parity_bits(f, t));
+    let divisor = divisor_row(f, t);
+    fill(table, divisor, used);
 }

@@ -95,10 +95,6 @@ module _ (f : Field) where
 
   -- ---- numbers below 2^m and their elements
 
-  pub num-size : num .size ≡ 2 ^ degree f
-  unfolding num numbers gf
-  num-size = refl
-
   pub num-below : {x : ℕ} → x < 2 ^ degree f → x < num .size
   unfolding num numbers gf
   num-below l = l

@@ -10,6 +10,5 @@ pub mod Fast
 pub mod Order
 pub mod Primitive
 pub mod Partial
-pub mod Lookup
 pub mod Instance
 pub mod Cases

@@ -7,12 +7,11 @@
 //   Field                   the field choice, handed to every call that works in either field
 //   Field::choose           the field that a choice by number names
 //   product, power          in either field, by shift and add and by squares
-//   tables                  products by a table of powers and a table of logarithms that the caller lends
+//
+// Crate `field_tables` makes products by a table of powers and a table of logarithms; specs/Tables says what these are.
 ghost use mathlib.Core.Path.{_≡_};
 ghost use Prim.Native.Nat.{_^_, _<_};
 ghost use Rattle.field.specs.Field.{degree, modulus, longest, chosen, mul, product, power, Elem, Usable};
-
-pub mod tables;
 
 // The field of 2^13 elements.
 pub struct Gf13;

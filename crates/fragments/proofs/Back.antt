@@ -10,10 +10,10 @@ use Rattle.bits.specs.Bits.{Bytes}
 use Rattle.remainder.specs.Remainder.{numberOf, bytesOf}
 use Rattle.remainder.proofs.Bytes.{bytesOf-length, numberOf-bytesOf, bytesOf-numberOf}
 use Rattle.fragments.specs.declared.FragmentsAnswer.the-variants.{Done}
-use Rattle.fragments.specs.Fragments.{fragmentsOf, joined, Fragments}
+use Rattle.register_fragments.specs.Fragments.{fragmentsOf, joined, Fragments}
 use Rattle.remainder.specs.Remainder.{bytesFor}
 use Rattle.fragments.specs.Calls.{coefficients, ended, ending, reply, exportOf, importOf}
-use Rattle.fragments.proofs.Numbers.{joined-fragments, fragments-joined, fragments-length}
+use Rattle.register_fragments.proofs.Numbers.{joined-fragments, fragments-joined, fragments-length}
 use Rattle.fragments.proofs.Replies.{Right, offered-bits, fitting-lengths, right-reply}
 use Rattle.fragments.proofs.Meaning.{export-right, export-lent, import-right, import-lent}
 

@@ -9,9 +9,9 @@ use lib.ListN.{length, getD}
 use Rattle.bits.specs.Bits.{bit}
 use Rattle.replies.specs.Replies.{number}
 use Rattle.remainder.specs.Remainder.{numberOf, bytesOf}
-use Rattle.fragments.specs.Fragments.{fragmentsOf, joined, Fragments}
+use Rattle.register_fragments.specs.Fragments.{fragmentsOf, joined, Fragments}
 use Rattle.fragments.specs.Calls.{offered, coefficients, fitting, ending, reply, exportOf, importOf}
-use Rattle.fragments.proofs.Numbers.{fragments-bit, fragments-unused, one-beyond, zeros-below}
+use Rattle.register_fragments.proofs.Numbers.{fragments-bit, fragments-unused, one-beyond, zeros-below}
 use Rattle.fragments.proofs.Replies.{Right, offered-bits, right-reply, reply-right}
 
 -- ---- refusals

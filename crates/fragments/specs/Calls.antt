@@ -21,7 +21,7 @@ use Rattle.replies.specs.declared.Refusal.the-variants as refusal
 use Rattle.replies.specs.Replies.{number, block, unless}
 use Rattle.fragments.specs.declared.FragmentsAnswer.{FragmentsAnswer}
 use Rattle.fragments.specs.declared.FragmentsAnswer.the-variants as answer
-use Rattle.fragments.specs.Fragments.{fragmentsOf, joined}
+use Rattle.register_fragments.specs.Fragments.{fragmentsOf, joined}
 
 unfoldable pub levelOf : ℕ → ℕ
 levelOf field = 2 * field

@@ -8,16 +8,14 @@
 // Neither call asks anything of its caller, and a refusal writes nothing. The steps:
 // 1. request.rt looks at the level field and the lengths.
 // 2. The number is brought into a register of the crate `remainder`, and tested for ones above bit mt - 1.
-// 3. convert.rt writes the fragments of a register, and reads them.
-// What is right is said by specs/Fragments.antt and specs/Calls.antt; proofs/Meaning.antt says it bit by bit, and proofs/Back.antt shows
-// that each call undoes the other. round_trip.rt runs one after the other.
+// 3. Crate `register_fragments` writes the fragments of a register, and reads them.
+// What is right is said by register_fragments/specs/Fragments.antt and specs/Calls.antt; proofs/Meaning.antt says it bit by bit, and
+// proofs/Back.antt shows that each call undoes the other. Crate `fragment_trips` runs one after the other.
 pub mod answers;
-mod convert;
 mod request;
-pub mod round_trip;
 
-use convert::from_fragments;
-use convert::to_fragments;
+use register_fragments::from_fragments;
+use register_fragments::to_fragments;
 use remainder::coefficients::is_below;
 use remainder::digits::from_bytes;
 use remainder::digits::to_bytes;

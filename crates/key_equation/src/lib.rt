@@ -12,8 +12,8 @@ ghost use Rattle.field.proofs.Instance.{gf, num};
 ghost use Rattle.series.specs.Series.{Represents, Elements};
 ghost use Rattle.key_equation.specs.KeyEquation.{PowerSums};
 use field::Field;
-use field::tables::product_by_tables;
-use field::tables::quotient;
+use field_tables::product_by_tables;
+use field_tables::quotient;
 use series::mix;
 
 // What the algorithm holds: the recurrence c of length len, and its update u, which counts with `gap` zeros before it and has the

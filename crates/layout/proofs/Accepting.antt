@@ -1,36 +1,46 @@
--- What an accepted layout keeps, and that it makes a valid plan.
-use mathlib.Core.Path.{_≡_, ap}
+-- What an accepted layout keeps, that it makes a valid plan, and that the numbers kept with it are document 01's sums.
+use mathlib.Core.Path.{_≡_, refl, sym, ap, _∙_}
+use mathlib.Core.Bool.{Bool, true, false, cond}
 use mathlib.Core.Logic.{⊎-elim}
+use mathlib.Core.List.{List}
 use Prim.Native.Nat.{ℕ, zero, suc, _+_, _*_, _≤_, _<_}
 use native.Mathlib.Numerals.{add-one}
 use native.Mathlib.Omega.{arith}
-use native.Mathlib.Nat.{eq-zero-or-pos, zero-mul, lt-of-not-le}
-use borrow.Author.Tests.{ne-eqb}
-use Rattle.field.specs.Field.{longest}
+use native.Mathlib.Nat.{eq-zero-or-pos, zero-mul, mul-zero, lt-of-not-le}
+use lib.Dec.{eqb}
+use lib.ListN.{length}
+use borrow.Author.Tests.{eqb-true}
+use Rattle.field.specs.Field.{degree, longest}
+use Rattle.field.specs.declared.Field.the-variants.{Thirteen}
+use Rattle.layout.specs.declared.Fields.{Fields}
 use Rattle.layout.specs.declared.Layout.{Layout}
-use Rattle.layout.specs.declared.Finding.the-variants.{Kept}
-use Rattle.layout.specs.Plan.{shapeOf, laterShape, dataBytes, planOf, coveredOf, shape, bits, field, level, covered, start, used, from, payload, Valid}
-use Rattle.layout.specs.Acceptance.{findingOf}
-use Rattle.layout.proofs.Plans.{start-next, start-order, start-up, from-later}
+use Rattle.layout.specs.declared.Plan.{Plan}
+use Rattle.layout.specs.declared.Finding.{Finding}
+use Rattle.layout.specs.declared.Finding.the-variants.{Kept, Broken}
+use Rattle.layout.specs.declared.Acceptance.the-variants as answer
+use Rattle.layout.specs.declared.Refusal.the-variants as refusal
+use Rattle.layout.specs.Record.{fieldsIn, layoutOf}
+use Rattle.layout.specs.Plan.{shapeWith, shapeOf, laterShape, dataBytes, planFor, layoutFor, planOf, Sums, shape, bits, field, level, covered, start, used, from, payload, Summed, Valid}
+use Rattle.layout.specs.Acceptance.{findingOf, judged, acceptance}
+use Rattle.layout.proofs.Plans.{later-none, later-some, start-next, start-order, start-up, start-later, from-later}
 use Rattle.layout.proofs.Reasons.{level-first, level-later, message-first, message-later, length-first, length-later, page-room, kept-free}
 
 -- the rules, of a layout that keeps them
-pub record Keeps (l : Layout) : Type 0 where
-  pub levels : l .first .ecc ≤ 20
-  pub levels-later : 0 < l .nblocks → l .later .ecc ≤ 20
-  pub messages : 0 < planOf l .first .message
-  pub messages-later : 0 < l .nblocks → 0 < planOf l .later .message
-  pub lengths : 0 < planOf l .first .level → coveredOf (planOf l .first) ≤ longest (planOf l .first .field)
-  pub lengths-later : 0 < l .nblocks → 0 < planOf l .later .level → coveredOf (planOf l .later) ≤ longest (planOf l .later .field)
-  pub fits : used (planOf l) ≤ 8 * l .page
+pub record Keeps (f : Fields) (q : Plan) : Type 0 where
+  pub levels : f .first .ecc ≤ 20
+  pub levels-later : 0 < f .nblocks → f .later .ecc ≤ 20
+  pub messages : 0 < q .first .message
+  pub messages-later : 0 < f .nblocks → 0 < q .later .message
+  pub lengths : 0 < q .first .level → q .first .covered ≤ longest (q .first .field)
+  pub lengths-later : 0 < f .nblocks → 0 < q .later .level → q .later .covered ≤ longest (q .later .field)
+  pub fits : used q ≤ 8 * q .size
 
 not-less : (a b : ℕ) → (a < b → ⊥) → b ≤ a
 not-less a b h = let k = lt-of-not-le {n = suc a} {m = b} h in omega arith
 
-pub keeps : (l : Layout) → findingOf l ≡ Kept → Keeps l
-unfolding planOf
-keeps l e =
-    let free = kept-free l e in
+pub keeps : (f : Fields) (q : Plan) → findingOf f q ≡ Kept → Keeps f q
+keeps f q e =
+    let free = kept-free f q e in
     record {
       levels = not-less _ _ (λ x. free _ (level-first x));
       levels-later = λ n. not-less _ _ (λ x. free _ (level-later n x));
@@ -41,60 +51,120 @@ keeps l e =
       fits = not-less _ _ (λ x. free _ (page-room x));
     }
 
-module _ (l : Layout) where
-  later-message : l .nblocks * laterShape l .message ≡ 32 * (l .nblocks * l .later .units)
-  unfolding laterShape shapeOf
+-- ---- the sums
+
+module _ (f : Fields) where
+  -- The numbers kept in a plan are document 01's sums of its fields.
+  pub plan-sums : Sums f (planFor f)
+  unfolding planFor shapeOf shapeWith dataBytes
+  plan-sums = record {
+    «data» = refl;
+    first = refl;
+    none = λ e. rw (later-none f e) (omega (arith, mul-zero (degree Thirteen)));
+    later = λ n. rw (later-some f n) (omega arith);
+    used = refl;
+  }
+
+  -- message and parity of each block
+  shape-sums : (b : ℕ) → Summed (shape (planFor f) b)
+  unfolding shape planFor shapeOf shapeWith laterShape
+  shape-sums zero = refl
+  shape-sums (suc b) = go (eqb (f .nblocks) 0)
+    where
+      go : (t : Bool) → Summed (cond t (shapeWith 0 Thirteen 0) (shapeOf 0 (f .later)))
+      go true = refl
+      go false = refl
+
+  -- all blocks together
+  plan-total : used (planFor f) ≡ start (planFor f) (planFor f .blocks)
+  unfolding planFor
+  plan-total = sym (ap (start (planFor f)) (add-one (f .nblocks)) ∙ start-later (planFor f) (f .nblocks))
+
+  later-message : f .nblocks * laterShape f .message ≡ 32 * (f .nblocks * f .later .units)
+  unfolding shapeOf shapeWith
   later-message =
       ⊎-elim
-      (λ (e : l .nblocks ≡ 0). rw e (omega (arith, zero-mul (laterShape l .message), zero-mul (l .later .units))))
-      (λ (n : 0 < l .nblocks). simp (ne-eqb (l .nblocks) 0 (λ e. omega arith)) (omega arith))
-      (eq-zero-or-pos (l .nblocks))
+      (λ (e : f .nblocks ≡ 0). rw e (omega (arith, zero-mul (laterShape f .message), zero-mul (f .later .units))))
+      (λ (n : 0 < f .nblocks). rw (later-some f n) (omega arith))
+      (eq-zero-or-pos (f .nblocks))
 
   -- the messages of the blocks are the payload
-  whole : from (planOf l) (l .nblocks + 1) ≡ 8 * (l .metadata + dataBytes l)
-  unfolding planOf shapeOf dataBytes
-  whole = omega (arith, ap (from (planOf l)) (add-one (l .nblocks)), from-later (planOf l) (l .nblocks), later-message)
+  whole : from (planFor f) (f .nblocks + 1) ≡ 8 * (f .metadata + dataBytes f)
+  unfolding planFor shapeOf shapeWith dataBytes
+  whole = omega (arith, ap (from (planFor f)) (add-one (f .nblocks)), from-later (planFor f) (f .nblocks), later-message)
 
-  blocks-suc : planOf l .blocks ≡ suc (l .nblocks)
-  unfolding planOf
-  blocks-suc = add-one (l .nblocks)
+-- ---- the rules
 
-  some-later : (b : ℕ) → suc b < planOf l .blocks → 0 < l .nblocks
-  some-later b h = omega (arith, blocks-suc)
+module _ (f : Fields) (k : Keeps f (planFor f)) where
+  some-later : (b : ℕ) → suc b < planFor f .blocks → 0 < f .nblocks
+  unfolding planFor
+  some-later b h = omega arith
 
-  later-level : 0 < l .nblocks → laterShape l .level ≡ 2 * l .later .ecc
-  unfolding laterShape shapeOf
-  later-level n = simp (ne-eqb (l .nblocks) 0 (λ e. omega arith))
+  ends : (b : ℕ) → b < planFor f .blocks → start (planFor f) b + covered (planFor f) b ≤ 8 * planFor f .size
+  ends b h = omega (arith, start-next (planFor f) b, start-up (planFor f) (suc b) (planFor f .blocks) h, plan-total f, k .fits)
 
-  ends : Keeps l → (b : ℕ) → b < planOf l .blocks → start (planOf l) b + covered (planOf l) b ≤ 8 * l .page
-  unfolding used
-  ends k b h = omega (arith, start-next (planOf l) b, start-up (planOf l) (suc b) (planOf l .blocks) h, k .fits)
-
-  short : Keeps l → (b : ℕ) → b < planOf l .blocks → 0 < level (planOf l) b → covered (planOf l) b ≤ longest (field (planOf l) b)
+  short : (b : ℕ) → b < planFor f .blocks → 0 < level (planFor f) b → covered (planFor f) b ≤ longest (field (planFor f) b)
   unfolding shape
-  short k zero h = k .lengths
-  short k (suc b) h = k .lengths-later (some-later b h)
+  short zero h = k .lengths
+  short (suc b) h = k .lengths-later (some-later b h)
 
-  strong : Keeps l → (b : ℕ) → b < planOf l .blocks → level (planOf l) b ≤ 62
-  unfolding shape planOf shapeOf
-  strong k zero h = omega (arith, k .levels)
-  strong k (suc b) h = omega (arith, k .levels-later (some-later b h), later-level (some-later b h))
+  strong : (b : ℕ) → b < planFor f .blocks → level (planFor f) b ≤ 62
+  unfolding shape planFor shapeOf shapeWith
+  strong zero h = omega (arith, k .levels)
+  strong (suc b) h = rw (later-some f (some-later b h)) (omega (arith, k .levels-later (some-later b h)))
 
-  filled : Keeps l → (b : ℕ) → b < planOf l .blocks → 0 < bits (planOf l) b
+  filled : (b : ℕ) → b < planFor f .blocks → 0 < bits (planFor f) b
   unfolding shape
-  filled k zero h = k .messages
-  filled k (suc b) h = k .messages-later (some-later b h)
+  filled zero h = k .messages
+  filled (suc b) h = k .messages-later (some-later b h)
 
-  -- An accepted layout makes a valid plan.
-  pub plan-valid : findingOf l ≡ Kept → Valid (planOf l)
-  unfolding planOf payload
-  plan-valid e =
-      let k = keeps l e in
-      record {
-        order = λ b c h x. start-order (planOf l) b c h;
-        ends = ends k;
-        short = short k;
-        strong = strong k;
-        filled = filled k;
-        whole = whole;
-      }
+  keeps-valid : Valid (planFor f)
+  unfolding planFor payload
+  keeps-valid = record {
+    order = λ b c h x. start-order (planFor f) b c h;
+    ends = ends;
+    short = short;
+    strong = strong;
+    filled = filled;
+    whole = whole f;
+    sums = shape-sums f;
+    total = plan-total f;
+  }
+
+-- A layout that keeps the rules makes a valid plan.
+pub plan-valid : (f : Fields) → findingOf f (planFor f) ≡ Kept → Valid (planFor f)
+plan-valid f e = keeps-valid f (keeps f (planFor f) e)
+
+-- ---- accepted records
+
+-- an accepted record is of eight bytes, and its layout breaks no rule
+pub record Taken (rec : List ℕ) (l : Layout) : Type 0 where
+  pub eight : length rec ≡ 8
+  pub layout : l ≡ layoutOf rec
+  pub kept : findingOf (fieldsIn rec) (planOf l) ≡ Kept
+
+pub accepted-taken : (rec : List ℕ) (l : Layout) → acceptance rec ≡ answer.Accepted l → Taken rec l
+unfolding acceptance judged
+accepted-taken rec l h = go (eqb (length rec) 8) (findingOf (fieldsIn rec) (planOf (layoutOf rec))) refl refl h
+  where
+    go : (t : Bool) (f : Finding) → eqb (length rec) 8 ≡ t → findingOf (fieldsIn rec) (planOf (layoutOf rec)) ≡ f →
+        cond t (judged (layoutOf rec) f) (answer.Refused refusal.RecordLength) ≡ answer.Accepted l → Taken rec l
+    go true Kept e k x = let y : l ≡ layoutOf rec = cc x in record { eight = eqb-true _ _ e; layout = y; kept = rw y k }
+    go true (Broken r) e k x = let z : _≡_ {A = ℕ} 0 1 = cc x in absurd (omega arith)
+    go false f e k x = let z : _≡_ {A = ℕ} 0 1 = cc x in absurd (omega arith)
+
+-- The layout of an accepted record makes a valid plan, and what is kept with it are the sums of the record's fields.
+module _ (rec : List ℕ) (l : Layout) (h : acceptance rec ≡ answer.Accepted l) where
+  -- the plan that is kept is that of the record's fields
+  pub accepted-plan : planOf l ≡ planFor (fieldsIn rec)
+  unfolding layoutOf layoutFor planOf
+  accepted-plan = rw (accepted-taken rec l h .layout)
+
+  pub accepted-kept : findingOf (fieldsIn rec) (planFor (fieldsIn rec)) ≡ Kept
+  accepted-kept = ap (findingOf (fieldsIn rec)) (sym accepted-plan) ∙ accepted-taken rec l h .kept
+
+  pub accepted-valid : Valid (planOf l)
+  accepted-valid = rw accepted-plan (plan-valid (fieldsIn rec) accepted-kept)
+
+  pub accepted-sums : Sums (fieldsIn rec) (planOf l)
+  accepted-sums = rw accepted-plan (plan-sums (fieldsIn rec))

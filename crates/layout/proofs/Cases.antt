@@ -9,12 +9,14 @@ use Rattle.field.specs.declared.Field.{Field}
 use Rattle.field.specs.declared.Field.the-variants.{Thirteen, Fourteen}
 use Rattle.field.specs.Field.{degree, longest}
 use Rattle.layout.specs.declared.BlockFields.{BlockFields}
+use Rattle.layout.specs.declared.Fields.{Fields}
 use Rattle.layout.specs.declared.Layout.{Layout}
+use Rattle.layout.specs.declared.Finding.{Finding}
 use Rattle.layout.specs.declared.Finding.the-variants.{Kept, Broken}
 use Rattle.layout.specs.declared.Rule.the-variants.{Level, Message, Length, Room}
 use Rattle.layout.specs.declared.Kind.the-variants.{First, Page}
-use Rattle.layout.specs.Record.{fieldOf, blockFields, layoutAt, layoutOf}
-use Rattle.layout.specs.Plan.{shapeOf, laterShape, dataBytes, planOf, coveredOf, shape, bits, level, covered, start, used}
+use Rattle.layout.specs.Record.{fieldOf, blockFields, fieldsAt, fieldsIn, layoutOf}
+use Rattle.layout.specs.Plan.{shapeWith, shapeOf, laterShape, dataBytes, planFor, layoutFor, planOf, shape, bits, level, covered, start, used}
 use Rattle.layout.specs.Acceptance.{test, levelRule, messageRule, lengthRule, roomRule, either, ofBlocks, findingOf, judged, acceptance}
 use Rattle.layout.specs.Bits.{within, blockBelow, blockOf, exponentAt, positionAt, located, bitIn, bitFor, bitAnswer, positionIn, positionFor, positionAnswer}
 use Rattle.layout.proofs.Plans.{degree-small, product-le}
@@ -31,13 +33,13 @@ words v w =
     ∷ w / 0x1000000 ∷ w / 0x10000 % 256 ∷ w / 256 % 256 ∷ w % 256 ∷ []
 
 unfoldable pub layoutA : Layout
-layoutA = record {
+layoutA = layoutFor (record {
   nblocks = 7;
   metadata = 10;
   first = record { ecc = 8; gf = Thirteen; units = 128 };
   page = 4314;
   later = record { ecc = 8; gf = Thirteen; units = 128 };
-}
+})
 
 -- A: the reset state in document 000
 pub record CaseA : Type 0 where
@@ -58,7 +60,7 @@ CaseB =
     ≡ answer.Refused (refusal.Rule (record { rule = Room; kind = Page; found = 34512; limit = 34504 }))
 
 -- one block, PAGE_SIZE 2,048; the fields of later blocks are anything
-unfoldable pub oneBlock : ℕ → ℕ → Field → ℕ → BlockFields → Layout
+unfoldable pub oneBlock : ℕ → ℕ → Field → ℕ → BlockFields → Fields
 oneBlock metadata ecc gf units later = record {
   nblocks = 0;
   metadata = metadata;
@@ -67,26 +69,30 @@ oneBlock metadata ecc gf units later = record {
   later = later;
 }
 
+-- what the rules find of these fields
+unfoldable pub finding : Fields → Finding
+finding f = findingOf f (planFor f)
+
 -- C: m = 13, t = 40, 239 units of data
 pub record CaseC (later : BlockFields) : Type 0 where
-  pub longest : covered (planOf (oneBlock 2 20 Thirteen 239 later)) 0 ≡ 8184
-  pub accepted : findingOf (oneBlock 2 20 Thirteen 239 later) ≡ Kept
-  pub refused : findingOf (oneBlock 3 20 Thirteen 239 later) ≡ Broken (record { rule = Length; kind = First; found = 8192; limit = 8191 })
+  pub longest : covered (planFor (oneBlock 2 20 Thirteen 239 later)) 0 ≡ 8184
+  pub accepted : finding (oneBlock 2 20 Thirteen 239 later) ≡ Kept
+  pub refused : finding (oneBlock 3 20 Thirteen 239 later) ≡ Broken (record { rule = Length; kind = First; found = 8192; limit = 8191 })
 
 -- D: m = 14, t = 40, 494 units of data
 pub record CaseD (later : BlockFields) : Type 0 where
-  pub longest : covered (planOf (oneBlock 1 20 Fourteen 494 later)) 0 ≡ 16376
-  pub accepted : findingOf (oneBlock 1 20 Fourteen 494 later) ≡ Kept
-  pub refused : findingOf (oneBlock 2 20 Fourteen 494 later) ≡ Broken (record { rule = Length; kind = First; found = 16384; limit = 16383 })
+  pub longest : covered (planFor (oneBlock 1 20 Fourteen 494 later)) 0 ≡ 16376
+  pub accepted : finding (oneBlock 1 20 Fourteen 494 later) ≡ Kept
+  pub refused : finding (oneBlock 2 20 Fourteen 494 later) ≡ Broken (record { rule = Length; kind = First; found = 16384; limit = 16383 })
 
 unfoldable pub layoutE : Layout
-layoutE = record {
+layoutE = layoutFor (record {
   nblocks = 1;
   metadata = 0;
   first = record { ecc = 1; gf = Thirteen; units = 1 };
   page = 15;
   later = record { ecc = 1; gf = Thirteen; units = 1 };
-}
+})
 
 -- E: two blocks of 58 bits, t = 2; block 1 starts in byte 7 at bit 5; four tail bits
 pub record CaseE : Type 0 where
@@ -111,13 +117,13 @@ pub record CaseE : Type 0 where
 -- I: level field 0x15 with an empty block
 pub CaseI : Type 0
 CaseI = (gf : Field) (later : BlockFields) →
-    findingOf (oneBlock 0 21 gf 0 later) ≡ Broken (record { rule = Level; kind = First; found = 21; limit = 20 })
+    finding (oneBlock 0 21 gf 0 later) ≡ Broken (record { rule = Level; kind = First; found = 21; limit = 20 })
 
 -- K: metadata 0 or 1, DATA0_SIZE 0, any level field that is allowed
 pub record CaseK (ecc : ℕ) (gf : Field) (later : BlockFields) : Type 0 where
-  pub refused : findingOf (oneBlock 0 ecc gf 0 later) ≡ Broken (record { rule = Message; kind = First; found = 0; limit = 1 })
-  pub accepted : findingOf (oneBlock 1 ecc gf 0 later) ≡ Kept
-  pub message : bits (planOf (oneBlock 1 ecc gf 0 later)) 0 ≡ 8
+  pub refused : finding (oneBlock 0 ecc gf 0 later) ≡ Broken (record { rule = Message; kind = First; found = 0; limit = 1 })
+  pub accepted : finding (oneBlock 1 ecc gf 0 later) ≡ Kept
+  pub message : bits (planFor (oneBlock 1 ecc gf 0 later)) 0 ≡ 8
 
 -- the table
 pub record LayoutCases : Type 0 where
@@ -146,16 +152,16 @@ module _ (ecc : ℕ) (gf : Field) (later : BlockFields) (allowed : ecc ≤ 20) w
       go Fourteen = omega arith
 
   case-k : CaseK ecc gf later
-  unfolding oneBlock shapeOf laterShape planOf coveredOf shape start used test levelRule messageRule lengthRule roomRule either ofBlocks findingOf
+  unfolding oneBlock finding shapeWith shapeOf laterShape planFor shape test levelRule messageRule lengthRule roomRule either ofBlocks findingOf
   case-k =
       let low = le-ltb 20 ecc allowed in
       let short = le-ltb (longest gf) (8 + degree gf * (2 * ecc)) (omega (arith, parity-small, longest-large)) in
-      let fits = le-ltb 16384 (0 + (8 + degree gf * (2 * ecc))) (omega (arith, parity-small)) in
+      let fits = le-ltb 16384 (8 + degree gf * (2 * ecc) + 0 * (0 + degree Thirteen * 0)) (omega (arith, parity-small)) in
       record { refused = simp low; accepted = simp (low, short, cond-same, fits); message = refl }
 
 pub layout-cases : LayoutCases
-unfolding CaseB CaseI words layoutA layoutE oneBlock fieldOf blockFields layoutAt layoutOf
-    shapeOf laterShape dataBytes planOf coveredOf shape start used degree longest
+unfolding CaseB CaseI words layoutA layoutE oneBlock finding fieldOf blockFields fieldsAt fieldsIn layoutOf
+    shapeWith shapeOf laterShape dataBytes planFor layoutFor planOf shape start degree longest
     test levelRule messageRule lengthRule roomRule either ofBlocks findingOf judged acceptance
     within blockBelow blockOf exponentAt positionAt located bitIn bitFor bitAnswer positionIn positionFor positionAnswer
 layout-cases = record {

@@ -1,9 +1,8 @@
 -- Laws of layouts.
 pub mod Plans
 pub mod Numbers
+mod Findings
 pub mod Reasons
 pub mod Accepting
-pub mod Placing
-pub mod Inverse
 pub mod Cases
 pub mod ReplyRules

@@ -14,7 +14,8 @@ use Rattle.layout.specs.declared.Refusal.the-variants as refusal
 use Rattle.layout.specs.declared.Finding.{Finding}
 use Rattle.layout.specs.declared.Finding.the-variants.{Kept, Broken}
 use Rattle.layout.specs.declared.Acceptance.the-variants.{Refused}
-use Rattle.layout.specs.Record.{layoutOf}
+use Rattle.layout.specs.Record.{fieldsIn, layoutOf}
+use Rattle.layout.specs.Plan.{planOf}
 use Rattle.layout.specs.Acceptance.{findingOf, judged, acceptance, ruleRefusal, refusalOf, ruleNumber, refusalReply}
 
 pub rule-number-range : (r : Rule) → (0 < ruleNumber r) × (ruleNumber r < 5)
@@ -33,7 +34,7 @@ refusal-reply-range refusal.Range = (omega arith, omega arith)
 -- A layout record is refused with 1, 2, 3, 4 or 6.
 pub acceptance-refused-reply : (rec : List ℕ) (r : Refusal) → acceptance rec ≡ Refused r → refusalReply r < 7
 unfolding acceptance judged refusalReply refusalOf number ruleNumber
-acceptance-refused-reply rec r e = go (eqb (length rec) 8) (findingOf (layoutOf rec)) e
+acceptance-refused-reply rec r e = go (eqb (length rec) 8) (findingOf (fieldsIn rec) (planOf (layoutOf rec))) e
   where
     go : (b : Bool) (f : Finding) → cond b (judged (layoutOf rec) f) (Refused refusal.RecordLength) ≡ Refused r → refusalReply r < 7
     go false f e = let k : r ≡ refusal.RecordLength = cc in rw k (omega arith)

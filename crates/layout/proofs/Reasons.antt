@@ -11,7 +11,7 @@ use borrow.Author.Tests.{ltb-true, lt-ltb, eq-eqb, ne-eqb}
 use Rattle.field.specs.Field.{longest}
 use Rattle.replies.specs.Replies.{number}
 use Rattle.layout.specs.declared.BlockFields.{BlockFields}
-use Rattle.layout.specs.declared.Layout.{Layout}
+use Rattle.layout.specs.declared.Fields.{Fields}
 use Rattle.layout.specs.declared.Plan.{Plan}
 use Rattle.layout.specs.declared.Shape.{Shape}
 use Rattle.layout.specs.declared.Rule.the-variants.{Level, Message, Length, Room}
@@ -20,7 +20,7 @@ use Rattle.layout.specs.declared.Kind.the-variants.{First, Later, Page}
 use Rattle.layout.specs.declared.Reason.{Reason}
 use Rattle.layout.specs.declared.Finding.{Finding}
 use Rattle.layout.specs.declared.Finding.the-variants.{Kept, Broken}
-use Rattle.layout.specs.Plan.{planOf, coveredOf, used}
+use Rattle.layout.specs.Plan.{used}
 use Rattle.layout.specs.Acceptance.{test, levelRule, messageRule, lengthRule, roomRule, either, ofBlocks, findingOf, ruleRefusal, ruleNumber}
 
 -- the reasons, with the two numbers compared
@@ -31,22 +31,22 @@ unfoldable pub messageReason : Kind → Shape → Reason
 messageReason kind s = record { rule = Message; kind = kind; found = s .message; limit = 1 }
 
 unfoldable pub lengthReason : Kind → Shape → Reason
-lengthReason kind s = record { rule = Length; kind = kind; found = coveredOf s; limit = longest (s .field) }
+lengthReason kind s = record { rule = Length; kind = kind; found = s .covered; limit = longest (s .field) }
 
 unfoldable pub roomReason : Plan → Reason
 roomReason q = record { rule = Room; kind = Page; found = used q; limit = 8 * q .size }
 
--- r is a reason to refuse the layout l: what it names breaks its rule
-pub data Breaks (l : Layout) : Reason → Type 0 where
-  level-first : 20 < l .first .ecc → Breaks l (levelReason First (l .first))
-  level-later : 0 < l .nblocks → 20 < l .later .ecc → Breaks l (levelReason Later (l .later))
-  message-first : planOf l .first .message < 1 → Breaks l (messageReason First (planOf l .first))
-  message-later : 0 < l .nblocks → planOf l .later .message < 1 → Breaks l (messageReason Later (planOf l .later))
-  length-first : 0 < planOf l .first .level → longest (planOf l .first .field) < coveredOf (planOf l .first) →
-      Breaks l (lengthReason First (planOf l .first))
-  length-later : 0 < l .nblocks → 0 < planOf l .later .level → longest (planOf l .later .field) < coveredOf (planOf l .later) →
-      Breaks l (lengthReason Later (planOf l .later))
-  page-room : 8 * planOf l .size < used (planOf l) → Breaks l (roomReason (planOf l))
+-- r is a reason to refuse a layout of the fields f and the plan q: what it names breaks its rule
+pub data Breaks (f : Fields) (q : Plan) : Reason → Type 0 where
+  level-first : 20 < f .first .ecc → Breaks f q (levelReason First (f .first))
+  level-later : 0 < f .nblocks → 20 < f .later .ecc → Breaks f q (levelReason Later (f .later))
+  message-first : q .first .message < 1 → Breaks f q (messageReason First (q .first))
+  message-later : 0 < f .nblocks → q .later .message < 1 → Breaks f q (messageReason Later (q .later))
+  length-first : 0 < q .first .level → longest (q .first .field) < q .first .covered →
+      Breaks f q (lengthReason First (q .first))
+  length-later : 0 < f .nblocks → 0 < q .later .level → longest (q .later .field) < q .later .covered →
+      Breaks f q (lengthReason Later (q .later))
+  page-room : 8 * q .size < used q → Breaks f q (roomReason q)
 
 -- the order of reasons: smallest reply first, block 0 before the later blocks
 unfoldable pub kindRank : Kind → ℕ
@@ -154,7 +154,7 @@ true-long : (t n m : ℕ) → (0 < t) × (m < n) → cond (eqb t 0) false (ltb m
 true-long t n m h = simp (ne-eqb t 0 (λ e. omega (arith, h .0)), lt-ltb m n (h .1))
 
 decide-length : (kind : Kind) (s : Shape) (n : ℕ) → 6 + kindRank kind ≡ n →
-    Decides n (suc n) (λ r. ((0 < s .level) × (longest (s .field) < coveredOf s)) × (r ≡ lengthReason kind s)) (lengthRule kind s)
+    Decides n (suc n) (λ r. ((0 < s .level) × (longest (s .field) < s .covered)) × (r ≡ lengthReason kind s)) (lengthRule kind s)
 unfolding lengthRule lengthReason rank ruleNumber ruleRefusal number
 decide-length kind s n e = decide-test _ _ e (long-true _ _ _) (true-long _ _ _)
 
@@ -162,41 +162,41 @@ decide-room : (q : Plan) → Decides 8 9 (λ r. (8 * q .size < used q) × (r ≡
 unfolding roomRule roomReason rank ruleNumber ruleRefusal number kindRank
 decide-room q = decide-test _ _ refl (λ h. ltb-true _ _ h) (λ h. lt-ltb _ _ h)
 
-module _ (l : Layout) where
+module _ (f : Fields) (q : Plan) where
   LevelBroken : Reason → Type 0
   LevelBroken r =
-      ((20 < l .first .ecc) × (r ≡ levelReason First (l .first)))
-      ⊎ ((0 < l .nblocks) × ((20 < l .later .ecc) × (r ≡ levelReason Later (l .later))))
+      ((20 < f .first .ecc) × (r ≡ levelReason First (f .first)))
+      ⊎ ((0 < f .nblocks) × ((20 < f .later .ecc) × (r ≡ levelReason Later (f .later))))
 
   MessageBroken : Reason → Type 0
   MessageBroken r =
-      ((planOf l .first .message < 1) × (r ≡ messageReason First (planOf l .first)))
-      ⊎ ((0 < l .nblocks) × ((planOf l .later .message < 1) × (r ≡ messageReason Later (planOf l .later))))
+      ((q .first .message < 1) × (r ≡ messageReason First (q .first)))
+      ⊎ ((0 < f .nblocks) × ((q .later .message < 1) × (r ≡ messageReason Later (q .later))))
 
   LengthBroken : Reason → Type 0
   LengthBroken r =
-      (((0 < planOf l .first .level) × (longest (planOf l .first .field) < coveredOf (planOf l .first))) × (r ≡ lengthReason First (planOf l .first)))
-      ⊎ ((0 < l .nblocks)
-      × (((0 < planOf l .later .level) × (longest (planOf l .later .field) < coveredOf (planOf l .later))) × (r ≡ lengthReason Later (planOf l .later))))
+      (((0 < q .first .level) × (longest (q .first .field) < q .first .covered)) × (r ≡ lengthReason First (q .first)))
+      ⊎ ((0 < f .nblocks)
+      × (((0 < q .later .level) × (longest (q .later .field) < q .later .covered)) × (r ≡ lengthReason Later (q .later))))
 
   RoomBroken : Reason → Type 0
-  RoomBroken r = (8 * planOf l .size < used (planOf l)) × (r ≡ roomReason (planOf l))
+  RoomBroken r = (8 * q .size < used q) × (r ≡ roomReason q)
 
-  decide-finding : Decides 2 9 (λ r. LevelBroken r ⊎ (MessageBroken r ⊎ (LengthBroken r ⊎ RoomBroken r))) (findingOf l)
+  decide-finding : Decides 2 9 (λ r. LevelBroken r ⊎ (MessageBroken r ⊎ (LengthBroken r ⊎ RoomBroken r))) (findingOf f q)
   unfolding findingOf LevelBroken MessageBroken LengthBroken RoomBroken kindRank
   decide-finding =
       decide-either (omega arith) (omega arith)
-      (decide-blocks (l .nblocks) (omega arith) (omega arith) (decide-level First (l .first) 2 refl) (decide-level Later (l .later) 3 refl))
+      (decide-blocks (f .nblocks) (omega arith) (omega arith) (decide-level First (f .first) 2 refl) (decide-level Later (f .later) 3 refl))
       (decide-either (omega arith) (omega arith)
-      (decide-blocks (l .nblocks) (omega arith) (omega arith) (decide-message First (planOf l .first) 4 refl) (decide-message Later (planOf l .later) 5 refl))
+      (decide-blocks (f .nblocks) (omega arith) (omega arith) (decide-message First (q .first) 4 refl) (decide-message Later (q .later) 5 refl))
       (decide-either (omega arith) (omega arith)
-      (decide-blocks (l .nblocks) (omega arith) (omega arith) (decide-length First (planOf l .first) 6 refl) (decide-length Later (planOf l .later) 7 refl))
-      (decide-room (planOf l))))
+      (decide-blocks (f .nblocks) (omega arith) (omega arith) (decide-length First (q .first) 6 refl) (decide-length Later (q .later) 7 refl))
+      (decide-room q)))
 
   All : Reason → Type 0
   All r = LevelBroken r ⊎ (MessageBroken r ⊎ (LengthBroken r ⊎ RoomBroken r))
 
-  all-breaks : (r : Reason) → All r → Breaks l r
+  all-breaks : (r : Reason) → All r → Breaks f q r
   unfolding All LevelBroken MessageBroken LengthBroken RoomBroken
   all-breaks r (inl (inl h)) = rw (h .1) (level-first (h .0))
   all-breaks r (inl (inr h)) = rw (h .1 .1) (level-later (h .0) (h .1 .0))
@@ -206,7 +206,7 @@ module _ (l : Layout) where
   all-breaks r (inr (inr (inl (inr h)))) = rw (h .1 .1) (length-later (h .0) (h .1 .0 .0) (h .1 .0 .1))
   all-breaks r (inr (inr (inr h))) = rw (h .1) (page-room (h .0))
 
-  breaks-all : (r : Reason) → Breaks l r → All r
+  breaks-all : (r : Reason) → Breaks f q r → All r
   unfolding All LevelBroken MessageBroken LengthBroken RoomBroken
   breaks-all r (level-first h) = inl (inl (h, refl))
   breaks-all r (level-later n h) = inl (inr (n, (h, refl)))
@@ -217,7 +217,7 @@ module _ (l : Layout) where
   breaks-all r (page-room h) = inr (inr (inr (h, refl)))
 
   -- The finding is the first of the reasons to refuse the layout.
-  pub finding-least : Least (Breaks l) (findingOf l)
+  pub finding-least : Least (Breaks f q) (findingOf f q)
   unfolding All
   finding-least = least-map all-breaks breaks-all (decide-finding .least)
 
@@ -253,23 +253,23 @@ module _ {P : Reason → Type 0} where
       ⊎-elim (λ (e : r ≡ s). ap Broken (sym e)) (λ (o : rank s < rank r). absurd (omega (arith, h s x))) (p r k)
 
 -- A reason is given exactly if it holds and none before it does; a layout is kept exactly if no reason holds.
-module _ (l : Layout) where
-  pub reason-true : (r : Reason) → findingOf l ≡ Broken r → Breaks l r
-  reason-true r e = least-broken (finding-least l) e
+module _ (f : Fields) (q : Plan) where
+  pub reason-true : (r : Reason) → findingOf f q ≡ Broken r → Breaks f q r
+  reason-true r e = least-broken (finding-least f q) e
 
-  pub reason-first : (r s : Reason) → findingOf l ≡ Broken r → Breaks l s → rank r ≤ rank s
-  reason-first r s e h = least-first (finding-least l) e s h
+  pub reason-first : (r s : Reason) → findingOf f q ≡ Broken r → Breaks f q s → rank r ≤ rank s
+  reason-first r s e h = least-first (finding-least f q) e s h
 
-  pub reason-given : (r : Reason) → Breaks l r → ((s : Reason) → Breaks l s → rank r ≤ rank s) → findingOf l ≡ Broken r
-  reason-given r h first = broken-least (finding-least l) h first
+  pub reason-given : (r : Reason) → Breaks f q r → ((s : Reason) → Breaks f q s → rank r ≤ rank s) → findingOf f q ≡ Broken r
+  reason-given r h first = broken-least (finding-least f q) h first
 
-  pub kept-free : findingOf l ≡ Kept → (r : Reason) → Breaks l r → ⊥
-  kept-free e = least-kept (finding-least l) e
+  pub kept-free : findingOf f q ≡ Kept → (r : Reason) → Breaks f q r → ⊥
+  kept-free e = least-kept (finding-least f q) e
 
-  pub free-kept : ((r : Reason) → Breaks l r → ⊥) → findingOf l ≡ Kept
-  free-kept h = kept-least (finding-least l) h
+  pub free-kept : ((r : Reason) → Breaks f q r → ⊥) → findingOf f q ≡ Kept
+  free-kept h = kept-least (finding-least f q) h
 
   -- so the smallest reply wins
-  pub reply-smallest : (r s : Reason) → findingOf l ≡ Broken r → Breaks l s → ruleNumber (r .rule) ≤ ruleNumber (s .rule)
+  pub reply-smallest : (r s : Reason) → findingOf f q ≡ Broken r → Breaks f q s → ruleNumber (r .rule) ≤ ruleNumber (s .rule)
   unfolding rank
   reply-smallest r s e h = let o = reason-first r s e h in omega (arith, kind-small (r .kind), kind-small (s .kind))

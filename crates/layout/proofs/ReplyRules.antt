@@ -16,7 +16,7 @@ use Rattle.replies.specs.Replies as replies
 use Rattle.replies.specs.Replies.{number, block, verdictNumber, verdictBlock, unequal, rule, verdict, reply, replyBlock}
 use Rattle.replies.specs.Given.{None, Follows, Exactly, atMost, ascending}
 use Rattle.replies.proofs.Given.{follows-done, follows-next, follows-here, none-verdict, verdict-none, append-kept, append-refused, exactly}
-use Rattle.layout.specs.declared.Layout.{Layout}
+use Rattle.layout.specs.declared.Fields.{Fields}
 use Rattle.layout.specs.declared.Plan.{Plan}
 use Rattle.layout.specs.declared.Reason.{Reason}
 use Rattle.layout.specs.declared.Rule.{Rule}
@@ -27,7 +27,7 @@ use Rattle.layout.specs.declared.Refusal.{Refusal}
 use Rattle.layout.specs.declared.Refusal.the-variants as refusal
 use Rattle.layout.specs.declared.Acceptance.{Acceptance}
 use Rattle.layout.specs.declared.Acceptance.the-variants.{Accepted, Refused}
-use Rattle.layout.specs.Record.{layoutOf}
+use Rattle.layout.specs.Record.{fieldsIn, layoutOf}
 use Rattle.layout.specs.Plan.{planOf, covered}
 use Rattle.layout.specs.Acceptance.{test, levelRule, messageRule, lengthRule, roomRule, either, ofBlocks, findingOf, judged, acceptance, ruleRefusal, refusalOf, refusalReply}
 use Rattle.layout.specs.Answers as numbers
@@ -58,10 +58,10 @@ says-either {rs} {ss} Kept p q = record { same = append-kept rs ss (verdict-none
 says-either {rs} {ss} (Broken r) p q = record { same = append-refused rs ss (ruleRefusal (r .rule)) (p .same) }
 
 -- the rules of block 0 and of the later blocks
-says-blocks : (l : Layout) (a b : Bool) (r s : Reason) → r .rule ≡ s .rule
-    → Says (rule a (ruleRefusal (r .rule)) ∷ rule (ofLater l b) (ruleRefusal (r .rule)) ∷ []) (ofBlocks (l .nblocks) (test a r) (test b s))
+says-blocks : (f : Fields) (a b : Bool) (r s : Reason) → r .rule ≡ s .rule
+    → Says (rule a (ruleRefusal (r .rule)) ∷ rule (ofLater f b) (ruleRefusal (r .rule)) ∷ []) (ofBlocks (f .nblocks) (test a r) (test b s))
 unfolding ofBlocks ofLater either test found verdict
-says-blocks l a b r s e = go (eqb (l .nblocks) 0) a b
+says-blocks f a b r s e = go (eqb (f .nblocks) 0) a b
   where
     go : (z a b : Bool) → Says (rule a (ruleRefusal (r .rule)) ∷ rule (cond z false b) (ruleRefusal (r .rule)) ∷ []) (cond z (test a r) (either (test a r) (test b s)))
     go true true b = record { same = refl }
@@ -74,12 +74,12 @@ empty-test : (n : ℕ) → eqb n 0 ≡ ltb n 1
 empty-test zero = refl
 empty-test (suc n) = rw (eqb·suc-zero n, le-ltb (suc n) 1 (omega arith))
 
-says-layout : (l : Layout) → Says (fieldRules l (planOf l)) (findingOf l)
+says-fields : (f : Fields) (q : Plan) → Says (fieldRules f q) (findingOf f q)
 unfolding fieldRules findingOf levelRule messageRule lengthRule roomRule tooLong ruleRefusal
-says-layout l = rw (empty-test (planOf l .first .message), empty-test (planOf l .later .message))
-    (says-either _ (says-blocks l (ltb 20 (l .first .ecc)) (ltb 20 (l .later .ecc)) _ _ refl)
-    (says-either _ (says-blocks l (ltb (planOf l .first .message) 1) (ltb (planOf l .later .message) 1) _ _ refl)
-    (says-either _ (says-blocks l (tooLong (planOf l .first)) (tooLong (planOf l .later)) _ _ refl)
+says-fields f q = rw (empty-test (q .first .message), empty-test (q .later .message))
+    (says-either _ (says-blocks f (ltb 20 (f .first .ecc)) (ltb 20 (f .later .ecc)) _ _ refl)
+    (says-either _ (says-blocks f (ltb (q .first .message) 1) (ltb (q .later .message) 1) _ _ refl)
+    (says-either _ (says-blocks f (tooLong (q .first)) (tooLong (q .later)) _ _ refl)
     (says-test _ _))))
 
 -- ---- the answer to a record
@@ -101,9 +101,9 @@ pub data Accepting (rec : List ℕ) : Acceptance → Type 0 where
   accepts : None (layoutRules rec) → Accepting rec (Accepted (layoutOf rec))
   refuses : (r : Refusal) → verdict (layoutRules rec) ≡ verdict.Refused (refusalOf r) → Accepting rec (Refused r)
 
-record-right : (rec : List ℕ) → eqb (length rec) 8 ≡ true → verdict (layoutRules rec) ≡ found (findingOf (layoutOf rec))
+record-right : (rec : List ℕ) → eqb (length rec) 8 ≡ true → verdict (layoutRules rec) ≡ found (findingOf (fieldsIn rec) (planOf (layoutOf rec)))
 unfolding layoutRules unequal verdict
-record-right rec e = rw e (says-layout (layoutOf rec) .same)
+record-right rec e = rw e (says-fields (fieldsIn rec) (planOf (layoutOf rec)) .same)
 
 record-wrong : (rec : List ℕ) → eqb (length rec) 8 ≡ false → verdict (layoutRules rec) ≡ verdict.Refused row.BufferLength
 unfolding layoutRules unequal verdict
@@ -111,9 +111,9 @@ record-wrong rec e = rw e
 
 pub accepting : (rec : List ℕ) → Accepting rec (acceptance rec)
 unfolding acceptance judged found refusalOf
-accepting rec = go (eqb (length rec) 8) refl (findingOf (layoutOf rec)) refl
+accepting rec = go (eqb (length rec) 8) refl (findingOf (fieldsIn rec) (planOf (layoutOf rec))) refl
   where
-    go : (b : Bool) → eqb (length rec) 8 ≡ b → (f : Finding) → findingOf (layoutOf rec) ≡ f
+    go : (b : Bool) → eqb (length rec) 8 ≡ b → (f : Finding) → findingOf (fieldsIn rec) (planOf (layoutOf rec)) ≡ f
         → Accepting rec (cond b (judged (layoutOf rec) f) (Refused refusal.RecordLength))
     go true e Kept g = accepts (verdict-none _ (record-right rec e ∙ ap found g))
     go true e (Broken r) g = refuses (refusal.Rule r) (record-right rec e ∙ ap found g)

@@ -4,7 +4,7 @@
 -- levelRule, messageRule, lengthRule, roomRule    what the rules of the replies 1, 2, 3 and 4 find
 -- either f g              the finding f, or g where f found nothing
 -- ofBlocks n f g          the finding f about block 0, then g about the n later blocks
--- findingOf l             the first broken rule of a layout
+-- findingOf f q           the first broken rule of a layout of the fields f and the plan q
 -- judged l f              the answer to a layout by the finding f
 -- acceptance record       the answer to a layout record
 -- ruleRefusal, refusalOf  what a broken rule and a refusal are in document 01's table (replies/Replies)
@@ -19,6 +19,7 @@ use Rattle.replies.specs.declared.Refusal as table
 use Rattle.replies.specs.declared.Refusal.the-variants as row
 use Rattle.replies.specs.Replies.{number}
 use Rattle.layout.specs.declared.BlockFields.{BlockFields}
+use Rattle.layout.specs.declared.Fields.{Fields}
 use Rattle.layout.specs.declared.Layout.{Layout}
 use Rattle.layout.specs.declared.Shape.{Shape}
 use Rattle.layout.specs.declared.Plan.{Plan}
@@ -33,8 +34,8 @@ use Rattle.layout.specs.declared.Refusal.{Refusal}
 use Rattle.layout.specs.declared.Refusal.the-variants as refusal
 use Rattle.layout.specs.declared.Acceptance.{Acceptance}
 use Rattle.layout.specs.declared.Acceptance.the-variants.{Accepted, Refused}
-use Rattle.layout.specs.Record.{layoutOf}
-use Rattle.layout.specs.Plan.{planOf, coveredOf, used}
+use Rattle.layout.specs.Record.{fieldsIn, layoutOf}
+use Rattle.layout.specs.Plan.{planOf, used}
 
 -- A rule that is broken gives its reason.
 unfoldable pub test : Bool → Reason → Finding
@@ -51,8 +52,8 @@ messageRule kind s = test (ltb (s .message) 1) (record { rule = Message; kind = 
 -- 3: a block with t > 0 longer than 2^m - 1 bits
 unfoldable pub lengthRule : Kind → Shape → Finding
 lengthRule kind s =
-    test (cond (eqb (s .level) 0) false (ltb (longest (s .field)) (coveredOf s)))
-    (record { rule = Length; kind = kind; found = coveredOf s; limit = longest (s .field) })
+    test (cond (eqb (s .level) 0) false (ltb (longest (s .field)) (s .covered)))
+    (record { rule = Length; kind = kind; found = s .covered; limit = longest (s .field) })
 
 -- 4: the blocks need more than 8 times PAGE_SIZE bits
 unfoldable pub roomRule : Plan → Finding
@@ -68,12 +69,12 @@ unfoldable pub ofBlocks : ℕ → Finding → Finding → Finding
 ofBlocks n f g = cond (eqb n 0) f (either f g)
 
 -- The smallest number wins; of two kinds of block that break one rule, block 0 is named.
-unfoldable pub findingOf : Layout → Finding
-findingOf l =
-    either (ofBlocks (l .nblocks) (levelRule First (l .first)) (levelRule Later (l .later)))
-    (either (ofBlocks (l .nblocks) (messageRule First (planOf l .first)) (messageRule Later (planOf l .later)))
-    (either (ofBlocks (l .nblocks) (lengthRule First (planOf l .first)) (lengthRule Later (planOf l .later)))
-    (roomRule (planOf l))))
+unfoldable pub findingOf : Fields → Plan → Finding
+findingOf f q =
+    either (ofBlocks (f .nblocks) (levelRule First (f .first)) (levelRule Later (f .later)))
+    (either (ofBlocks (f .nblocks) (messageRule First (q .first)) (messageRule Later (q .later)))
+    (either (ofBlocks (f .nblocks) (lengthRule First (q .first)) (lengthRule Later (q .later)))
+    (roomRule q)))
 
 -- A layout that breaks no rule is accepted.
 unfoldable pub judged : Layout → Finding → Acceptance
@@ -82,7 +83,7 @@ judged l (Broken r) = Refused (refusal.Rule r)
 
 -- A record of another length than eight is refused before anything is looked at.
 unfoldable pub acceptance : List ℕ → Acceptance
-acceptance rec = cond (eqb (length rec) 8) (judged (layoutOf rec) (findingOf (layoutOf rec))) (Refused refusal.RecordLength)
+acceptance rec = cond (eqb (length rec) 8) (judged (layoutOf rec) (findingOf (fieldsIn rec) (planOf (layoutOf rec)))) (Refused refusal.RecordLength)
 
 -- The replies 1 to 4 of document 01's table.
 unfoldable pub ruleRefusal : Rule → table.Refusal

@@ -2,8 +2,9 @@
 --
 -- fieldOf bit             the field that a GF bit chooses
 -- blockFields high low    level field, GF and data size, from the low half of a word, whose bytes are `high` and `low`
--- layoutAt b0 .. b7       the fields of eight bytes
--- layoutOf record         the fields of a record of eight bytes
+-- fieldsAt b0 .. b7       the fields of eight bytes
+-- fieldsIn record         the fields of a record of eight bytes
+-- layoutOf record         the layout of a record of eight bytes
 use Prim.Native.Nat.{ℕ, _+_, _*_, _/_, _%_}
 use mathlib.Core.List.{List}
 use mathlib.Core.Bool.{cond}
@@ -12,7 +13,9 @@ use lib.Dec.{eqb}
 use Rattle.field.specs.declared.Field.{Field}
 use Rattle.field.specs.declared.Field.the-variants.{Thirteen, Fourteen}
 use Rattle.layout.specs.declared.BlockFields.{BlockFields}
+use Rattle.layout.specs.declared.Fields.{Fields}
 use Rattle.layout.specs.declared.Layout.{Layout}
+use Rattle.layout.specs.Plan.{layoutFor}
 
 -- GF: 0 is m = 13, 1 is m = 14
 unfoldable pub fieldOf : ℕ → Field
@@ -27,8 +30,8 @@ blockFields high low = record {
 }
 
 -- bytes 0 to 3 are word 0, bytes 4 to 7 are word 1
-unfoldable pub layoutAt : ℕ → ℕ → ℕ → ℕ → ℕ → ℕ → ℕ → ℕ → Layout
-layoutAt b0 b1 b2 b3 b4 b5 b6 b7 = record {
+unfoldable pub fieldsAt : ℕ → ℕ → ℕ → ℕ → ℕ → ℕ → ℕ → ℕ → Fields
+fieldsAt b0 b1 b2 b3 b4 b5 b6 b7 = record {
   nblocks = b0;
   metadata = b1;
   first = blockFields b2 b3;
@@ -36,7 +39,10 @@ layoutAt b0 b1 b2 b3 b4 b5 b6 b7 = record {
   later = blockFields b6 b7;
 }
 
-unfoldable pub layoutOf : List ℕ → Layout
-layoutOf rec =
-    layoutAt (getD rec 0 0) (getD rec 1 0) (getD rec 2 0) (getD rec 3 0)
+unfoldable pub fieldsIn : List ℕ → Fields
+fieldsIn rec =
+    fieldsAt (getD rec 0 0) (getD rec 1 0) (getD rec 2 0) (getD rec 3 0)
     (getD rec 4 0) (getD rec 5 0) (getD rec 6 0) (getD rec 7 0)
+
+unfoldable pub layoutOf : List ℕ → Layout
+layoutOf rec = layoutFor (fieldsIn rec)

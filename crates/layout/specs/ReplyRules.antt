@@ -2,7 +2,7 @@
 -- "Layout words" and "Bits"). The first that applies is given (replies/Given).
 --
 -- tooLong s               a block with t > 0 longer than 2^m - 1 bits
--- ofLater l broken        a later block breaks a rule: only where there is one
+-- ofLater f broken        a later block breaks a rule: only where there is one
 -- layoutRules record      6 for the record's length, then 1, 2, 3 and 4, each about block 0 and about the later blocks
 -- bitRules record p       the same, then 7 for a position
 -- positionRules record b e    the same, then 7 for a block and for an exponent
@@ -15,32 +15,32 @@ use Rattle.field.specs.Field.{longest}
 use Rattle.replies.specs.declared.Refusal.the-variants.{LevelTooHigh, EmptyMessage, BlockTooLong, PageTooSmall, BufferLength, OutOfRange}
 use Rattle.replies.specs.Replies as replies
 use Rattle.replies.specs.Replies.{unequal, rule}
-use Rattle.layout.specs.declared.Layout.{Layout}
+use Rattle.layout.specs.declared.Fields.{Fields}
 use Rattle.layout.specs.declared.Shape.{Shape}
 use Rattle.layout.specs.declared.Plan.{Plan}
-use Rattle.layout.specs.Record.{layoutOf}
-use Rattle.layout.specs.Plan.{planOf, coveredOf, covered, used}
+use Rattle.layout.specs.Record.{fieldsIn, layoutOf}
+use Rattle.layout.specs.Plan.{planOf, covered, used}
 
 unfoldable pub tooLong : Shape → Bool
-tooLong s = cond (eqb (s .level) 0) false (ltb (longest (s .field)) (coveredOf s))
+tooLong s = cond (eqb (s .level) 0) false (ltb (longest (s .field)) (s .covered))
 
 -- Where NBLOCKS is 0 the fields of later blocks are not examined.
-unfoldable pub ofLater : Layout → Bool → Bool
-ofLater l broken = cond (eqb (l .nblocks) 0) false broken
+unfoldable pub ofLater : Fields → Bool → Bool
+ofLater f broken = cond (eqb (f .nblocks) 0) false broken
 
-unfoldable pub fieldRules : Layout → Plan → List replies.Rule
-fieldRules l q =
-    rule (ltb 20 (l .first .ecc)) LevelTooHigh
-    ∷ rule (ofLater l (ltb 20 (l .later .ecc))) LevelTooHigh
+unfoldable pub fieldRules : Fields → Plan → List replies.Rule
+fieldRules f q =
+    rule (ltb 20 (f .first .ecc)) LevelTooHigh
+    ∷ rule (ofLater f (ltb 20 (f .later .ecc))) LevelTooHigh
     ∷ rule (eqb (q .first .message) 0) EmptyMessage
-    ∷ rule (ofLater l (eqb (q .later .message) 0)) EmptyMessage
+    ∷ rule (ofLater f (eqb (q .later .message) 0)) EmptyMessage
     ∷ rule (tooLong (q .first)) BlockTooLong
-    ∷ rule (ofLater l (tooLong (q .later))) BlockTooLong
+    ∷ rule (ofLater f (tooLong (q .later))) BlockTooLong
     ∷ rule (ltb (8 * q .size) (used q)) PageTooSmall
     ∷ []
 
 unfoldable pub layoutRules : List ℕ → List replies.Rule
-layoutRules rec = rule (unequal (length rec) 8) BufferLength ∷ fieldRules (layoutOf rec) (planOf (layoutOf rec))
+layoutRules rec = rule (unequal (length rec) 8) BufferLength ∷ fieldRules (fieldsIn rec) (planOf (layoutOf rec))
 
 unfoldable pub bitRules : List ℕ → ℕ → List replies.Rule
 bitRules rec p = layoutRules rec ++ (rule (leb (8 * planOf (layoutOf rec) .size) p) OutOfRange ∷ [])

@@ -1,13 +1,11 @@
 // Document 01's reply of each answer.
 use crate::Acceptance;
-use crate::BitAnswer;
-use crate::PositionAnswer;
 use crate::Refusal;
 use crate::Rule;
 use replies::refusal_number;
 ghost use mathlib.Core.Path.{_≡_};
-ghost use Rattle.layout.specs.Acceptance.{ruleRefusal, refusalOf, ruleNumber, refusalReply};
-ghost use Rattle.layout.specs.Answers.{acceptanceNumbers, bitNumbers, positionNumbers};
+ghost use Rattle.layout.specs.Acceptance.{ruleRefusal, refusalOf, refusalReply};
+ghost use Rattle.layout.specs.Answers.{acceptanceNumbers};
 
 // The case of document 01's table that a broken rule is.
 fn rule_refusal(rule: Rule) -> replies::Refusal
@@ -35,13 +33,6 @@ pub fn refusal_of(refusal: Refusal) -> replies::Refusal
     }
 }
 
-// The number of a rule's reply.
-pub fn rule_number(rule: Rule) -> u8
-    ensures { λ r. ⌜ r ≡ ruleNumber rule ⌝ }
-{
-    refusal_number(rule_refusal(rule))
-}
-
 // The reply of a refusal.
 pub fn refusal_reply(refusal: Refusal) -> u8
     ensures { λ r. ⌜ r ≡ refusalReply refusal ⌝ }
@@ -56,29 +47,5 @@ pub fn acceptance_reply(answer: Acceptance) -> u8
     match answer {
         Acceptance::Accepted(_) => 0,
         Acceptance::Refused(refusal) => refusal_reply(refusal),
-    }
-}
-
-// The reply of an answer to a page bit.
-pub fn bit_reply(answer: BitAnswer) -> u8
-    ensures { λ r. ⌜ r ≡ bitNumbers answer .reply ⌝ }
-{
-    match answer {
-        BitAnswer::InBlock {
-            block: _,
-            exponent: _,
-        } => 0,
-        BitAnswer::Tail => 0,
-        BitAnswer::Refused(refusal) => refusal_reply(refusal),
-    }
-}
-
-// The reply of an answer to a code bit.
-pub fn position_reply(answer: PositionAnswer) -> u8
-    ensures { λ r. ⌜ r ≡ positionNumbers answer .reply ⌝ }
-{
-    match answer {
-        PositionAnswer::Position(_) => 0,
-        PositionAnswer::Refused(refusal) => refusal_reply(refusal),
     }
 }

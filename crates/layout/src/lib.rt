@@ -1,37 +1,32 @@
-// Layout words: what a page looks like, and whether it can look so (document 01, "Layout words", "Replies", "Bits").
+// Layout words: what a page looks like, and whether it can look so (document 01, "Layout words" and "Replies").
 //
 //   check_layout     is this layout acceptable? The layout, or the reason why not
-//   locate_bit       where does a page bit belong? Block and exponent, or the tail
-//   bit_position     where does a code bit lie? Its position in the page
+//   plan_of          the plan of a page under an accepted layout
+//   fields_of        the fields of a record of eight bytes, accepted or not
 //
-// Each takes the layout record as bytes of any length and asks nothing of its caller. The steps:
-// 1. fields.rt takes the eight bytes apart into the fields of document 01 (`Layout`).
-// 2. sums.rt works the sums out once: number of blocks, shape of block 0 and of a later block, lengths (`Plan`). Code and
-//    definitions above this crate know a plan and no layout words; block b starts where block b - 1 ends, at any bit.
+// check_layout takes the layout record as bytes of any length and asks nothing of its caller. The steps:
+// 1. words.rt takes the eight bytes apart into the fields of document 01 (`Fields`).
+// 2. sums.rt works the sums out (`Plan`): number of blocks, data length, used bits, lengths of block 0 and of a later block. They
+//    are kept (`Layout`), and nothing adds them up again. Code and definitions above this crate know a plan and no layout words;
+//    block b starts where block b - 1 ends, at any bit.
 // 3. rules.rt looks for the first rule that the layout breaks (`Finding`), block 0 before the later blocks.
-// 4. places.rt finds the block of a position by one division; positions and exponents of a block run against each other.
-// 5. answers.rt gives the case of document 01's table that a refusal is, and the number of each answer.
+// 4. answers.rt gives the case of document 01's table that a refusal is, and its number.
 mod answers;
-mod fields;
-mod places;
 mod rules;
 mod sums;
+mod words;
 
 pub use answers::acceptance_reply;
-pub use answers::bit_reply;
-pub use answers::position_reply;
 pub use answers::refusal_of;
 pub use answers::refusal_reply;
-pub use answers::rule_number;
 use field::Field;
 pub use sums::block_covered;
 pub use sums::block_shape;
 pub use sums::block_start;
-pub use sums::covered;
 pub use sums::plan_of;
+pub use words::fields_of;
 ghost use mathlib.Core.Path.{_≡_};
 ghost use Rattle.layout.specs.Acceptance.{acceptance};
-ghost use Rattle.layout.specs.Bits.{bitAnswer, positionAnswer};
 
 // What a layout word stores of one kind of block: the level field, of which t is twice, the field choice, and the data in
 // units of 4 bytes. Document 01 calls them ECC0, GF and DATA0_SIZE in word 0, ECCN, GF and DATAN_SIZE in word 1.
@@ -42,7 +37,7 @@ pub struct BlockFields {
 }
 
 // The fields of the layout words: NBLOCKS, META_SIZE, those of block 0, PAGE_SIZE, those of the later blocks.
-pub struct Layout {
+pub struct Fields {
     pub nblocks: u8,
     pub metadata: u8,
     pub first: BlockFields,
@@ -53,20 +48,28 @@ pub struct Layout {
 // What a block is made of: message bits, and parity bits by field and level.
 pub struct Shape {
     pub message: u32,
+    // Message and parity bits together.
+    pub covered: u32,
     pub field: Field,
     // t: how many flips the block's code corrects.
     pub level: u16,
 }
 
-// What the layout words come to: how many blocks, how many bytes of page, metadata and data, and what a block is made of.
-// Block 0 has the shape `first`, every other block the shape `later`.
+// What the layout words come to: how many blocks, how many bytes of page, metadata and data, the bits of all blocks together, and
+// what a block is made of. Block 0 has the shape `first`, every other block the shape `later`.
 pub struct Plan {
     pub blocks: u16,
     pub size: u16,
-    pub metadata: u8,
+    pub metadata: u32,
     pub data: u32,
+    pub used: u32,
     pub first: Shape,
     pub later: Shape,
+}
+
+// A layout: the plan of a page with its sums. No other crate can set it, and one function makes it (`sums::layout_for`).
+pub struct Layout {
+    plan: Plan,
 }
 
 // The rules that a layout must keep, by their replies: 1, 2, 3 and 4.
@@ -131,29 +134,10 @@ pub fn check_layout(words: &[u8]) -> Acceptance
     if words.len() != 8 {
         return Acceptance::Refused(Refusal::RecordLength);
     }
-    let layout = fields::layout_of(words);
-    match rules::finding_of(layout) {
+    let fields = words::fields_in(words);
+    let layout = sums::layout_for(fields);
+    match rules::finding_of(fields, plan_of(layout)) {
         Finding::Kept => Acceptance::Accepted(layout),
         Finding::Broken(reason) => Acceptance::Refused(Refusal::Rule(reason)),
-    }
-}
-
-// Where does the page bit at `position` belong?
-pub fn locate_bit(words: &[u8], position: u64) -> BitAnswer
-    ensures { λ r. ⌜ r ≡ bitAnswer (now (words .entry)) position ⌝ }
-{
-    match check_layout(words) {
-        Acceptance::Accepted(layout) => places::bit_in(plan_of(layout), position),
-        Acceptance::Refused(refusal) => BitAnswer::Refused(refusal),
-    }
-}
-
-// Where does the coefficient of x^exponent of a block lie?
-pub fn bit_position(words: &[u8], block: u64, exponent: u64) -> PositionAnswer
-    ensures { λ r. ⌜ r ≡ positionAnswer (now (words .entry)) block exponent ⌝ }
-{
-    match check_layout(words) {
-        Acceptance::Accepted(layout) => places::position_in(plan_of(layout), block, exponent),
-        Acceptance::Refused(refusal) => PositionAnswer::Refused(refusal),
     }
 }

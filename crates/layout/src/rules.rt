@@ -1,19 +1,17 @@
 // The rules that a layout must keep (document 01, replies 1 to 4), and the first one that it breaks.
 use crate::BlockFields;
+use crate::Fields;
 use crate::Finding;
 use crate::Kind;
-use crate::Layout;
 use crate::Plan;
 use crate::Reason;
 use crate::Rule;
 use crate::Shape;
-use crate::sums::block_start;
-use crate::sums::covered;
-use crate::sums::plan_of;
 ghost use mathlib.Core.Path.{_≡_};
-ghost use Rattle.layout.specs.Acceptance.{test, either, ofBlocks, levelRule, messageRule, lengthRule, roomRule, findingOf};
+ghost use Rattle.layout.specs.Acceptance.{test, ofBlocks, levelRule, messageRule, lengthRule, roomRule, findingOf};
+ghost use Rattle.layout.specs.declared.Kind.the-variants.{First, Later};
 
-// Internal: the finding of one rule.
+// The finding of one rule.
 pub fn test(broken: bool, reason: Reason) -> Finding
     ensures { λ r. ⌜ r ≡ test broken reason ⌝ }
 {
@@ -23,27 +21,7 @@ pub fn test(broken: bool, reason: Reason) -> Finding
     Finding::Kept
 }
 
-// Internal: the first of two findings decides where it is a broken rule.
-pub fn either(first: Finding, second: Finding) -> Finding
-    ensures { λ r. ⌜ r ≡ either first second ⌝ }
-{
-    match first {
-        Finding::Kept => second,
-        Finding::Broken(reason) => Finding::Broken(reason),
-    }
-}
-
-// Internal: block 0 is looked at before the later blocks, and these only where there are some.
-pub fn of_blocks(nblocks: u8, first: Finding, later: Finding) -> Finding
-    ensures { λ r. ⌜ r ≡ ofBlocks nblocks first later ⌝ }
-{
-    if nblocks == 0 {
-        return first;
-    }
-    either(first, later)
-}
-
-// Internal: reply 1, a level field above 0x14.
+// Reply 1, a level field above 0x14.
 pub fn level_rule(kind: Kind, fields: BlockFields) -> Finding
     ensures { λ r. ⌜ r ≡ levelRule kind fields ⌝ }
 {
@@ -59,7 +37,7 @@ pub fn level_rule(kind: Kind, fields: BlockFields) -> Finding
     )
 }
 
-// Internal: reply 2, an empty message.
+// Reply 2, an empty message.
 pub fn message_rule(kind: Kind, shape: Shape) -> Finding
     ensures { λ r. ⌜ r ≡ messageRule kind shape ⌝ }
 {
@@ -75,7 +53,7 @@ pub fn message_rule(kind: Kind, shape: Shape) -> Finding
     )
 }
 
-// Internal: reply 3, a block with t > 0 longer than 2^m - 1 bits.
+// Reply 3, a block with t > 0 longer than 2^m - 1 bits.
 pub fn length_rule(kind: Kind, shape: Shape) -> Finding
     ensures { λ r. ⌜ r ≡ lengthRule kind shape ⌝ }
 {
@@ -83,7 +61,7 @@ pub fn length_rule(kind: Kind, shape: Shape) -> Finding
         return Finding::Kept;
     }
     let field = shape.field;
-    let found = covered(shape) as u64;
+    let found = shape.covered as u64;
     let limit = field.longest() as u64;
     test(
         limit < found,
@@ -96,11 +74,11 @@ pub fn length_rule(kind: Kind, shape: Shape) -> Finding
     )
 }
 
-// Internal: reply 4, blocks that need more bits than the page has.
+// Reply 4, blocks that need more bits than the page has.
 pub fn room_rule(plan: Plan) -> Finding
     ensures { λ r. ⌜ r ≡ roomRule plan ⌝ }
 {
-    let found = block_start(plan, plan.blocks) as u64;
+    let found = plan.used as u64;
     let limit = 8 * plan.size as u64;
     test(
         limit < found,
@@ -113,30 +91,68 @@ pub fn room_rule(plan: Plan) -> Finding
     )
 }
 
-// Internal: the first broken rule of a layout.
-pub fn finding_of(layout: Layout) -> Finding
-    ensures { λ r. ⌜ r ≡ findingOf layout ⌝ }
+// Reply 1, of block 0 and then of the later blocks, where there are some.
+fn levels(fields: Fields) -> Finding
+    ensures { λ r. ⌜ r ≡ ofBlocks (fields .nblocks) (levelRule First (fields .first)) (levelRule Later (fields .later)) ⌝ }
 {
-    let n = layout.nblocks;
-    let fields = layout.first;
-    let fields_later = layout.later;
-    let plan = plan_of(layout);
-    let shape = plan.first;
-    let shape_later = plan.later;
-    let levels = of_blocks(
-        n,
-        level_rule(Kind::First, fields),
-        level_rule(Kind::Later, fields_later),
-    );
-    let messages = of_blocks(
-        n,
-        message_rule(Kind::First, shape),
-        message_rule(Kind::Later, shape_later),
-    );
-    let lengths = of_blocks(
-        n,
-        length_rule(Kind::First, shape),
-        length_rule(Kind::Later, shape_later),
-    );
-    either(levels, either(messages, either(lengths, room_rule(plan))))
+    let fields_first = fields.first;
+    let fields_later = fields.later;
+    let first = level_rule(Kind::First, fields_first);
+    if let Finding::Broken(reason) = first {
+        return Finding::Broken(reason);
+    }
+    if fields.nblocks == 0 {
+        return Finding::Kept;
+    }
+    level_rule(Kind::Later, fields_later)
+}
+
+// Reply 2, the same way.
+fn messages(nblocks: u8, first: Shape, later: Shape) -> Finding
+    ensures { λ r. ⌜ r ≡ ofBlocks nblocks (messageRule First first) (messageRule Later later) ⌝ }
+{
+    let found = message_rule(Kind::First, first);
+    if let Finding::Broken(reason) = found {
+        return Finding::Broken(reason);
+    }
+    if nblocks == 0 {
+        return Finding::Kept;
+    }
+    message_rule(Kind::Later, later)
+}
+
+// Reply 3, the same way.
+fn lengths(nblocks: u8, first: Shape, later: Shape) -> Finding
+    ensures { λ r. ⌜ r ≡ ofBlocks nblocks (lengthRule First first) (lengthRule Later later) ⌝ }
+{
+    let found = length_rule(Kind::First, first);
+    if let Finding::Broken(reason) = found {
+        return Finding::Broken(reason);
+    }
+    if nblocks == 0 {
+        return Finding::Kept;
+    }
+    length_rule(Kind::Later, later)
+}
+
+// The first broken rule of a layout, by its fields and its plan.
+pub fn finding_of(fields: Fields, plan: Plan) -> Finding
+    ensures { λ r. ⌜ r ≡ findingOf fields plan ⌝ }
+{
+    let nblocks = fields.nblocks;
+    let first = plan.first;
+    let later = plan.later;
+    let level = levels(fields);
+    if let Finding::Broken(reason) = level {
+        return Finding::Broken(reason);
+    }
+    let message = messages(nblocks, first, later);
+    if let Finding::Broken(reason) = message {
+        return Finding::Broken(reason);
+    }
+    let length = lengths(nblocks, first, later);
+    if let Finding::Broken(reason) = length {
+        return Finding::Broken(reason);
+    }
+    room_rule(plan)
 }

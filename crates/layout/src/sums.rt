@@ -1,74 +1,90 @@
-// The plan of a page: what the layout words come to. Every sum over layout words is worked out here.
+// The plan of a page: what the layout words come to. Every sum over layout words is worked out here, once, and kept.
 use crate::BlockFields;
+use crate::Fields;
 use crate::Layout;
 use crate::Plan;
 use crate::Shape;
 use field::Field;
 ghost use mathlib.Core.Path.{_≡_};
 ghost use Prim.Native.Nat.{_+_, _*_, _≤_, _<_};
-ghost use Rattle.layout.specs.Plan.{shapeOf, laterShape, dataBytes, planOf, coveredOf, shape, covered, start};
+ghost use Rattle.layout.specs.Plan.{shapeOf, laterShape, dataBytes, layoutFor, planOf, shape, covered, start};
 
-// Internal: the shape of a block with so many bytes of metadata.
-pub fn shape_of(metadata: u8, fields: BlockFields) -> Shape
-    ensures { λ r. ⌜ r ≡ shapeOf metadata fields ⌝ }
+// The shape of a block with so many bytes of metadata: its parity is m times t bits.
+fn shape_of(metadata: u8, fields: BlockFields) -> Shape
+    ensures eq { λ r. ⌜ r ≡ shapeOf metadata fields ⌝ }
+    ensures small { λ r. ⌜ r .covered < 16777216 ⌝ }
 {
     let field = fields.gf;
+    let message = 8 * (metadata as u32 + 4 * fields.units as u32);
+    let level = 2 * fields.ecc as u16;
+    let parity = field.degree() * level as u32;
     Shape {
-        message: 8 * (metadata as u32 + 4 * fields.units as u32),
+        message: message,
+        covered: message + parity,
         field: field,
-        level: 2 * fields.ecc as u16,
+        level: level,
     }
 }
 
-// Internal: the shape of a later block; of no bits where there is none.
-pub fn later_shape(layout: Layout) -> Shape
-    ensures { λ r. ⌜ r ≡ laterShape layout ⌝ }
+// The shape of a later block; of no bits where there is none.
+fn later_shape(fields: Fields) -> Shape
+    ensures eq { λ r. ⌜ r ≡ laterShape fields ⌝ }
+    ensures small { λ r. ⌜ r .covered < 16777216 ⌝ }
 {
-    if layout.nblocks == 0 {
+    if fields.nblocks == 0 {
         return Shape {
             message: 0,
+            covered: 0,
             field: Field::Thirteen,
             level: 0,
         };
     }
-    let later = layout.later;
+    let later = fields.later;
     shape_of(0, later)
 }
 
-// Internal: bytes of data in a page.
-pub fn data_bytes(layout: Layout) -> u32
-    ensures { λ r. ⌜ r ≡ dataBytes layout ⌝ }
+// Bytes of data in a page.
+fn data_bytes(fields: Fields) -> u32
+    ensures { λ r. ⌜ r ≡ dataBytes fields ⌝ }
 {
-    let units = layout.first.units as u32;
-    let more = layout.later.units as u32;
-    4 * (units + layout.nblocks as u32 * more)
+    let units = fields.first.units as u32;
+    let more = fields.later.units as u32;
+    4 * (units + fields.nblocks as u32 * more)
 }
 
-// Internal: the plan of a layout, accepted or not.
+// The layout of the fields, accepted or not. This is the one place where a layout is made.
+pub fn layout_for(fields: Fields) -> Layout
+    ensures { λ r. ⌜ r ≡ layoutFor fields ⌝ }
+{
+    let fields_first = fields.first;
+    let first = shape_of(fields.metadata, fields_first);
+    let later = later_shape(fields);
+    let data = data_bytes(fields);
+    let length_first = first.covered;
+    let length_later = later.covered;
+    let used = length_first + fields.nblocks as u32 * length_later;
+    let blocks = fields.nblocks as u16 + 1;
+    let metadata = fields.metadata as u32;
+    let plan = Plan {
+        blocks: blocks,
+        size: fields.page,
+        metadata: metadata,
+        data: data,
+        used: used,
+        first: first,
+        later: later,
+    };
+    Layout { plan: plan }
+}
+
+// The plan of a layout.
 pub fn plan_of(layout: Layout) -> Plan
     ensures { λ r. ⌜ r ≡ planOf layout ⌝ }
 {
-    let first = layout.first;
-    Plan {
-        blocks: layout.nblocks as u16 + 1,
-        size: layout.page,
-        metadata: layout.metadata,
-        data: data_bytes(layout),
-        first: shape_of(layout.metadata, first),
-        later: later_shape(layout),
-    }
+    layout.plan
 }
 
-// Internal: the covered bits of a block of this shape, message and parity.
-pub fn covered(shape: Shape) -> usize
-    ensures eq { λ r. ⌜ r ≡ coveredOf shape ⌝ }
-    ensures small { λ r. ⌜ r < 8589934592 ⌝ }
-{
-    let field = shape.field;
-    shape.message as usize + field.degree() as usize * shape.level as usize
-}
-
-// Internal: the shape of a block.
+// The shape of a block.
 pub fn block_shape(plan: Plan, block: u16) -> Shape
     ensures { λ r. ⌜ r ≡ shape plan block ⌝ }
 {
@@ -78,15 +94,16 @@ pub fn block_shape(plan: Plan, block: u16) -> Shape
     plan.later
 }
 
-// Internal: the covered bits of a block.
+// The covered bits of a block.
 pub fn block_covered(plan: Plan, block: u16) -> usize
     ensures eq { λ r. ⌜ r ≡ covered plan block ⌝ }
-    ensures small { λ r. ⌜ r < 8589934592 ⌝ }
+    ensures small { λ r. ⌜ r < 4294967296 ⌝ }
 {
-    covered(block_shape(plan, block))
+    let shape = block_shape(plan, block);
+    shape.covered as usize
 }
 
-// Internal: the stream position at which a block starts; that of the block after the last is the number of used bits.
+// The stream position at which a block starts; that of the block after the last is the number of used bits.
 pub fn block_start(plan: Plan, block: u16) -> usize
     ensures eq { λ r. ⌜ r ≡ start plan block ⌝ }
     ensures small { λ r. ⌜ r < 1125899906842624 ⌝ }
@@ -94,7 +111,7 @@ pub fn block_start(plan: Plan, block: u16) -> usize
     if block == 0 {
         return 0;
     }
-    let first = plan.first;
-    let later = plan.later;
-    covered(first) + (block as usize - 1) * covered(later)
+    let first = plan.first.covered as usize;
+    let later = plan.later.covered as usize;
+    first + (block as usize - 1) * later
 }

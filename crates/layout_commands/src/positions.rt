@@ -1,37 +1,74 @@
 // The command bits.
-use arguments::Words;
+use arguments::Options;
 use layout::BitAnswer;
+use layout::Plan;
 use layout::PositionAnswer;
+use plans::Planned;
 use text::Number;
 
-fn bit_in_block(block: u64, exponent: u64) {
-    say::reply(0);
-    say::fact(b"block ", block, b", ");
-    say::fact(b"exponent ", exponent, b"\n");
-}
-
-fn locate(record: &[u8], position: u64) {
-    match layout::locate_bit(record, position) {
-        BitAnswer::InBlock { block, exponent } => bit_in_block(block, exponent),
-        BitAnswer::Tail => say::text(b"reply 0: tail\n"),
-        BitAnswer::Refused(refusal) => plans::refused(
-            refusal,
-            b"the page has no bit at this position\n",
-        ),
+// Which page of a dump is asked about, where one is.
+fn page(out: &mut [u8; 32768], options: Options) {
+    if options.paged {
+        say::page_number(out, options.page);
     }
 }
 
-fn bit_at(position: u64) {
-    say::reply(0);
-    say::fact(b"bit ", position, b" of the page, ");
-    say::fact(b"byte ", position / 8, b" ");
-    say::fact(b"bit ", 7 - position % 8, b"\n");
+fn bit_in_block(out: &mut [u8; 32768], options: Options, block: u64, exponent: u64) {
+    page(out, options);
+    say::reply(out, 0);
+    say::fact(out, b"block ", block, b", ");
+    say::fact(out, b"exponent ", exponent, b"\n");
 }
 
-fn position(record: &[u8], block: u64, exponent: u64) {
-    match layout::bit_position(record, block, exponent) {
-        PositionAnswer::Position(p) => bit_at(p),
+fn in_tail(out: &mut [u8; 32768], options: Options) {
+    page(out, options);
+    say::put(out, b"reply 0: tail\n");
+}
+
+fn locate(out: &mut [u8; 32768], options: Options, record: &[u8], position: u64) {
+    match page_bits::locate_bit(record, position) {
+        BitAnswer::InBlock { block, exponent } => bit_in_block(out, options, block, exponent),
+        BitAnswer::Tail => in_tail(out, options),
+        BitAnswer::Refused(refusal) => {
+            plans::refused(out, refusal, b"the page has no bit at this position\n")
+        }
+    }
+}
+
+// The byte of a dump that is byte b of a page.
+fn dump_byte(out: &mut [u8; 32768], options: Options, plan: Plan, b: u64) {
+    if options.paged {
+        say::fact(
+            out,
+            b", byte ",
+            text::plus(text::times(options.page, plan.size as u32), b),
+            b" of the dump",
+        );
+    }
+}
+
+fn bit_at(out: &mut [u8; 32768], options: Options, plan: Plan, position: u64) {
+    page(out, options);
+    say::reply(out, 0);
+    say::fact(out, b"bit ", position, b" of the page, ");
+    say::fact(out, b"byte ", position / 8, b" ");
+    say::fact(out, b"bit ", 7 - position % 8, b"");
+    dump_byte(out, options, plan, position / 8);
+    say::put(out, b"\n");
+}
+
+fn position(
+    out: &mut [u8; 32768],
+    options: Options,
+    plan: Plan,
+    record: &[u8],
+    block: u64,
+    exponent: u64,
+) {
+    match page_bits::bit_position(record, block, exponent) {
+        PositionAnswer::Position(p) => bit_at(out, options, plan, p),
         PositionAnswer::Refused(refusal) => plans::refused(
+            out,
             refusal,
             b"the page has no such block, or the block no such exponent\n",
         ),
@@ -39,48 +76,63 @@ fn position(record: &[u8], block: u64, exponent: u64) {
 }
 
 // nandpage bits WORD0 WORD1 POSITION
-fn bits_of_position(record: &[u8]) {
-    let Number::Is(p) = arguments::number(4, b"POSITION") else {
+fn bits_of_position(out: &mut [u8; 32768], options: Options, record: &[u8]) {
+    let Number::Is(p) = arguments::number(out, arguments::place(options.at, 2), b"POSITION") else {
         return;
     };
-    locate(record, p);
+    locate(out, options, record, p);
 }
 
 // nandpage bits WORD0 WORD1 BLOCK EXPONENT
-fn bits_of_exponent(record: &[u8]) {
-    let Number::Is(block) = arguments::number(4, b"BLOCK") else {
+fn bits_of_exponent(out: &mut [u8; 32768], options: Options, plan: Plan, record: &[u8]) {
+    let Number::Is(block) = arguments::number(out, arguments::place(options.at, 2), b"BLOCK") else {
         return;
     };
-    let Number::Is(exponent) = arguments::number(5, b"EXPONENT") else {
+    let Number::Is(exponent) = arguments::number(out, arguments::place(options.at, 3), b"EXPONENT")
+    else {
         return;
     };
-    position(record, block, exponent);
+    position(out, options, plan, record, block, exponent);
 }
 
-fn usage() {
+fn usage(out: &mut [u8; 32768]) {
     say::error(
-        b"usage: nandpage bits WORD0 WORD1 POSITION, or nandpage bits WORD0 WORD1 BLOCK EXPONENT",
+        out,
+        b"usage: nandpage bits [--page K] WORD0 WORD1 POSITION, or nandpage bits [--page K] WORD0 WORD1 BLOCK EXPONENT",
     );
 }
 
-// nandpage bits ..
-pub fn bits() {
-    let count = os::arg_count();
-    if count < 5 {
-        usage();
-        return;
-    }
-    if 6 < count {
-        usage();
-        return;
-    }
-    let Words::Are { first, second } = arguments::layout_words() else {
+fn bits_of(out: &mut [u8; 32768], options: Options) {
+    let Planned::Under {
+        first,
+        second,
+        plan,
+    } = plans::plan_of_words(out, options.at)
+    else {
         return;
     };
     let record = text::layout_record(first, second);
-    if count == 5 {
-        bits_of_position(&record);
+    if os::arg_count() == arguments::place(options.at, 3) {
+        bits_of_position(out, options, &record);
         return;
     }
-    bits_of_exponent(&record);
+    bits_of_exponent(out, options, plan, &record);
+}
+
+// nandpage bits ..
+pub fn bits(out: &mut [u8; 32768]) {
+    let options = arguments::find_options(out, arguments::PAGE);
+    if !options.good {
+        return;
+    }
+    let count = os::arg_count();
+    if count < arguments::place(options.at, 3) {
+        usage(out);
+        return;
+    }
+    if arguments::place(options.at, 4) < count {
+        usage(out);
+        return;
+    }
+    bits_of(out, options);
 }

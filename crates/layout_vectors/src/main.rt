@@ -6,6 +6,7 @@
 use layout::Acceptance;
 use layout::BitAnswer;
 use layout::BlockFields;
+use layout::Fields;
 use layout::Kind;
 use layout::Layout;
 use layout::PositionAnswer;
@@ -30,30 +31,38 @@ fn put_fields(line: &mut [u8], at: usize, fields: BlockFields) -> usize {
 
 fn put_sums(line: &mut [u8], at: usize, layout: Layout) -> usize {
     let plan = layout::plan_of(layout);
-    let first = plan.first;
-    let later = plan.later;
-    let first_at = vector_io::put_number(line, at, layout::covered(first) as u64);
-    let later_at = vector_io::put_number(line, first_at, layout::covered(later) as u64);
-    let used_at = vector_io::put_number(
-        line,
-        later_at,
-        layout::block_start(plan, plan.blocks) as u64,
-    );
+    let first_at = vector_io::put_number(line, at, plan.first.covered as u64);
+    let later_at = vector_io::put_number(line, first_at, plan.later.covered as u64);
+    let used_at = vector_io::put_number(line, later_at, plan.used as u64);
     vector_io::put_number(line, used_at, plan.data as u64)
 }
 
-fn put_stored(line: &mut [u8], at: usize, layout: Layout) -> usize {
-    let first = layout.first;
-    let later = layout.later;
-    let nblocks_at = vector_io::put_number(line, at, layout.nblocks as u64);
-    let metadata_at = vector_io::put_number(line, nblocks_at, layout.metadata as u64);
+fn put_stored(line: &mut [u8], at: usize, stored: Fields) -> usize {
+    let first = stored.first;
+    let later = stored.later;
+    let nblocks_at = vector_io::put_number(line, at, stored.nblocks as u64);
+    let metadata_at = vector_io::put_number(line, nblocks_at, stored.metadata as u64);
     let first_at = put_fields(line, metadata_at, first);
-    let page_at = vector_io::put_number(line, first_at, layout.page as u64);
+    let page_at = vector_io::put_number(line, first_at, stored.page as u64);
     put_fields(line, page_at, later)
 }
 
-fn put_accepted(line: &mut [u8], at: usize, layout: Layout) -> usize {
-    let stored_at = put_stored(line, at, layout);
+// The eight bytes of an accepted record.
+fn eight_bytes(words: &[u8]) -> [u8; 8] {
+    [
+        vector_io::byte(words, 0, 0),
+        vector_io::byte(words, 1, 0),
+        vector_io::byte(words, 2, 0),
+        vector_io::byte(words, 3, 0),
+        vector_io::byte(words, 4, 0),
+        vector_io::byte(words, 5, 0),
+        vector_io::byte(words, 6, 0),
+        vector_io::byte(words, 7, 0),
+    ]
+}
+
+fn put_accepted(line: &mut [u8], at: usize, words: &[u8], layout: Layout) -> usize {
+    let stored_at = put_stored(line, at, layout::fields_of(&eight_bytes(words)));
     put_sums(line, stored_at, layout)
 }
 
@@ -81,7 +90,7 @@ fn layout_line(words: &[u8], line: &mut [u8]) -> usize {
     let answer = layout::check_layout(words);
     let at = reply_line(line, layout::acceptance_reply(answer));
     match answer {
-        Acceptance::Accepted(l) => put_accepted(line, at, l),
+        Acceptance::Accepted(l) => put_accepted(line, at, words, l),
         Acceptance::Refused(refusal) => put_refused(line, at, refusal),
     }
 }
@@ -94,8 +103,8 @@ fn put_bit(line: &mut [u8], at: usize, block: u64, exponent: u64) -> usize {
 }
 
 fn bit_line(words: &[u8], position: u64, line: &mut [u8]) -> usize {
-    let answer = layout::locate_bit(words, position);
-    let at = reply_line(line, layout::bit_reply(answer));
+    let answer = page_bits::locate_bit(words, position);
+    let at = reply_line(line, page_bits::bit_reply(answer));
     match answer {
         BitAnswer::InBlock { block, exponent } => put_bit(line, at, block, exponent),
         BitAnswer::Tail => vector_io::put_number(line, at, 0),
@@ -104,8 +113,8 @@ fn bit_line(words: &[u8], position: u64, line: &mut [u8]) -> usize {
 }
 
 fn position_line(words: &[u8], block: u64, exponent: u64, line: &mut [u8]) -> usize {
-    let answer = layout::bit_position(words, block, exponent);
-    let at = reply_line(line, layout::position_reply(answer));
+    let answer = page_bits::bit_position(words, block, exponent);
+    let at = reply_line(line, page_bits::position_reply(answer));
     match answer {
         PositionAnswer::Position(position) => vector_io::put_number(line, at, position),
         PositionAnswer::Refused(_) => at,

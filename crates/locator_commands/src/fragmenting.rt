@@ -4,77 +4,88 @@ use replies::Refusal;
 use replies::refusal_number;
 use text::Number;
 
-fn hex_byte(b: u8) {
-    say::text(&text::hex_byte(b));
+fn hex_byte(out: &mut [u8; 32768], b: u8) {
+    say::put(out, &text::hex_byte(b));
 }
 
-fn fragment(x: u32) {
-    say::text(b" 0x");
-    hex_byte((x / 16777216) as u8);
-    hex_byte((x / 65536 % 256) as u8);
-    hex_byte((x / 256 % 256) as u8);
-    hex_byte((x % 256) as u8);
+fn fragment(out: &mut [u8; 32768], x: u32) {
+    say::put(out, b" 0x");
+    hex_byte(out, (x / 16777216) as u8);
+    hex_byte(out, (x / 65536 % 256) as u8);
+    hex_byte(out, (x / 256 % 256) as u8);
+    hex_byte(out, (x % 256) as u8);
 }
 
-fn exported(list: &[u32]) {
-    say::reply(0);
-    say::text(b"fragments");
+fn exported(out: &mut [u8; 32768], list: &[u32]) {
+    say::reply(out, 0);
+    say::put(out, b"fragments");
     let mut i = 0;
     while i < list.len() {
-        fragment(list[i]);
+        fragment(out, list[i]);
         i += 1;
     }
-    say::text(b"\n");
+    say::put(out, b"\n");
 }
 
-fn imported(remainder: &[u8]) {
-    say::reply(0);
-    say::text(b"remainder ");
+fn imported(out: &mut [u8; 32768], remainder: &[u8]) {
+    say::reply(out, 0);
+    say::put(out, b"remainder ");
     let mut i = 0;
     while i < remainder.len() {
-        hex_byte(remainder[i]);
+        hex_byte(out, remainder[i]);
         i += 1;
     }
-    say::text(b"\n");
+    say::put(out, b"\n");
 }
 
-fn refused(refusal: Refusal) {
-    say::reply(refusal_number(refusal));
+fn refused(out: &mut [u8; 32768], refusal: Refusal) {
+    say::reply(out, refusal_number(refusal));
     match refusal {
-        Refusal::LevelTooHigh => say::text(
+        Refusal::LevelTooHigh => say::put(
+            out,
             b"the locator has the level fields 2, 4 and 8, for t = 4, 8 and 16\n",
         ),
-        Refusal::BufferLength => say::text(
+        Refusal::BufferLength => say::put(
+            out,
             b"a remainder has 7, 13 or 26 bytes at these levels, and there are seven fragments\n",
         ),
-        _ => say::text(
+        _ => say::put(
+            out,
             b"there is a one above bit mt - 1; the start bit, bit 16 of fragment 6, is one of these\n",
         ),
     }
 }
 
-fn export_from(level: u64, remainder: &[u8]) {
+fn export_from(out: &mut [u8; 32768], level: u64, remainder: &[u8]) {
     let mut list = [0u32; 7];
     match fragments::export_fragments(level, remainder, &mut list) {
-        FragmentsAnswer::Done => exported(&list),
-        FragmentsAnswer::Refused(refusal) => refused(refusal),
+        FragmentsAnswer::Done => exported(out, &list),
+        FragmentsAnswer::Refused(refusal) => refused(out, refusal),
     }
 }
 
 // nandpage fragments export LEVEL REMAINDER
-fn export() {
-    if !arguments::are(5, b"usage: nandpage fragments export LEVEL REMAINDER") {
+fn export(out: &mut [u8; 32768], at: usize) {
+    if !arguments::are(
+        out,
+        at,
+        2,
+        b"usage: nandpage fragments export LEVEL REMAINDER",
+    ) {
         return;
     }
-    let Number::Is(level) = arguments::number(3, b"LEVEL") else {
+    let Number::Is(level) = arguments::number(out, at, b"LEVEL") else {
         return;
     };
     let mut given = [0u8; 258];
-    let length = os::arg(4, &mut given);
+    let length = os::arg(arguments::place(at, 1), &mut given);
+    if !arguments::whole(out, b"REMAINDER") {
+        return;
+    }
     let mut remainder = [0u8; 128];
     match text::parse_bytes(text::without_prefix(&given[..length]), &mut remainder) {
-        Number::Is(count) => export_from(level, text::front(&remainder, count as usize)),
-        Number::Bad => arguments::bad_remainder(),
+        Number::Is(count) => export_from(out, level, text::front(&remainder, count as usize)),
+        Number::Bad => arguments::bad_remainder(out),
     }
 }
 
@@ -87,62 +98,67 @@ fn bytes_for(level: u64) -> usize {
     }
 }
 
-fn import_into(level: u64, list: &[u32], remainder: &mut [u8]) {
+fn import_into(out: &mut [u8; 32768], level: u64, list: &[u32], remainder: &mut [u8]) {
     match fragments::import_fragments(level, list, remainder) {
-        FragmentsAnswer::Done => imported(remainder),
-        FragmentsAnswer::Refused(refusal) => refused(refusal),
+        FragmentsAnswer::Done => imported(out, remainder),
+        FragmentsAnswer::Refused(refusal) => refused(out, refusal),
     }
 }
 
-fn import_of(level: u64, end: usize) {
+// The list is as long as the words that are given, and 16 stand for all that are more.
+fn import_of(out: &mut [u8; 32768], level: u64, first: usize, end: usize) {
     let mut list = [0u32; 16];
-    if !arguments::word_list(4, end, b"FRAGMENT", arguments::WORD, &mut list) {
+    if !arguments::word_list(out, first, end, b"FRAGMENT", arguments::WORD, &mut list) {
         return;
     }
     let mut remainder = [0u8; 26];
-    if 4 <= end {
+    if first <= end {
         import_into(
+            out,
             level,
-            text::front_words(&list, end - 4),
+            text::front_words(&list, end - first),
             text::front_mut(&mut remainder, bytes_for(level)),
         );
     }
 }
 
 // nandpage fragments import LEVEL FRAGMENT..
-fn import() {
+fn import(out: &mut [u8; 32768], at: usize) {
     let count = os::arg_count();
-    if count < 5 {
-        usage();
+    let first = arguments::place(at, 1);
+    if count <= first {
+        usage(out);
         return;
     }
-    if 20 < count {
-        say::error(b"there are seven fragments");
-        return;
-    }
-    let Number::Is(level) = arguments::number(3, b"LEVEL") else {
+    let Number::Is(level) = arguments::number(out, at, b"LEVEL") else {
         return;
     };
-    import_of(level, count);
+    import_of(out, level, first, count);
 }
 
-fn usage() {
+fn usage(out: &mut [u8; 32768]) {
     say::error(
+        out,
         b"usage: nandpage fragments export LEVEL REMAINDER, or nandpage fragments import LEVEL FRAGMENT..",
     );
 }
 
 // nandpage fragments export .. or import ..
-pub fn fragments() {
+pub fn fragments(out: &mut [u8; 32768]) {
+    let options = arguments::find_options(out, 0);
+    if !options.good {
+        return;
+    }
     let mut name = [0u8; 16];
-    let n = os::arg(2, &mut name);
+    let n = os::arg(options.at, &mut name);
+    let at = arguments::place(options.at, 1);
     if check::same(&name[..n], b"export") {
-        export();
+        export(out, at);
         return;
     }
     if check::same(&name[..n], b"import") {
-        import();
+        import(out, at);
         return;
     }
-    usage();
+    usage(out);
 }

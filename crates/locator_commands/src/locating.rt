@@ -4,72 +4,95 @@ use replies::Refusal;
 use replies::refusal_number;
 use text::Number;
 
-fn exponent(e: u16) {
-    say::fact(b" ", e as u64, b"");
+fn exponent(out: &mut [u8; 32768], e: u16) {
+    say::fact(out, b" ", e as u64, b"");
 }
 
-fn exponents(list: &[u16]) {
+fn exponents(out: &mut [u8; 32768], list: &[u16]) {
     let mut i = 0;
     while i < list.len() {
-        exponent(list[i]);
+        exponent(out, list[i]);
         i += 1;
     }
 }
 
-fn located(list: &[u16]) {
-    say::reply(0);
-    say::fact(b"wrong bits ", list.len() as u64, b", exponents");
-    exponents(list);
-    say::text(b"\n");
+fn located(out: &mut [u8; 32768], list: &[u16]) {
+    say::reply(out, 0);
+    say::fact(out, b"wrong bits ", list.len() as u64, b", exponents");
+    exponents(out, list);
+    say::put(out, b"\n");
 }
 
-fn refused(refusal: Refusal) {
-    say::reply(refusal_number(refusal));
+fn refused(out: &mut [u8; 32768], refusal: Refusal) {
+    say::reply(out, refusal_number(refusal));
     match refusal {
-        Refusal::OutOfRange => say::text(b"FIELD is 0 for m = 13 or 1 for m = 14\n"),
-        Refusal::LevelTooHigh => say::text(b"the level field is above 20\n"),
-        Refusal::EmptyMessage => say::text(
+        Refusal::OutOfRange => say::put(out, b"FIELD is 0 for m = 13 or 1 for m = 14\n"),
+        Refusal::LevelTooHigh => say::put(out, b"the level field is above 20\n"),
+        Refusal::EmptyMessage => say::put(
+            out,
             b"there is no message: t = 0, or N is at most mt bits\n",
         ),
-        Refusal::BlockTooLong => say::text(b"N is above 2^m - 1, the longest word of the field\n"),
-        Refusal::BufferLength => say::text(b"the remainder has not mt / 8 bytes, rounded up\n"),
-        Refusal::RemainderTooWide => say::text(b"the remainder has a one above bit mt - 1\n"),
-        _ => say::text(b"uncorrectable, no t bits leave this remainder\n"),
+        Refusal::BlockTooLong => say::put(
+            out,
+            b"N is above 2^m - 1, the longest word of the field\n",
+        ),
+        Refusal::BufferLength => say::put(out, b"the remainder has not mt / 8 bytes, rounded up\n"),
+        Refusal::RemainderTooWide => say::put(out, b"the remainder has a one above bit mt - 1\n"),
+        _ => say::put(out, b"uncorrectable, no t bits leave this remainder\n"),
     }
 }
 
-fn locate_from(level: u64, field: u64, n: u64, remainder: &[u8]) {
+fn locate_from(out: &mut [u8; 32768], level: u64, field: u64, n: u64, remainder: &[u8]) {
     let mut places = [0u16; 64];
     match bch::locate_errors(level, field, n, remainder, &mut places) {
-        LocateAnswer::Located(count) => located(text::front_exponents(&places, count)),
-        LocateAnswer::Refused(refusal) => refused(refusal),
+        LocateAnswer::Located(count) => located(out, text::front_exponents(&places, count)),
+        LocateAnswer::Refused(refusal) => refused(out, refusal),
     }
 }
 
-// The remainder of argument 5, in hexadecimal digits.
-fn locate_in(level: u64, field: u64, n: u64) {
+// The remainder at place `at`, in hexadecimal digits.
+fn locate_in(out: &mut [u8; 32768], at: usize, level: u64, field: u64, n: u64) {
     let mut given = [0u8; 258];
-    let length = os::arg(5, &mut given);
+    let length = os::arg(at, &mut given);
+    if !arguments::whole(out, b"REMAINDER") {
+        return;
+    }
     let mut remainder = [0u8; 128];
     match text::parse_bytes(text::without_prefix(&given[..length]), &mut remainder) {
-        Number::Is(count) => locate_from(level, field, n, text::front(&remainder, count as usize)),
-        Number::Bad => arguments::bad_remainder(),
+        Number::Is(count) => locate_from(
+            out,
+            level,
+            field,
+            n,
+            text::front(&remainder, count as usize),
+        ),
+        Number::Bad => arguments::bad_remainder(out),
     }
 }
 
 // nandpage locate LEVEL FIELD N REMAINDER
-pub fn locate() {
-    if !arguments::are(6, b"usage: nandpage locate LEVEL FIELD N REMAINDER") {
+pub fn locate(out: &mut [u8; 32768]) {
+    let options = arguments::find_options(out, 0);
+    if !options.good {
         return;
     }
-    let Number::Is(level) = arguments::number(2, b"LEVEL") else {
+    let at = options.at;
+    if !arguments::are(
+        out,
+        at,
+        4,
+        b"usage: nandpage locate LEVEL FIELD N REMAINDER",
+    ) {
+        return;
+    }
+    let Number::Is(level) = arguments::number(out, at, b"LEVEL") else {
         return;
     };
-    let Number::Is(field) = arguments::number(3, b"FIELD") else {
+    let Number::Is(field) = arguments::number(out, arguments::place(at, 1), b"FIELD") else {
         return;
     };
-    let Number::Is(n) = arguments::number(4, b"N") else {
+    let Number::Is(n) = arguments::number(out, arguments::place(at, 2), b"N") else {
         return;
     };
-    locate_in(level, field, n);
+    locate_in(out, arguments::place(at, 3), level, field, n);
 }

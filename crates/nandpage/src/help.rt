@@ -1,74 +1,128 @@
 // The help.
 
-pub fn unknown() {
+pub fn unknown(out: &mut [u8; 32768]) {
     say::error(
-        b"the commands are layout, bits, write, read, judge, locate, fragments and claim; nandpage --help says more",
+        out,
+        b"the commands are layout, bits, write, read, look, salvage, judge, claim, locate and fragments; nandpage --help says more",
     );
 }
 
-fn commands() {
-    say::text(
+fn commands(out: &mut [u8; 32768]) {
+    say::put(
+        out,
         b"  nandpage layout WORD0 WORD1                     is this layout accepted? Its fields and blocks, or the reason\n",
     );
-    say::text(
+    say::put(
+        out,
         b"  nandpage bits WORD0 WORD1 POSITION              the block and exponent of a page bit, or the tail\n",
     );
-    say::text(
+    say::put(
+        out,
         b"  nandpage bits WORD0 WORD1 BLOCK EXPONENT        the position of a code bit in the page\n",
     );
-    say::text(
-        b"  nandpage write WORD0 WORD1 METADATA DATA PAGE   writes a page from metadata and data\n",
+    say::put(
+        out,
+        b"  nandpage write WORD0 WORD1 METADATA DATA PAGE   writes a page, or an image of many, from metadata and data\n",
     );
-    say::text(
+    say::put(
+        out,
         b"  nandpage read WORD0 WORD1 PAGE METADATA DATA    reads a page, or a dump of many, and shows the corrected bits\n",
     );
-    say::text(
-        b"  nandpage judge WORD0 WORD1 PAGE BLOCK           the corrected bits of one block\n",
+    say::put(
+        out,
+        b"  nandpage look WORD0 WORD1 PAGE                  the corrected bits of a page or a dump; no file is written\n",
     );
-    say::text(
-        b"  nandpage locate LEVEL FIELD N REMAINDER         the wrong bits of a word of N bits, from its remainder alone\n",
-    );
-    say::text(
-        b"  nandpage fragments export LEVEL REMAINDER       a remainder for a hardware locator, as seven words of 32 bits\n",
-    );
-    say::text(
-        b"  nandpage fragments import LEVEL FRAGMENT..      the remainder that such words hold\n",
-    );
-    say::text(
-        b"  nandpage claim WORD0 WORD1 PAGE BLOCK EXPONENT..   are these the wrong bits of the block?\n",
+    say::put(
+        out,
+        b"  nandpage salvage WORD0 WORD1 PAGE METADATA DATA LIST   as read, and the good blocks of a refused page; LIST names the others\n",
     );
 }
 
-fn arguments() {
-    say::text(
+fn other_commands(out: &mut [u8; 32768]) {
+    say::put(
+        out,
+        b"  nandpage judge WORD0 WORD1 PAGE BLOCK           the corrected bits of one block, or the zeros of an erased one\n",
+    );
+    say::put(
+        out,
+        b"  nandpage claim WORD0 WORD1 PAGE BLOCK EXPONENT..   are these the wrong bits of the block?\n",
+    );
+    say::put(
+        out,
+        b"  nandpage locate LEVEL FIELD N REMAINDER         the wrong bits of a word of N bits, from its remainder alone\n",
+    );
+    say::put(
+        out,
+        b"  nandpage fragments export LEVEL REMAINDER       a remainder for a hardware locator, as seven words of 32 bits\n",
+    );
+    say::put(
+        out,
+        b"  nandpage fragments import LEVEL FRAGMENT..      the remainder that such words hold\n",
+    );
+    say::put(out, b"  nandpage --version\n");
+}
+
+fn options(out: &mut [u8; 32768]) {
+    say::put(
+        out,
+        b"\nOptions stand right after the command. Of read, look and salvage: --from N and --pages M, the pages of a dump, counted from 0;\n",
+    );
+    say::put(
+        out,
+        b"--quiet, no line for a page that is not refused. Of read: --stdout, data to standard output, with a dash for DATA. Of salvage:\n",
+    );
+    say::put(
+        out,
+        b"--raw, a ruined block as it stands in the page, in place of bytes 0xFF. Of bits, judge and claim: --page K, page K of a dump.\n",
+    );
+}
+
+fn arguments(out: &mut [u8; 32768]) {
+    say::put(
+        out,
         b"\nWORD0 and WORD1 are the layout words, as 0x070A4080 0x10DA4080. Numbers are decimal, or hexadecimal after 0x.\n",
     );
-    say::text(
-        b"METADATA, DATA and PAGE are files. A dash is a page on standard input, an empty METADATA or DATA that is written\n",
+    say::put(
+        out,
+        b"METADATA, DATA and PAGE are files. A dash is a page on standard input or standard output, an empty METADATA or DATA that is\n",
     );
-    say::text(
-        b"to a page, or one that is not wanted from it. LEVEL is the level field, half of t; FIELD is 0 for m = 13 or 1 for\n",
+    say::put(
+        out,
+        b"written to a page, or one that is not wanted from it. LEVEL is the level field, half of t; FIELD is 0 for m = 13 or 1 for\n",
     );
-    say::text(
+    say::put(
+        out,
         b"m = 14; REMAINDER is in hexadecimal, two digits a byte, highest coefficient first.\n",
     );
 }
 
-fn answers() {
-    say::text(
+fn answers(out: &mut [u8; 32768]) {
+    say::put(
+        out,
         b"\nAn answer starts with reply and a number: 0 is done, another says why not, and then no file is written. Of a dump\n",
     );
-    say::text(
-        b"each page with corrected bits has a line, each page that is refused has one, and its place in METADATA and DATA\n",
+    say::put(
+        out,
+        b"each page with corrected bits or zeros in erased blocks has a line, each page that is refused has one, and its place in\n",
     );
-    say::text(
-        b"holds bytes 0xFF. An error in the arguments or with a file is one line on standard error, with no reply.\n",
+    say::put(
+        out,
+        b"METADATA and DATA holds bytes 0xFF. An error in the arguments or with a file is one line on standard error. The exit status is\n",
+    );
+    say::put(
+        out,
+        b"the first reply that is not 0, 64 for wrong arguments, 74 for a file that failed; a run that fails leaves every file as it was.\n",
     );
 }
 
-pub fn all() {
-    say::text(b"nandpage: pages of NAND flash under BCH codes, written, read and judged\n\n");
-    commands();
-    arguments();
-    answers();
+pub fn all(out: &mut [u8; 32768]) {
+    say::put(
+        out,
+        b"nandpage: pages of NAND flash under BCH codes, written, read and judged\n\n",
+    );
+    commands(out);
+    other_commands(out);
+    options(out);
+    arguments(out);
+    answers(out);
 }

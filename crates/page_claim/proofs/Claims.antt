@@ -23,7 +23,7 @@ use Rattle.replies.specs.declared.Refusal.{Refusal}
 use Rattle.replies.specs.Replies.{number}
 use Rattle.layout.specs.declared.Shape.{Shape}
 use Rattle.layout.specs.declared.Plan.{Plan}
-use Rattle.layout.specs.Plan.{coveredOf, shape, field, level, start}
+use Rattle.layout.specs.Plan.{shape, field, level, start}
 use Rattle.code.specs.Word.{Word, turned, flipped}
 use Rattle.code.specs.Code.{Codeword, Fits}
 use Rattle.code.specs.Generator.{remainder}
@@ -164,7 +164,7 @@ unfolding claimIn
 claim-refused q page b claims r e = rw (← e, ne-eqb _ 0 (number-some r))
 
 module _ (q : Plan) (page : List ℕ) (b : ℕ) (size : length page ≡ q .size) (inside : b < q .blocks) (claims : List ℕ) {s : Shape} {position : ℕ} (es : s ≡ shape q b)
-    (ep : position ≡ start q b) {r : Bool} (h : Decides r (Right (s .field) (s .level) (run (bitOf page) position (coveredOf s)) claims)) where
+    (ep : position ≡ start q b) {r : Bool} (h : Decides r (Right (s .field) (s .level) (run (bitOf page) position (s .covered)) claims)) where
   block-decided : Decides r (Right (field q b) (level q b) (blockWord q page b) claims)
   unfolding blockWord
   block-decided = rw (es, ep) at h

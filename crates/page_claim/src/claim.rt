@@ -1,7 +1,7 @@
 // Claimed error locations of one block (document 01, "Claim"): a list of exponents in any order, whoever proposed them.
 use crate::ClaimAnswer;
-use bits::copy::copy_bits;
-use bits::write::flip_bit;
+use bit_writing::copy::copy_bits;
+use bit_writing::write::flip_bit;
 use division::runs::remainder_of;
 use division_table::make_table;
 use layout::Acceptance;
@@ -10,7 +10,6 @@ use layout::Shape;
 use layout::block_shape;
 use layout::block_start;
 use layout::check_layout;
-use layout::covered;
 use layout::plan_of;
 use layout::refusal_of;
 use page_plan::block_reply;
@@ -22,7 +21,6 @@ ghost use Prim.Native.Nat.{_+_, _*_, _≤_, _<_};
 ghost use lib.ListN.{length};
 ghost use Rattle.bits.specs.Decides.{Decides};
 ghost use Rattle.bits.specs.Bits.{bitOf, run, Inside};
-ghost use Rattle.layout.specs.Plan.{coveredOf};
 ghost use Rattle.code.specs.Word.{flipped};
 ghost use Rattle.code.specs.Code.{Codeword, Fits};
 ghost use Rattle.page_theory.specs.Claim.{Right};
@@ -87,15 +85,15 @@ fn is_code_flipped(
     claims: &[u16],
     word: &mut [u8],
 ) -> bool
-    requires { ⌜ Stored shape × Inside (now page) position (coveredOf shape) × Within (coveredOf shape) (now claims)
-        × Inside (now word) 0 (coveredOf shape) ⌝ }
+    requires { ⌜ Stored shape × Inside (now page) position (shape .covered) × Within (shape .covered) (now claims)
+        × Inside (now word) 0 (shape .covered) ⌝ }
     ensures { λ r. ⌜ Decides r
         (Codeword (shape .field) (shape .level)
-        (flipped (run (bitOf (now (page .entry))) position (coveredOf shape)) (now (claims .entry)))) ⌝ }
+        (flipped (run (bitOf (now (page .entry))) position (shape .covered)) (now (claims .entry)))) ⌝ }
 {
     let field = shape.field;
     let level = shape.level as usize;
-    let n = covered(shape);
+    let n = shape.covered as usize;
     copy_bits(page, position, word, 0, n);
     flip_claims(claims, word, n);
     let mut table = [0u64; 3600];
@@ -106,11 +104,11 @@ fn is_code_flipped(
 
 // The same with bytes to copy the block to: a block with t > 0 has at most 16,383 bits. At t = 0 every word is a codeword.
 fn leads_to_code(shape: Shape, page: &[u8], position: usize, claims: &[u16]) -> bool
-    requires { ⌜ Stored shape × Fits (shape .field) (shape .level) (coveredOf shape) × Inside (now page) position (coveredOf shape)
-        × Within (coveredOf shape) (now claims) ⌝ }
+    requires { ⌜ Stored shape × Fits (shape .field) (shape .level) (shape .covered) × Inside (now page) position (shape .covered)
+        × Within (shape .covered) (now claims) ⌝ }
     ensures { λ r. ⌜ Decides r
         (Codeword (shape .field) (shape .level)
-        (flipped (run (bitOf (now (page .entry))) position (coveredOf shape)) (now (claims .entry)))) ⌝ }
+        (flipped (run (bitOf (now (page .entry))) position (shape .covered)) (now (claims .entry)))) ⌝ }
 {
     if shape.level == 0 {
         return true;
@@ -121,15 +119,15 @@ fn leads_to_code(shape: Shape, page: &[u8], position: usize, claims: &[u16]) -> 
 
 // Whether a claim about the block at a position is right.
 fn is_right(shape: Shape, page: &[u8], position: usize, claims: &[u16]) -> bool
-    requires { ⌜ Stored shape × Fits (shape .field) (shape .level) (coveredOf shape) × Inside (now page) position (coveredOf shape) ⌝ }
+    requires { ⌜ Stored shape × Fits (shape .field) (shape .level) (shape .covered) × Inside (now page) position (shape .covered) ⌝ }
     ensures { λ r. ⌜ Decides r
-        (Right (shape .field) (shape .level) (run (bitOf (now (page .entry))) position (coveredOf shape)) (now (claims .entry))) ⌝ }
+        (Right (shape .field) (shape .level) (run (bitOf (now (page .entry))) position (shape .covered)) (now (claims .entry))) ⌝ }
 {
     let level = shape.level as usize;
     if level < claims.len() {
         return false;
     }
-    let n = covered(shape);
+    let n = shape.covered as usize;
     if !within(claims, n) {
         return false;
     }

@@ -1,12 +1,18 @@
 // The command claim.
-use files::Got;
+use crate::loading;
+use crate::loading::Loaded;
+use arguments::Options;
 use layout::Plan;
 use page_claim::ClaimAnswer;
 use plans::Planned;
 use replies::refusal_number;
 use text::Number;
 
+// An exponent of more than 16 bits is none of any block, and neither is the largest of 16.
 fn exponent(word: u32) -> u16 {
+    if 65535 < word {
+        return 65535;
+    }
     (word % 65536) as u16
 }
 
@@ -21,66 +27,117 @@ fn exponents(words: &[u32; 256]) -> [u16; 256] {
     claims
 }
 
-fn right(claims: usize) {
-    say::reply(0);
+fn right(out: &mut [u8; 32768], claims: usize) {
+    say::reply(out, 0);
     say::fact(
+        out,
         b"right, these ",
         claims as u64,
         b" bits turned over give a codeword\n",
     );
 }
 
-fn answer(record: &[u8], plan: Plan, page: &[u8], block: u64, claims: &[u16]) {
+fn answer(
+    out: &mut [u8; 32768],
+    record: &[u8],
+    plan: Plan,
+    page: &[u8],
+    block: u64,
+    claims: &[u16],
+) {
     match page_claim::check_claim(record, page, block, claims) {
-        ClaimAnswer::Accepted => right(claims.len()),
-        ClaimAnswer::Refused(refusal) => say::page_refused(
-            refusal_number(refusal),
-            plan,
-            page.len(),
-        ),
+        ClaimAnswer::Accepted => right(out, claims.len()),
+        ClaimAnswer::Refused(refusal) => {
+            say::page_refused(
+                out,
+                refusal_number(refusal),
+                page.len(),
+                plan.size,
+                plan.blocks,
+            )
+        }
     }
 }
 
-fn claim_on(record: &[u8], plan: Plan, block: u64, claims: &[u16]) {
+fn claim_on(
+    out: &mut [u8; 32768],
+    options: Options,
+    record: &[u8],
+    plan: Plan,
+    block: u64,
+    claims: &[u16],
+) {
     let mut page = io::large_buffer();
-    match files::page(4, &mut page) {
-        Got::Bytes(n) => answer(record, plan, text::front(&page, n), block, claims),
-        Got::Failed => (),
+    match loading::load(
+        out,
+        options,
+        plan,
+        arguments::place(options.at, 2),
+        &mut page,
+    ) {
+        Loaded::Bytes(n) => answer(out, record, plan, text::front(&page, n), block, claims),
+        Loaded::Failed => (),
     }
 }
 
-fn claim_of(record: &[u8], plan: Plan, block: u64, end: usize) {
+// A claim of more exponents than any level has is wrong, whatever they are: 256 stand for all that are more.
+fn claim_of(
+    out: &mut [u8; 32768],
+    options: Options,
+    record: &[u8],
+    plan: Plan,
+    block: u64,
+    end: usize,
+) {
     let mut words = [0u32; 256];
-    if !arguments::word_list(6, end, b"EXPONENT", arguments::EXPONENT, &mut words) {
+    let first = arguments::place(options.at, 4);
+    if !arguments::word_list(out, first, end, b"EXPONENT", u64::MAX, &mut words) {
         return;
     }
     let claims = exponents(&words);
-    if 6 <= end {
-        claim_on(record, plan, block, text::front_exponents(&claims, end - 6));
+    if first <= end {
+        claim_on(
+            out,
+            options,
+            record,
+            plan,
+            block,
+            text::front_exponents(&claims, end - first),
+        );
     }
 }
 
-// nandpage claim WORD0 WORD1 PAGE BLOCK EXPONENT..
-pub fn claim() {
+// nandpage claim [--page K] WORD0 WORD1 PAGE BLOCK EXPONENT..
+pub fn claim(out: &mut [u8; 32768]) {
+    let options = arguments::find_options(out, arguments::PAGE);
+    if !options.good {
+        return;
+    }
     let count = os::arg_count();
-    if count < 6 {
-        say::error(b"usage: nandpage claim WORD0 WORD1 PAGE BLOCK EXPONENT..");
+    if count < arguments::place(options.at, 4) {
+        say::error(
+            out,
+            b"usage: nandpage claim [--page K] WORD0 WORD1 PAGE BLOCK EXPONENT..",
+        );
         return;
     }
-    if 262 < count {
-        say::error(b"a claim has at most 256 exponents");
-        return;
-    }
-    let Number::Is(block) = arguments::number(5, b"BLOCK") else {
+    let Number::Is(block) = arguments::number(out, arguments::place(options.at, 3), b"BLOCK") else {
         return;
     };
     let Planned::Under {
         first,
         second,
         plan,
-    } = plans::plan_of_words()
+    } = plans::plan_of_words(out, options.at)
     else {
         return;
     };
-    claim_of(&text::layout_record(first, second), plan, block, count);
+    claim_of(
+        out,
+        options,
+        &text::layout_record(first, second),
+        plan,
+        block,
+        count,
+    );
 }

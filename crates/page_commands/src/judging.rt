@@ -1,5 +1,7 @@
 // The command judge.
-use files::Got;
+use crate::loading;
+use crate::loading::Loaded;
+use arguments::Options;
 use layout::Plan;
 use page_judge::JudgeAnswer;
 use plans::Planned;
@@ -8,55 +10,76 @@ use replies::refusal_number;
 use text::Number;
 
 // The count of a block: its corrected bits, or 128 plus its zeros where it is erased.
-fn count(block: u64, n: u8) {
-    say::reply(0);
-    say::fact(b"block ", block, b", ");
+fn count(out: &mut [u8; 32768], block: u64, n: u8) {
+    say::reply(out, 0);
+    say::fact(out, b"block ", block, b", ");
     if n < 128 {
-        say::fact(b"corrected bits ", n as u64, b"\n");
+        say::fact(out, b"corrected bits ", n as u64, b"\n");
     } else {
-        say::fact(b"erased, zeros ", (n - 128) as u64, b"\n");
+        say::fact(out, b"erased, zeros ", (n - 128) as u64, b"\n");
     }
 }
 
-fn refused(plan: Plan, page: usize, refusal: Refusal) {
+fn refused(out: &mut [u8; 32768], plan: Plan, page: usize, refusal: Refusal) {
     if let Refusal::Uncorrectable(block) = refusal {
-        say::ruined(block);
-        say::text(b"\n");
+        say::ruined(out, block);
+        say::put(out, b"\n");
         return;
     }
-    say::page_refused(refusal_number(refusal), plan, page);
+    say::page_refused(out, refusal_number(refusal), page, plan.size, plan.blocks);
 }
 
-fn answer(record: &[u8], plan: Plan, page: &[u8], block: u64) {
+fn answer(out: &mut [u8; 32768], record: &[u8], plan: Plan, page: &[u8], block: u64) {
     match page_judge::judge_block(record, page, block) {
-        JudgeAnswer::Flips(n) => count(block, n),
-        JudgeAnswer::Refused(refusal) => refused(plan, page.len(), refusal),
+        JudgeAnswer::Flips(n) => count(out, block, n),
+        JudgeAnswer::Refused(refusal) => refused(out, plan, page.len(), refusal),
     }
 }
 
-fn judge_in(record: &[u8], plan: Plan, block: u64) {
+fn judge_in(out: &mut [u8; 32768], options: Options, record: &[u8], plan: Plan, block: u64) {
     let mut page = io::large_buffer();
-    match files::page(4, &mut page) {
-        Got::Bytes(n) => answer(record, plan, text::front(&page, n), block),
-        Got::Failed => (),
+    match loading::load(
+        out,
+        options,
+        plan,
+        arguments::place(options.at, 2),
+        &mut page,
+    ) {
+        Loaded::Bytes(n) => answer(out, record, plan, text::front(&page, n), block),
+        Loaded::Failed => (),
     }
 }
 
-// nandpage judge WORD0 WORD1 PAGE BLOCK
-pub fn judge() {
-    if !arguments::are(6, b"usage: nandpage judge WORD0 WORD1 PAGE BLOCK") {
+// nandpage judge [--page K] WORD0 WORD1 PAGE BLOCK
+pub fn judge(out: &mut [u8; 32768]) {
+    let options = arguments::find_options(out, arguments::PAGE);
+    if !options.good {
         return;
     }
-    let Number::Is(block) = arguments::number(5, b"BLOCK") else {
+    if !arguments::are(
+        out,
+        options.at,
+        4,
+        b"usage: nandpage judge [--page K] WORD0 WORD1 PAGE BLOCK",
+    ) {
+        return;
+    }
+    let Number::Is(block) = arguments::number(out, arguments::place(options.at, 3), b"BLOCK") else {
         return;
     };
     let Planned::Under {
         first,
         second,
         plan,
-    } = plans::plan_of_words()
+    } = plans::plan_of_words(out, options.at)
     else {
         return;
     };
-    judge_in(&text::layout_record(first, second), plan, block);
+    judge_in(
+        out,
+        options,
+        &text::layout_record(first, second),
+        plan,
+        block,
+    );
 }

@@ -1,8 +1,11 @@
-// The commands of the tool on one page: write, judge and claim.
+// The commands of the tool on one page: judge and claim.
+//
+//   loading.rt    a page from a file, or one page of a dump
+//   judging.rt    the command judge
+//   claiming.rt   the command claim
 mod claiming;
 mod judging;
-mod writing;
+mod loading;
 
 pub use claiming::claim;
 pub use judging::judge;
-pub use writing::write;

@@ -1,196 +1,172 @@
--- Deciding blocks, and keeping what repairs them.
+-- Deciding blocks by what was found for their remainders.
+--
+-- countAt-located, countAt-nowhere    the count of a block by what was found for it
+-- clean-decided                   a block that is not damaged is decided with the count 0
+-- decided-gives                   what a block gives whose count is below 255
+-- decided-few                     a block is repaired by at most 62 exponents
+-- decided-sound                   a block is not ruined where its count is below 255
+-- decided-count                   its count is what is reported of it
+-- found-few, found-decided        what was found for a block's remainder decides it
+-- remembers-nothing               nothing is remembered at first
+-- alike-nothing, alike-first, alike-words    whether a block is like the last decided one
+-- alike-finds                     what was found for the last decided block is right for one that is alike
+-- block-decided                   what was found for a block decides it, and is remembered where it is a later one
+-- later-field, same-field         the fields of the blocks
+-- one-field-tables                the tables of the later blocks' field
 use mathlib.Core.Path.{_≡_, refl, sym, ap, _∙_}
 use mathlib.Core.Bool.{Bool, true, false}
 use mathlib.Core.List.{List, []}
-use Prim.Native.Nat.{ℕ, zero, suc, _+_, _*_, _≤_, _<_}
-use native.Mathlib.Decide.{decLt, ℕ-discrete}
+use Prim.Native.Nat.{ℕ, zero, suc, _≤_, _<_}
+use native.Mathlib.Decide.{decLt}
+use native.Mathlib.Nat.{pos-of-ne-zero}
 use native.Mathlib.Omega.{arith}
-use lib.ListN.{length, take, getD, set, replicate, length-set}
-use lib.Seq.{getD-set-same, getD-set-other, getD-take, length-take-le}
-use Rattle.bits.specs.Bits.{run}
-use Rattle.bits.proofs.Runs.{run-length, run-ext, run-cong}
+use lib.ListN.{length, take}
+use lib.Seq.{length-take-le}
+use Rattle.bits.specs.Decides.{Decides}
 use Rattle.field.specs.Field.{degree}
 use Rattle.field.specs.Tables.{Tables}
 use Rattle.layout.specs.declared.Plan.{Plan}
 use Rattle.layout.specs.Plan.{shape, field, level, covered, Valid}
-use Rattle.code.specs.Locations.{exponents, nowhere, locate}
+use Rattle.code.specs.Outcome.{Outcome}
+use Rattle.code.specs.Locations.{nowhere, locate}
 use Rattle.code.proofs.Outcome.{gives-sound}
 use Rattle.code.specs.Register.{register}
-use Rattle.bch.specs.declared.Found.{Found}
+use Rattle.decoder.specs.declared.Found.{Found}
+use Rattle.decoder.specs.Locating.{answer, Finds}
+use Rattle.page_theory.specs.Reading.{GivesAt, RefusedAt, outcome, countOf}
+use Rattle.page_theory.proofs.Reading.{Hands, of-good, of-erased, outcome-gives, outcome-ruined}
 use Rattle.page_plan.proofs.Tables.{degree-field}
-use Rattle.bch.specs.Locating.{answer, Finds}
-use Rattle.page_theory.specs.Reading.{RefusedAt, Lowest}
-use Rattle.page_decide.specs.declared.Scan.{Scan}
-use Rattle.page_plan.specs.Plans.{Planned}
-use Rattle.page_decide.specs.Looking.{remainderAt, LocatedAt, Scanned}
-use Rattle.page_decide.specs.Deciding.{kept, KeptFor, erasedAt, DecidedAt, BlockDecided, Decided, Underway, OneField, Kept}
-use Rattle.page_decide.proofs.Remainders.{located-clean, located-gives, nowhere-erased, nowhere-ruined, located-few, located-below}
+use Rattle.page_decide.specs.declared.Decided.{Decided}
+use Rattle.page_decide.specs.Scanning.{remainderAt}
+use Rattle.page_decide.specs.Deciding.{erasedAt, countAt, DecidedAt, Remembers, Alike, BlockDecided, OneField}
+use Rattle.page_decide.proofs.Remainders.{located-clean, located-gives, nowhere-erased, nowhere-ruined, erasedAt-range, located-few}
 
--- keeping exponents
+false-true : false ≡ true → ⊥
+false-true e = let z : _≡_ {A = ℕ} 0 1 = cc in omega arith
 
-pub kept-length : (places : List ℕ) (b n : ℕ) → length (kept places b n) ≡ n
-unfolding kept
-kept-length places b n = run-length _ _ _
+-- the count of a block
 
-pub kept-none : (places : List ℕ) (b n : ℕ) → n ≡ 0 → kept places b n ≡ []
-unfolding kept run
-kept-none places b n e = rw e
+module _ (q : Plan) (page : List ℕ) (b : ℕ) (r : Found) {n : ℕ} where
+  pub countAt-located : r .located ≡ true → n ≡ r .count → n ≡ countAt q page b r
+  unfolding countAt
+  countAt-located e k = rw e k
 
-pub keptFor-none : (b : ℕ) (ps places : List ℕ) → KeptFor b 0 ps places places
-keptFor-none b ps places = record { same = refl; own = λ i l. absurd (omega arith); others = λ k o. refl }
+  pub countAt-nowhere : r .located ≡ false → n ≡ erasedAt q page b → n ≡ countAt q page b r
+  unfolding countAt
+  countAt-nowhere e k = rw e k
 
-pub keptFor-next : (b i : ℕ) (ps before after : List ℕ) → KeptFor b i ps before after → i < 64 → 64 * b + 64 ≤ length before
-    → KeptFor b (i + 1) ps before (set after (64 * b + i) (getD ps i 0))
-keptFor-next b i ps before after h l m =
-    let z = h .same in
-    record {
-      same = length-set after (64 * b + i) _ ∙ h .same;
-      own = λ j k. elim (decLt j i) [
-        | yes y ↦ getD-set-other after (64 * b + i) (64 * b + j) _ 0 (λ e. omega arith) ∙ h .own j y
-        | no y ↦ (let e : j ≡ i = omega arith in rw e (getD-set-same after (64 * b + i) _ 0 (omega arith)))
-      ];
-      others = λ k o. getD-set-other after (64 * b + i) k _ 0 (λ e. o (omega arith) (omega arith)) ∙ h .others k o;
-    }
-
-module _ {b n : ℕ} {ps before after : List ℕ} (h : KeptFor b n ps before after) where
-  pub kept-own : n ≤ length ps → kept after b n ≡ take n ps
-  unfolding kept
-  kept-own l = run-ext _ (64 * b) (take n ps) n 0 (length-take-le n ps l) (λ j k. h .own j k ∙ sym (getD-take n ps j 0 k))
-
-  pub kept-others : (c k : ℕ) → (c ≡ b → ⊥) → k ≤ 64 → kept after c k ≡ kept before c k
-  unfolding kept
-  kept-others c k o l = run-cong _ _ (64 * c) (64 * c) k (λ j i. h .others (64 * c + j) (λ x y. o (omega arith)))
-
--- one block
-
-module _ (q : Plan) (page : List ℕ) (v : Valid q) (b : ℕ) (inside : b < q .blocks) {x : ℕ} (left : x ≡ remainderAt q page b) {r : Found}
-    (finds : Finds (field q b) (level q b) (covered q b) x r) where
-  pub found-repaired : {places places' : List ℕ} {n : ℕ} (flips : List ℕ) → r .located ≡ true → n ≡ r .count
-      → KeptFor b (r .count) (r .exponents) places places' → b < length flips → BlockDecided q page b places flips places' (set flips b n) true
-  unfolding answer
-  found-repaired {places} {places'} {n} flips e k h i =
-      let z = finds .few in
-      let s = finds .size in
-      let l = v .strong b inside in
-      record {
-        decided = λ t. rw (getD-set-same flips b n 0 i) (record {
-          repaired = λ m. ap (locate _ _ _) (sym left) ∙ sym (finds .is) ∙ rw (e, k, kept-own h (omega arith));
-          erased = λ m. absurd (omega arith);
-        });
-        ruined = λ t. absurd (let z : _≡_ {A = ℕ} 0 1 = cc in omega arith);
-        other-places = kept-others h;
-        other-flips = λ c o. getD-set-other flips b c n 0 o;
-        places-length = h .same;
-        flips-length = length-set flips b n;
-      }
-
-  pub found-nowhere : {n : ℕ} {sound : Bool} (places flips : List ℕ) → r .located ≡ false → n ≡ erasedAt q page b → b < length flips
-      → (sound ≡ true → n ≡ 0 → ⊥) → (sound ≡ false → n ≡ 0) → BlockDecided q page b places flips places (set flips b n) sound
-  unfolding answer
-  found-nowhere {n} places flips e k i some none =
-      let at : locate (field q b) (level q b) (covered q b) (remainderAt q page b) ≡ nowhere = ap (locate _ _ _) (sym left) ∙ sym (finds .is) ∙ rw e in
-      record {
-        decided = λ t. let g = nowhere-erased q page v b inside at (λ z. some t (k ∙ z)) in rw (getD-set-same flips b n 0 i, k) (record {
-          repaired = λ m. absurd (omega (arith, g .0));
-          erased = λ m. g .1;
-        });
-        ruined = λ t. nowhere-ruined q page v b inside at (sym k ∙ none t);
-        other-places = λ c n o l. refl;
-        other-flips = λ c o. getD-set-other flips b c n 0 o;
-        places-length = refl;
-        flips-length = length-set flips b n;
-      }
-
--- block after block
-
-module _ (q : Plan) (page : List ℕ) (planned : Planned q) where
-  decidedAt-few : (b n : ℕ) (places : List ℕ) → b < q .blocks → DecidedAt q page b places n → n < 128 → n ≤ 62
-  decidedAt-few b n places i d l = omega (arith, located-few q page b _ (d .repaired l), kept-length places b n, planned .valid .strong b i)
-
-  -- a block that is decided is not ruined
-  decidedAt-sound : (b n : ℕ) (places : List ℕ) → b < q .blocks → DecidedAt q page b places n → RefusedAt q page b → ⊥
-  decidedAt-sound b n places i d h = elim (decLt n 128) [
-    | yes l ↦ gives-sound _ _ _ _ _ _ (located-gives q page (planned .valid) b i _ (d .repaired l)) h
-    | no l ↦ gives-sound _ _ _ _ _ _ (d .erased (omega arith)) h
-  ]
-
-  -- a block that is not damaged
-  clean-decided : (b n : ℕ) (places : List ℕ) → b < q .blocks → remainderAt q page b ≡ 0 → n ≡ 0 → DecidedAt q page b places n
-  clean-decided b n places i e z = record {
-    repaired = λ l. located-clean q page (planned .valid) b i e ∙ ap exponents (sym (kept-none places b n z));
+module _ (q : Plan) (page : List ℕ) (v : Valid q) (b : ℕ) (inside : b < q .blocks) where
+  pub clean-decided : remainderAt q page b ≡ 0 → DecidedAt q page b [] 0
+  clean-decided e = record {
+    repaired = λ l. located-clean q page v b inside e;
+    flips = λ l. refl;
     erased = λ l. absurd (omega arith);
+    ruined = λ l. absurd (omega arith);
+    small = omega arith;
   }
 
-  module _ {s : Scan} {places flips : List ℕ} (u : Underway q page s places flips) where
-    pub underway-left : {b : ℕ} → s .block ≡ b → b < q .blocks → register (s .remainder .words) ≡ remainderAt q page b
-    underway-left at l = rw at at (u .left (omega arith))
+  module _ {ps : List ℕ} {n : ℕ} (d : DecidedAt q page b ps n) where
+    pub decided-few : n < 128 → n ≤ 62
+    decided-few l = omega (arith, located-few q page b ps (d .repaired l), d .flips l, v .strong b inside)
 
-    pub underway-sound : q .blocks ≤ s .block → Decided q page (q .blocks) places flips
-    underway-sound l = let e : s .block ≡ q .blocks = omega (arith, u .inside) in rw e at (u .decided)
+    -- what the block gives
+    pub decided-gives : n < 255 → (w : List Bool) × GivesAt q page b w n
+    decided-gives l = elim (decLt n 128) [
+      | yes k ↦ (_, rw (d .flips k) at (located-gives q page v b inside ps (d .repaired k)))
+      | no k ↦ (_, d .erased (omega arith) l)
+    ]
 
-    module _ {b : ℕ} (at : s .block ≡ b) (inside : b < q .blocks) {places' flips' : List ℕ} {z : Bool}
-        (d : BlockDecided q page b places flips places' flips' z) where
-      pub underway-ruined : z ≡ false → Lowest q page b
-      underway-ruined e = record {
-        inside = inside;
-        ruins = d .ruined e;
-        lower = λ c l. decidedAt-sound c _ places (omega arith) (u .decided .each c (omega arith));
-      }
+    pub decided-sound : n < 255 → RefusedAt q page b → ⊥
+    decided-sound l h = gives-sound _ _ _ _ _ _ (decided-gives l .1) h
 
-      pub underway-next : {s' : Scan} → z ≡ true → Scanned q page (b + 1) s' → Underway q page s' places' flips'
-      underway-next {s'} e n =
-          record {
-            inside = n .inside;
-            decided = record { each = each };
-            fresh = λ c l. d .other-flips c (λ i. omega (arith, n .low)) ∙ u .fresh c (omega (arith, n .low));
-            left = n .left;
-            places-length = d .places-length ∙ u .places-length;
-            flips-length = d .flips-length ∙ u .flips-length;
-          }
-        where
-          before : (c : ℕ) → c < s .block → (c ≡ b → ⊥) → DecidedAt q page c places' (getD flips c 0)
-          before c y o = let h = u .decided .each c y in record {
-            repaired = λ l. h .repaired l
-                ∙ ap exponents (sym (d .other-places c (getD flips c 0) o (let k = decidedAt-few c _ places (omega (arith, u .inside)) h l in omega arith)));
-            erased = λ l. h .erased l;
-          }
+    pub decided-count : n ≡ countOf (outcome q page b)
+    unfolding countOf
+    decided-count = elim (decLt n 255) [
+      | yes l ↦ (let g = decided-gives l in handed (outcome q page b) _ n (outcome-gives q page v b _ n inside (g .1)))
+      | no l ↦ (let e : n ≡ 255 = omega (arith, d .small) in e ∙ rw (outcome-ruined q page b (d .ruined (omega arith))))
+    ]
+      where
+        handed : (o : Outcome) (w : List Bool) (n : ℕ) → Hands o w n → n ≡ countOf o
+        handed o w n of-good = refl
+        handed o w n of-erased = refl
 
-          each : (c : ℕ) → c < s' .block → DecidedAt q page c places' (getD flips' c 0)
-          each c l = elim (decLt c (s .block)) [
-            | yes y ↦ (let o : c ≡ b → ⊥ = λ i. omega arith in rw (d .other-flips c o) (before c y o))
-            | no y ↦ elim (ℕ-discrete c b) [
-              | yes i ↦ rw i (d .decided e)
-              | no i ↦ clean-decided c _ places' (omega (arith, n .inside)) (n .clean c (omega arith) l) (d .other-flips c i ∙ u .fresh c (omega arith))
-            ]
-          ]
+  -- what was found for the block's remainder
+  module _ {x : ℕ} (left : x ≡ remainderAt q page b) {r : Found} (finds : Finds (field q b) (level q b) (covered q b) x r) where
+    pub found-few : r .count ≤ 62
+    found-few = omega (arith, finds .few, v .strong b inside)
 
--- what is kept when every block is decided
+    found-is : locate (field q b) (level q b) (covered q b) (remainderAt q page b) ≡ answer r
+    found-is = ap (locate _ _ _) (sym left) ∙ sym (finds .is)
 
-pub decided-kept : (q : Plan) (page places flips : List ℕ) → Planned q → Decided q page (q .blocks) places flips → Kept q places flips
-decided-kept q page places flips planned d = record {
-  few = λ b l m. omega (arith, decidedAt-few q page planned b _ places l (d .each b l) m);
-  below = λ b l m. located-below q page b _ (d .each b l .repaired m);
+    pub found-decided : {n : ℕ} → n ≡ countAt q page b r → DecidedAt q page b (take n (r .exponents)) n
+    unfolding countAt answer
+    found-decided {n} e = go (r .located) refl
+      where
+        go : (z : Bool) → r .located ≡ z → DecidedAt q page b (take n (r .exponents)) n
+        go true t =
+            let k : n ≡ r .count = e ∙ rw t in
+            let few = found-few in
+            let size = finds .size in
+            record {
+              repaired = λ l. found-is ∙ rw (t, k);
+              flips = λ l. length-take-le n (r .exponents) (omega arith);
+              erased = λ l. absurd (omega arith);
+              ruined = λ l. absurd (omega arith);
+              small = omega arith;
+            }
+        go false t =
+            let k : n ≡ erasedAt q page b = e ∙ rw t in
+            let range = erasedAt-range q page v b inside in
+            let none : locate (field q b) (level q b) (covered q b) (remainderAt q page b) ≡ nowhere = found-is ∙ rw t in
+            record {
+              repaired = λ l. absurd (omega arith);
+              flips = λ l. absurd (omega arith);
+              erased = λ l m. rw k (nowhere-erased q page v b inside none (omega arith));
+              ruined = λ l. nowhere-ruined q page v b inside none (omega arith);
+              small = omega arith;
+            }
+
+-- what is remembered
+
+pub remembers-nothing : (q : Plan) (d : Decided) → d .later ≡ false → Remembers q d
+remembers-nothing q d e = record { finds = λ t. absurd (false-true (sym e ∙ t)) }
+
+-- whether a block is like the last decided one
+
+module _ {d : Decided} {b : ℕ} {words : List ℕ} where
+  pub alike-nothing : d .later ≡ false → Decides false (Alike d b words)
+  alike-nothing e = record { holds = λ t. absurd (false-true t); fails = λ t a. false-true (sym e ∙ a .later) }
+
+  pub alike-first : b ≡ 0 → Decides false (Alike d b words)
+  alike-first e = record { holds = λ t. absurd (false-true t); fails = λ t a. omega (arith, a .own) }
+
+  pub alike-words : {r : Bool} → d .later ≡ true → (b ≡ 0 → ⊥) → Decides r (d .remainder .words ≡ words) → Decides r (Alike d b words)
+  alike-words e n s = record {
+    holds = λ t. record { later = e; own = pos-of-ne-zero n; same = s .holds t };
+    fails = λ t a. s .fails t (a .same);
+  }
+
+pub alike-finds : (q : Plan) {d : Decided} {b : ℕ} {words : List ℕ} → Remembers q d → Alike d b words
+    → Finds (field q b) (level q b) (covered q b) (register words) (d .found)
+unfolding shape
+alike-finds q {b = zero} m a = absurd (omega (arith, a .own))
+alike-finds q {b = suc b} m a = rw (← a .same) (m .finds (a .later))
+
+-- what was found for a block, to be remembered where it is a later one
+pub block-decided : (q : Plan) (page : List ℕ) (b : ℕ) {d : Decided} → Valid q → b < q .blocks → register (d .remainder .words) ≡ remainderAt q page b
+    → Finds (field q b) (level q b) (covered q b) (register (d .remainder .words)) (d .found) → d .count ≡ countAt q page b (d .found)
+    → (d .later ≡ true → 0 < b) → BlockDecided q page b d
+unfolding shape
+block-decided q page b {d} v inside left finds count later = record {
+  at = found-decided q page v b inside left finds count;
+  size = finds .size;
+  remembers = record { finds = λ t. at b (later t) finds };
 }
-
--- nothing is kept at first
-
-pub zeros-at : (n i : ℕ) → _≡_ {A = ℕ} (getD (replicate n 0) i 0) 0
-zeros-at zero i = refl
-zeros-at (suc n) zero = refl
-zeros-at (suc n) (suc i) = zeros-at n i
-
-pub underway-start : (q : Plan) (page : List ℕ) → Planned q → (s : Scan) (places flips : List ℕ) → Scanned q page 0 s → length places ≡ 16384
-    → length flips ≡ 256 → ((c : ℕ) → getD flips c 0 ≡ 0) → Underway q page s places flips
-underway-start q page planned s places flips n a b z = record {
-  inside = n .inside;
-  decided = record {
-    each = λ c l. clean-decided q page planned c _ places (omega (arith, n .inside)) (n .clean c (omega arith) l) (z c);
-  };
-  fresh = λ c l. z c;
-  left = n .left;
-  places-length = a;
-  flips-length = b;
-}
+  where
+    at : (b : ℕ) → 0 < b → Finds (field q b) (level q b) (covered q b) (register (d .remainder .words)) (d .found)
+        → Finds (q .later .field) (q .later .level) (q .later .covered) (register (d .remainder .words)) (d .found)
+    at zero l f = absurd (omega arith)
+    at (suc b) l f = f
 
 -- the fields of the blocks
 

@@ -12,7 +12,7 @@ use borrow.Author.Tests.{le-leb, lt-leb}
 use Rattle.field.specs.declared.Field.{Field}
 use Rattle.field.specs.Field.{degree}
 use Rattle.layout.specs.declared.Plan.{Plan}
-use Rattle.layout.specs.Plan.{coveredOf, bits, field, level, covered, Valid}
+use Rattle.layout.specs.Plan.{bits, field, level, covered, Valid}
 use Rattle.code.specs.Word.{Word, flipped, ones, zeros, zerosTo, Below}
 use Rattle.code.specs.Outcome.{erasedCount}
 use Rattle.code.specs.Generator.{remainder}
@@ -20,13 +20,13 @@ use Rattle.code.proofs.Zeros.{zerosTo-few, zerosTo-many}
 use Rattle.code.specs.Locations.{nowhere, locate}
 use Rattle.code.proofs.Remainder.{remainder-below}
 use Rattle.code.proofs.Locations.{exponents-locate, listed-length, listed-below}
-use Rattle.bch.specs.Locating.{Locatable}
-use Rattle.bch.proofs.Locating.{zero-located}
+use Rattle.decoder.specs.Locating.{Locatable}
+use Rattle.decoder.proofs.Locating.{zero-located}
 use Rattle.page_plan.proofs.Plans.{block-fits}
 use Rattle.page_theory.specs.Page.{blockWord}
 use Rattle.page_theory.specs.Reading.{GivesAt, RefusedAt}
 use Rattle.page_theory.proofs.Outcomes.{exponents-gives, zeros-gives, zeros-refuses}
-use Rattle.page_decide.specs.Looking.{remainderAt, LocatedAt}
+use Rattle.page_decide.specs.Scanning.{remainderAt, LocatedAt}
 use Rattle.page_decide.specs.Deciding.{erasedAt}
 
 -- every word is a codeword of the level 0
@@ -39,8 +39,7 @@ remainder-none f t w e =
 -- a block has room for its parity
 pub block-locatable : (q : Plan) → Valid q → (b x : ℕ) → b < q .blocks → x < 2 ^ (degree (field q b) * level q b)
     → Locatable (field q b) (level q b) (covered q b) x
-unfolding coveredOf
-block-locatable q v b x inside low = record { fits = block-fits q v b inside; room = omega arith; low = low }
+block-locatable q v b x inside low = record { fits = block-fits q v b inside; room = omega (arith, v .sums b); low = low }
 
 module _ (q : Plan) (page : List ℕ) where
   pub remainderAt-none : (b : ℕ) → level q b ≡ 0 → remainderAt q page b ≡ 0
@@ -62,19 +61,28 @@ module _ (q : Plan) (page : List ℕ) where
 
     -- with no set located, the count of an erased block tells which it is
     module _ (e : locate (field q b) (level q b) (covered q b) (remainderAt q page b) ≡ nowhere) where
-      pub nowhere-erased : (erasedAt q page b ≡ 0 → ⊥) → (128 ≤ erasedAt q page b) × GivesAt q page b (replicate (bits q b) true) (erasedAt q page b)
+      pub nowhere-erased : erasedAt q page b < 255 → GivesAt q page b (replicate (bits q b) true) (erasedAt q page b)
       unfolding remainderAt erasedAt
       nowhere-erased h = elim (decLe (zeros (blockWord q page b)) (level q b)) [
-        | yes l ↦ rw (le-leb (zeros (blockWord q page b)) (level q b) l) (unfold erasedCount in omega arith, zeros-gives q page v b inside e l)
-        | no l ↦ absurd (h (rw (lt-leb (zeros (blockWord q page b)) (level q b) (omega arith))))
+        | yes l ↦ rw (le-leb (zeros (blockWord q page b)) (level q b) l) (zeros-gives q page v b inside e l)
+        | no l ↦ absurd (let k : 255 < 255 = rw (lt-leb (zeros (blockWord q page b)) (level q b) (omega arith)) at h in omega arith)
       ]
 
-      pub nowhere-ruined : erasedAt q page b ≡ 0 → RefusedAt q page b
+      pub nowhere-ruined : 255 ≤ erasedAt q page b → RefusedAt q page b
       unfolding remainderAt erasedAt erasedCount
       nowhere-ruined h = elim (decLe (zeros (blockWord q page b)) (level q b)) [
-        | yes l ↦ (let k : 128 + zeros (blockWord q page b) ≡ 0 = rw (le-leb (zeros (blockWord q page b)) (level q b) l) at h in absurd (omega arith))
+        | yes l ↦ (let k : 255 ≤ 128 + zeros (blockWord q page b) = rw (le-leb (zeros (blockWord q page b)) (level q b) l) at h in
+            absurd (omega (arith, v .strong b inside)))
         | no l ↦ zeros-refuses q page v b inside e (omega arith)
       ]
+
+    -- such a count is no number of flips, and fits a byte
+    pub erasedAt-range : (128 ≤ erasedAt q page b) × (erasedAt q page b ≤ 255)
+    unfolding erasedAt erasedCount
+    erasedAt-range = elim (decLe (zeros (blockWord q page b)) (level q b)) [
+      | yes l ↦ (let t = v .strong b inside in rw (le-leb (zeros (blockWord q page b)) (level q b) l) (omega arith, omega arith))
+      | no l ↦ rw (lt-leb (zeros (blockWord q page b)) (level q b) (omega arith)) (omega arith, omega arith)
+    ]
 
   -- the count of an erased block, from its zeros counted up to t + 1
   pub erasedAt-few : (b : ℕ) {z t : ℕ} → t ≡ level q b → z ≡ zerosTo (t + 1) (blockWord q page b) → z ≤ t → 128 + z ≡ erasedAt q page b
@@ -85,7 +93,7 @@ module _ (q : Plan) (page : List ℕ) where
       let s : z ≡ zeros w = ez ∙ ap (λ n. zerosTo n w) (add-one t) ∙ zerosTo-few t w k in
       rw (le-leb (zeros w) (level q b) (omega arith)) (ap (λ n. 128 + n) s)
 
-  pub erasedAt-many : (b : ℕ) {z t : ℕ} → t ≡ level q b → z ≡ zerosTo (t + 1) (blockWord q page b) → t < z → 0 ≡ erasedAt q page b
+  pub erasedAt-many : (b : ℕ) {z t : ℕ} → t ≡ level q b → z ≡ zerosTo (t + 1) (blockWord q page b) → t < z → 255 ≡ erasedAt q page b
   unfolding erasedAt
   erasedAt-many b {z} {t} et ez l =
       let w = blockWord q page b in

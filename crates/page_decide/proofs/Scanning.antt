@@ -12,7 +12,7 @@ use Rattle.layout.specs.declared.Plan.{Plan}
 use Rattle.code.specs.Register.{register}
 use Rattle.remainder.specs.declared.Register.{Register}
 use Rattle.page_decide.specs.declared.Scan.{Scan}
-use Rattle.page_decide.specs.Looking.{remainderAt, Scanned}
+use Rattle.page_decide.specs.Scanning.{remainderAt, Scanned}
 
 module _ (q : Plan) (page : List ℕ) where
   -- the blocks from a to b have remainders of zero

@@ -1,3 +1,3 @@
--- What looking over the blocks of a page and deciding them promise.
-pub mod Looking
+-- What looking for damaged blocks and deciding them promise.
+pub mod Scanning
 pub mod Deciding

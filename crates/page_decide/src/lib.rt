@@ -1,20 +1,25 @@
-// Which blocks of a page are damaged, and what repairs each (document 01, "Replies": a block with a codeword within t flips is repaired;
-// document 02, E1: one with none is erased where it has at most t zeros; any other is refused).
+// What becomes of a block of a page (document 01, "Replies": a block with a codeword within t flips is repaired; document 02, E1: one
+// with none is erased where it has at most t zeros; any other is ruined).
 //
-//   look::block_remainder     the remainder of a block
-//   look::first_damaged       the first block whose remainder is not zero, with that remainder
-//   decide::block_outcome     what becomes of a block, by its remainder: the exponents that repair it, or that there are none
-//   decide::erased_count      the count of a block with no codeword near, where it is erased
-//   decide::decide            decides the damaged blocks of a page, up to the first that is ruined
+//   damaged::block_remainder  the remainder of a block
+//   damaged::scan_page        the first damaged block of a page, whose remainder is not zero
+//   damaged::next_damaged     the next one
+//   outcome::block_outcome    what becomes of a block, by its remainder: the exponents that repair it, or that there are none
+//   outcome::block_count      its count: how many exponents, 128 plus the zeros of an erased block, 255 of a ruined one
+//   decide::decide_block      decides a damaged block, with the tables of its field
+//   decide::decide_alone      the same with tables of its own
 //
-// look.rt works out remainders, decide.rt decides the damaged blocks in ascending order, each once, and keeps the exponents that repair
-// them. Nothing is written to what a caller lent; reading and judging go on from here.
+// A block's outcome depends on its shape and its remainder. So what was decided last goes on with the calls: a later block with the
+// remainder of the last decided one, which was a later block too, is not decoded again. Its zeros are counted all the same.
+// Nothing is written to what a caller lent; looking, taking and judging go on from here.
 //
-// specs/ has what the steps promise (Looking, Deciding); proofs/ the laws: Remainders (what the remainder of a block says of it),
+// specs/ has what the steps promise (Scanning, Deciding); proofs/ the laws: Remainders (what the remainder of a block says of it),
 // Scanning (looking for the first damaged block), Deciding.
+pub mod damaged;
 pub mod decide;
-pub mod look;
+pub mod outcome;
 
+use decoder::Found;
 use remainder::Register;
 
 // The first damaged block of those looked at, with its remainder; the number of blocks where there is none.
@@ -23,8 +28,10 @@ pub struct Scan {
     pub remainder: Register,
 }
 
-// What is decided of a page: every block can be repaired, or the lowest that cannot.
-pub enum Decision {
-    Sound,
-    Ruined(u16),
+// A block that was decided: whether it is a later one, its remainder, what was found for it, and its count.
+pub struct Decided {
+    pub later: bool,
+    pub remainder: Register,
+    pub found: Found,
+    pub count: u8,
 }

@@ -1,120 +1,68 @@
-// A page that the tool reads: into buffers, and what its line says.
+// A page that the tool reads: the counts of its blocks, its metadata and data, and what its line says.
 //
-//   read_into    a page, read into the buffers' first bytes
-//   flips_of     the counts of a page, 0 where a block is erased
-//   corrected    the corrected bits of a page that was read
-//   ruined       the blocks of a page that was not, each judged for itself
+//   reading.rt   the calls of the library that look at a page and take it
+//   sums.rt      what the counts of a page come to
+//   lib.rt       a page's line
+mod reading;
+mod sums;
+
 use layout::Plan;
-use page_judge::JudgeAnswer;
-use page_read::ReadAnswer;
+pub use reading::Answer;
+pub use reading::read_into;
 use replies::Refusal;
 use replies::refusal_number;
+pub use sums::RUINED;
+pub use sums::Sums;
+pub use sums::is_erased;
+pub use sums::sums_of;
 
-// Reads a page into the first bytes of the buffers, as many as the plan says.
-pub fn read_into(
-    record: &[u8],
-    plan: Plan,
-    page: &[u8],
-    metadata: &mut [u8],
-    data: &mut [u8],
-    counts: &mut [u8],
-) -> ReadAnswer {
-    let m = plan.metadata as usize;
-    let d = plan.data as usize;
-    let c = plan.blocks as usize;
-    page_read::read_page(
-        record,
-        page,
-        text::front_mut(metadata, m),
-        text::front_mut(data, d),
-        text::front_mut(counts, c),
-    )
-}
-
-// The corrected bits of a block by its count, which is 128 and more where the block is erased.
-fn flips(n: u8) -> u8 {
-    if n < 128 { n } else { 0 }
-}
-
-// The corrected bits of the blocks.
-pub fn flips_of(counts: &[u8; 256]) -> [u8; 256] {
-    let mut all = [0u8; 256];
-    let mut i: usize = 0;
-    while i < 256 {
-        all[i] = flips(counts[i]);
-        i += 1;
-    }
-    all
-}
-
-// A block in a list: its corrected bits, or that it is erased and how many of its bits are zeros.
-fn count(n: u8) {
+// A block in a list, by its count: its corrected bits, that it is erased and how many of its bits are zeros, or that it is ruined.
+fn count(out: &mut [u8; 32768], n: u8) {
     if n < 128 {
-        say::fact(b" ", n as u64, b"");
-    } else {
-        say::fact(b" erased:", (n - 128) as u64, b"");
+        say::fact(out, b" ", n as u64, b"");
+        return;
     }
+    if n == RUINED {
+        say::put(out, b" ruined");
+        return;
+    }
+    say::fact(out, b" erased:", (n - 128) as u64, b"");
 }
 
-fn counts_of(counts: &[u8]) {
+// The blocks of a page one after the other; the line is ended.
+fn by_block(out: &mut [u8; 32768], counts: &[u8]) {
+    say::put(out, b"; by block");
     let mut i = 0;
     while i < counts.len() {
-        count(counts[i]);
+        count(out, counts[i]);
         i += 1;
     }
+    say::put(out, b"\n");
 }
 
-// The corrected bits of a page that was read, in all and by block.
-pub fn corrected(plan: Plan, counts: &[u8; 256]) {
-    let flips = flips_of(counts);
-    say::fact(b"corrected bits ", text::total(&flips), b"");
-    say::fact(
-        b", at most ",
-        text::largest(&flips) as u64,
-        b" in a block; by block",
-    );
-    counts_of(text::front(counts, plan.blocks as usize));
-    say::text(b"\n");
-}
-
-// A block in a list that has no count. Says how many ruined blocks that is.
-fn refused(refusal: Refusal) -> u64 {
-    if let Refusal::Uncorrectable(_) = refusal {
-        say::text(b" ruined");
-        return 1;
+// The rest of a line about a page that is not refused: its corrected bits, or its zeros where every block is erased.
+pub fn blocks(out: &mut [u8; 32768], plan: Plan, sums: Sums, counts: &[u8; 256]) {
+    if is_erased(plan, sums) {
+        say::fact(out, b"erased, zeros ", sums.zeros, b"");
+    } else {
+        say::fact(out, b"corrected bits ", sums.flips, b"");
+        say::fact(out, b", at most ", sums.most as u64, b" in a block");
     }
-    say::fact(b" reply ", refusal_number(refusal) as u64, b"");
-    0
+    by_block(out, text::front(counts, plan.blocks as usize));
 }
 
-// One block in a list: its count, or that it is ruined. Says how many ruined blocks that is.
-fn entry(answer: JudgeAnswer) -> u64 {
-    match answer {
-        JudgeAnswer::Flips(n) => {
-            count(n);
-            0
-        }
-        JudgeAnswer::Refused(refusal) => refused(refusal),
-    }
-}
-
-// The blocks of a page one after the other, each judged for itself. Says how many are ruined.
-fn list(record: &[u8], plan: Plan, page: &[u8]) -> u64 {
-    let n = plan.blocks as u64;
-    let mut ruined = 0;
-    let mut b = 0;
-    while b < n {
-        ruined = text::plus(ruined, entry(page_judge::judge_block(record, page, b)));
-        b += 1;
-    }
-    ruined
-}
-
-// A page that has no codeword in some block: the lowest such block, and each block judged.
-pub fn ruined(record: &[u8], plan: Plan, page: &[u8], block: u16) -> u64 {
-    say::ruined(block);
-    say::text(b"; by block");
-    let n = list(record, plan, page);
-    say::text(b"\n");
-    n
+// The line of a page that is refused. One that has a ruined block has all its blocks shown.
+pub fn refused(
+    out: &mut [u8; 32768],
+    plan: Plan,
+    page: usize,
+    refusal: Refusal,
+    counts: &[u8; 256],
+) {
+    let Refusal::Uncorrectable(block) = refusal else {
+        say::page_refused(out, refusal_number(refusal), page, plan.size, plan.blocks);
+        return;
+    };
+    say::ruined(out, block);
+    by_block(out, text::front(counts, plan.blocks as usize));
 }

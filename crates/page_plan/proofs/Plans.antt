@@ -13,44 +13,44 @@ use Prim.Native.Nat.{ℕ, zero, suc, _+_, _-_, _*_, _≤_, _<_}
 use native.Mathlib.Nat.{eq-zero-or-pos}
 use native.Mathlib.Omega.{arith}
 use lib.ListN.{length, getD}
-use borrow.Author.Tests.{eq-eqb, ne-eqb}
 use Rattle.bits.specs.Bits.{Inside}
+use Rattle.layout.specs.declared.Fields.{Fields}
 use Rattle.layout.specs.declared.Layout.{Layout}
 use Rattle.layout.specs.declared.Shape.{Shape}
 use Rattle.layout.specs.declared.Plan.{Plan}
+use Rattle.layout.specs.declared.Finding.the-variants.{Kept}
 use Rattle.layout.specs.declared.Acceptance.the-variants.{Accepted}
-use Rattle.layout.specs.Record.{blockFields, layoutAt, layoutOf}
-use Rattle.layout.specs.Plan.{shapeOf, laterShape, dataBytes, planOf, shape, field, level, bits, coveredOf, covered, start, from, payload, Valid}
-use Rattle.layout.specs.Acceptance.{acceptance}
-use Rattle.layout.proofs.Plans.{product-le, from-later}
-use Rattle.layout.proofs.Accepting.{Keeps, keeps, plan-valid}
-use Rattle.layout.proofs.Inverse.{accepted-taken}
+use Rattle.layout.specs.Record.{blockFields, fieldsAt, fieldsIn}
+use Rattle.layout.specs.Plan.{shapeWith, shapeOf, dataBytes, planFor, planOf, shape, field, level, bits, covered, start, from, payload, Valid}
+use Rattle.layout.specs.Acceptance.{findingOf, acceptance}
+use Rattle.layout.proofs.Plans.{product-le, later-none, later-some, from-later}
+use Rattle.layout.proofs.Accepting.{Keeps, keeps, plan-valid, accepted-plan, accepted-kept}
 use Rattle.code.specs.Code.{Fits}
 use Rattle.page_theory.proofs.Reading.{from-order}
 use Rattle.page_plan.specs.Plans.{Stored, Planned}
 
-module _ (l : Layout) (k : Keeps l) where
-  first-stored : Stored (planOf l .first)
-  unfolding planOf shapeOf
+module _ (f : Fields) (k : Keeps f (planFor f)) where
+  first-stored : Stored (planFor f .first)
+  unfolding planFor shapeOf shapeWith
   first-stored = record { even = omega arith; small = omega (arith, k .levels) }
 
-  later-stored : Stored (planOf l .later)
-  unfolding planOf laterShape shapeOf
+  later-stored : Stored (planFor f .later)
+  unfolding planFor shapeOf shapeWith
   later-stored =
       ⊎-elim
-      (λ (e : l .nblocks ≡ 0). rw (eq-eqb (l .nblocks) 0 e) (record { even = omega arith; small = omega arith }))
-      (λ (n : 0 < l .nblocks). rw (ne-eqb (l .nblocks) 0 (λ e. omega arith)) (record { even = omega arith; small = omega (arith, k .levels-later n) }))
-      (eq-zero-or-pos (l .nblocks))
+      (λ (e : f .nblocks ≡ 0). rw (later-none f e) (record { even = omega arith; small = omega arith }))
+      (λ (n : 0 < f .nblocks). rw (later-some f n) (record { even = omega arith; small = omega (arith, k .levels-later n) }))
+      (eq-zero-or-pos (f .nblocks))
 
 -- What a record of bytes can hold.
-record Ranges (l : Layout) : Type 0 where
-  nblocks : l .nblocks < 256
-  metadata : l .metadata < 256
-  first : l .first .units < 1024
-  later : l .later .units < 1024
+record Ranges (f : Fields) : Type 0 where
+  nblocks : f .nblocks < 256
+  metadata : f .metadata < 256
+  first : f .first .units < 1024
+  later : f .later .units < 1024
 
-ranges : (rec : List ℕ) → ((i : ℕ) → getD rec i 0 < 256) → Ranges (layoutOf rec)
-unfolding layoutOf layoutAt blockFields
+ranges : (rec : List ℕ) → ((i : ℕ) → getD rec i 0 < 256) → Ranges (fieldsIn rec)
+unfolding fieldsIn fieldsAt blockFields
 ranges rec b = record {
   nblocks = b 0;
   metadata = b 1;
@@ -58,24 +58,25 @@ ranges rec b = record {
   later = omega (arith, b 6, b 7);
 }
 
-pub accepted-planned : (rec : List ℕ) (l : Layout) → ((i : ℕ) → getD rec i 0 < 256) → acceptance rec ≡ Accepted l → Planned (planOf l)
-unfolding planOf dataBytes
-accepted-planned rec l b e =
-    let t = accepted-taken rec l e in
-    let k = keeps l (t .kept) in
-    let r : Ranges l = rw (t .fields) (ranges rec b) in
+fields-planned : (f : Fields) → Ranges f → findingOf f (planFor f) ≡ Kept → Planned (planFor f)
+unfolding planFor dataBytes
+fields-planned f r e =
+    let k = keeps f (planFor f) e in
     let n = r .nblocks in
-    let f = r .first in
-    let p = product-le 255 1023 {a = l .nblocks} {b = l .later .units} (omega arith) (omega (arith, r .later)) in
+    let u = r .first in
+    let p = product-le 255 1023 {a = f .nblocks} {b = f .later .units} (omega arith) (omega (arith, r .later)) in
     record {
-      valid = plan-valid l (t .kept);
-      first = first-stored l k;
-      later = later-stored l k;
+      valid = plan-valid f e;
+      first = first-stored f k;
+      later = later-stored f k;
       some = omega arith;
       few = omega arith;
       metadata = r .metadata;
       «data» = omega arith;
     }
+
+pub accepted-planned : (rec : List ℕ) (l : Layout) → ((i : ℕ) → getD rec i 0 < 256) → acceptance rec ≡ Accepted l → Planned (planOf l)
+accepted-planned rec l b e = rw (accepted-plan rec l e) (fields-planned (fieldsIn rec) (ranges rec b) (accepted-kept rec l e))
 
 pub shape-stored : (q : Plan) (b : ℕ) → Planned q → Stored (shape q b)
 unfolding shape
@@ -86,11 +87,11 @@ pub block-fits : (q : Plan) → Valid q → (b : ℕ) → b < q .blocks → Fits
 block-fits q v b inside = record { short = v .short b inside; level = v .strong b inside }
 
 module _ (q : Plan) (planned : Planned q) (b : ℕ) (inside : b < q .blocks) {s : Shape} (es : s ≡ shape q b) where
-  pub shape-fits : Fits (s .field) (s .level) (coveredOf s)
+  pub shape-fits : Fits (s .field) (s .level) (s .covered)
   shape-fits = rw es (block-fits q (planned .valid) b inside)
 
   pub block-inside : {page : List ℕ} {position : ℕ} → length page ≡ q .size → q .size < 65536 → position ≡ start q b
-      → Inside page position (coveredOf s)
+      → Inside page position (s .covered)
   block-inside h x e = let k = planned .valid .ends b inside in rw (e, es) (record { ends = omega arith; fits = omega arith })
 
 module _ (q : Plan) where

@@ -1,4 +1,2 @@
--- The laws behind taking messages out of a page.
-pub mod Messages
-pub mod Flipping
+-- The laws behind taking a page.
 pub mod Ends

@@ -1,2 +1,2 @@
--- What taking messages out of a page promises.
-pub mod Taking
+-- The answer to a take.
+pub mod Answers

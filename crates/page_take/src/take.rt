@@ -1,153 +1,105 @@
-// Taking metadata and data out of a page: the messages as they stand in it, then the kept exponents flipped and the messages of erased
-// blocks filled with ones, then the counts.
+// Taking metadata and data out of a page: every block is decided before any byte is written.
 ghost use mathlib.Core.Path.{_≡_};
-ghost use mathlib.Core.List.{[], _∷_, _++_};
-ghost use Prim.Native.Nat.{_≤_, _<_};
+ghost use Prim.Native.Nat.{_<_};
 ghost use lib.ListN.{length};
-ghost use Rattle.bits.specs.Bits.{placed};
-ghost use Rattle.layout.specs.Plan.{covered};
-ghost use Rattle.code.specs.Word.{Below};
+ghost use Rattle.division_table.specs.Table.{Table};
+ghost use Rattle.replies.specs.Replies.{verdictNumber};
+ghost use Rattle.page_theory.specs.Calls.{takeEnded, takeReply, takeIn, takeOf};
 ghost use Rattle.page_plan.specs.Plans.{Planned, Ready};
-ghost use Rattle.payload.specs.Payload.{Joined};
-ghost use Rattle.page_decide.specs.Deciding.{kept, Kept};
-ghost use Rattle.page_take.specs.Taking.{texts, FlippedIn, FilledIn, RestoredIn, RestoredAll, Counted};
+ghost use Rattle.page_decide.specs.Scanning.{Scanned};
+ghost use Rattle.page_take.specs.Answers.{takeNumber, takeBlock};
+use crate::TakeAnswer;
+use layout::Acceptance;
 use layout::Plan;
-use layout::block_covered;
-use layout::block_shape;
-use layout::block_start;
-use page_plan::message_start;
-use payload::copy_to;
+use layout::check_layout;
+use layout::plan_of;
+use layout::refusal_of;
+use page_copy::copy_clean;
+use page_copy::copy_decided;
+use page_decide::Scan;
+use page_decide::damaged::scan_page;
+use page_keep::Decision;
+use page_keep::keep_damaged;
+use replies::Refusal;
+use replies::Verdict;
 
-// Copies the messages of all blocks out as they stand in the page.
-pub fn copy_messages(plan: Plan, page: &[u8], metadata: &mut [u8], data: &mut [u8])
+// What the lengths that are lent to a take are refused for.
+fn take_reply(plan: Plan, page: usize, metadata: usize, data: usize) -> Verdict
+    ensures { λ r. ⌜ verdictNumber r ≡ takeReply plan page metadata «data» ⌝ }
+{
+    if page != plan.size as usize {
+        return Verdict::Refused(Refusal::PageLength);
+    }
+    if metadata != plan.metadata as usize {
+        return Verdict::Refused(Refusal::BufferLength);
+    }
+    if data != plan.data as usize {
+        return Verdict::Refused(Refusal::BufferLength);
+    }
+    Verdict::Passed
+}
+
+// Takes a page of which `scan` is the first damaged block; `table` is that of the later blocks' generator. The places are here, since
+// only a damaged page needs them.
+fn take_damaged(
+    plan: Plan,
+    page: &[u8],
+    scan: Scan,
+    table: &[u64],
+    metadata: &mut [u8],
+    data: &mut [u8],
+) -> TakeAnswer
     requires { ⌜ (Ready plan (now page)) × (length (now metadata) ≡ plan .metadata) × (length (now «data») ≡ plan .«data») ⌝ }
-    ensures { λ r. ⌜ Joined (now (metadata .entry)) (now («data» .entry)) (now (metadata .exit)) (now («data» .exit))
-        (placed (now (metadata .entry) ++ now («data» .entry)) 0 (texts plan (now (page .entry)) (plan .blocks))) ⌝ }
+    requires { ⌜ (Scanned plan (now page) 0 scan) × (Table (plan .later .field) (plan .later .level) (now table)) × (scan .block < plan .blocks) ⌝ }
+    ensures { λ r. ⌜ takeEnded (takeNumber r) (takeBlock r) (now (metadata .exit)) (now («data» .exit))
+        ≡ takeIn plan (now (page .entry)) (now (metadata .entry)) (now («data» .entry)) ⌝ }
 {
-    let blocks = plan.blocks;
-    let mut b = 0;
-    while b < blocks {
-        let shape = block_shape(plan, b);
-        let n = shape.message as usize;
-        let start = block_start(plan, b);
-        let position = message_start(plan, b);
-        copy_to(page, start, metadata, data, position, n);
-        b += 1;
+    let mut places = [0u16; 16384];
+    let mut flips = [0u8; 256];
+    match keep_damaged(plan, page, scan, table, &mut places, &mut flips) {
+        Decision::Ruined(block) => TakeAnswer::Refused(Refusal::Uncorrectable(block)),
+        Decision::Sound => {
+            copy_decided(plan, page, &places, &flips, metadata, data);
+            TakeAnswer::Done
+        }
     }
 }
 
-// Flips the bit of the payload that is the coefficient of x^p of a block. A bit of the parity lies in no output.
-fn flip_place(plan: Plan, block: u16, p: u16, metadata: &mut [u8], data: &mut [u8])
-    requires { ⌜ (Planned plan) × (block < plan .blocks) × (p < covered plan block) ⌝ }
-    requires { ⌜ (length (now metadata) ≡ plan .metadata) × (length (now «data») ≡ plan .«data») ⌝ }
-    ensures { λ r. ⌜ FlippedIn plan block (p ∷ []) (now (metadata .entry)) (now («data» .entry)) (now (metadata .exit)) (now («data» .exit)) ⌝ }
+// Takes a page where the lengths are right.
+fn take_lent(plan: Plan, page: &[u8], metadata: &mut [u8], data: &mut [u8]) -> TakeAnswer
+    requires { ⌜ (Ready plan (now page)) × (length (now metadata) ≡ plan .metadata) × (length (now «data») ≡ plan .«data») ⌝ }
+    ensures { λ r. ⌜ takeEnded (takeNumber r) (takeBlock r) (now (metadata .exit)) (now («data» .exit))
+        ≡ takeIn plan (now (page .entry)) (now (metadata .entry)) (now («data» .entry)) ⌝ }
 {
-    let shape = block_shape(plan, block);
-    let bits = shape.message as usize;
-    let n = block_covered(plan, block);
-    let start = message_start(plan, block);
-    let j = n - 1 - p as usize;
-    if j < bits {
-        payload::flip(metadata, data, start + j);
+    let mut table = [0u64; 3600];
+    let scan = scan_page(plan, page, &mut table);
+    let block = scan.block;
+    if block == plan.blocks {
+        copy_clean(plan, page, metadata, data);
+        return TakeAnswer::Done;
+    }
+    take_damaged(plan, page, scan, &table, metadata, data)
+}
+
+// Takes a page under the plan of an accepted layout.
+fn take_in(plan: Plan, page: &[u8], metadata: &mut [u8], data: &mut [u8]) -> TakeAnswer
+    requires { ⌜ Planned plan ⌝ }
+    ensures { λ r. ⌜ takeEnded (takeNumber r) (takeBlock r) (now (metadata .exit)) (now («data» .exit))
+        ≡ takeIn plan (now (page .entry)) (now (metadata .entry)) (now («data» .entry)) ⌝ }
+{
+    match take_reply(plan, page.len(), metadata.len(), data.len()) {
+        Verdict::Refused(refusal) => TakeAnswer::Refused(refusal),
+        Verdict::Passed => take_lent(plan, page, metadata, data),
     }
 }
 
-// Flips the bits of the payload at the first n exponents that are kept for a block.
-fn flip_block(
-    plan: Plan,
-    block: u16,
-    places: &[u16; 16384],
-    n: usize,
-    metadata: &mut [u8],
-    data: &mut [u8],
-)
-    requires { ⌜ (Planned plan) × (block < plan .blocks) × (n ≤ 64) × (Below (covered plan block) (kept (now places) block n)) ⌝ }
-    requires { ⌜ (length (now metadata) ≡ plan .metadata) × (length (now «data») ≡ plan .«data») ⌝ }
-    ensures { λ r. ⌜ FlippedIn plan block (kept (now (places .entry)) block n)
-        (now (metadata .entry)) (now («data» .entry)) (now (metadata .exit)) (now («data» .exit)) ⌝ }
+// Takes metadata and data out of a page. `words` is the layout record.
+pub fn take_page(words: &[u8], page: &[u8], metadata: &mut [u8], data: &mut [u8]) -> TakeAnswer
+    ensures { λ r. ⌜ takeEnded (takeNumber r) (takeBlock r) (now (metadata .exit)) (now («data» .exit))
+        ≡ takeOf (now (words .entry)) (now (page .entry)) (now (metadata .entry)) (now («data» .entry)) ⌝ }
 {
-    let at = 64 * block as usize;
-    let mut i = 0;
-    while i < n {
-        let k = at + i;
-        let p = places[k];
-        flip_place(plan, block, p, metadata, data);
-        i += 1;
-    }
-}
-
-// Fills the message of a block with ones.
-fn fill_block(plan: Plan, block: u16, metadata: &mut [u8], data: &mut [u8])
-    requires { ⌜ (Planned plan) × (block < plan .blocks) ⌝ }
-    requires { ⌜ (length (now metadata) ≡ plan .metadata) × (length (now «data») ≡ plan .«data») ⌝ }
-    ensures { λ r. ⌜ FilledIn plan block (now (metadata .entry)) (now («data» .entry)) (now (metadata .exit)) (now («data» .exit)) ⌝ }
-{
-    let shape = block_shape(plan, block);
-    let n = shape.message as usize;
-    let start = message_start(plan, block);
-    payload::fill(metadata, data, start, n);
-}
-
-// Restores the message of a block with the count n: flips its kept exponents, or fills it where the block is erased.
-fn restore_block(
-    plan: Plan,
-    block: u16,
-    places: &[u16; 16384],
-    n: usize,
-    metadata: &mut [u8],
-    data: &mut [u8],
-)
-    requires { ⌜ (Planned plan) × (block < plan .blocks) × (n < 128 → n ≤ 64) × (n < 128 → Below (covered plan block) (kept (now places) block n)) ⌝ }
-    requires { ⌜ (length (now metadata) ≡ plan .metadata) × (length (now «data») ≡ plan .«data») ⌝ }
-    ensures { λ r. ⌜ RestoredIn plan block (now (places .entry)) n
-        (now (metadata .entry)) (now («data» .entry)) (now (metadata .exit)) (now («data» .exit)) ⌝ }
-{
-    if n < 128 {
-        flip_block(plan, block, places, n, metadata, data);
-        return;
-    }
-    fill_block(plan, block, metadata, data);
-}
-
-// A count as a number of places.
-fn wide(count: u8) -> usize
-    ensures { λ r. ⌜ r ≡ count ⌝ }
-{
-    count as usize
-}
-
-// Restores the messages of all blocks; `flips` has the count of each.
-pub fn restore_blocks(
-    plan: Plan,
-    places: &[u16; 16384],
-    flips: &[u8; 256],
-    metadata: &mut [u8],
-    data: &mut [u8],
-)
-    requires { ⌜ (Planned plan) × (Kept plan (now places) (now flips)) ⌝ }
-    requires { ⌜ (length (now metadata) ≡ plan .metadata) × (length (now «data») ≡ plan .«data») ⌝ }
-    ensures { λ r. ⌜ RestoredAll plan (plan .blocks) (now (places .entry)) (now (flips .entry))
-        (now (metadata .entry)) (now («data» .entry)) (now (metadata .exit)) (now («data» .exit)) ⌝ }
-{
-    let blocks = plan.blocks;
-    let mut b: u16 = 0;
-    while b < blocks {
-        let i = b as usize;
-        let n = wide(flips[i]);
-        restore_block(plan, b, places, n, metadata, data);
-        b += 1;
-    }
-}
-
-// Writes the counts: how many exponents are kept for each block.
-pub fn write_counts(counts: &mut [u8], flips: &[u8; 256])
-    requires { ⌜ length (now counts) ≤ 256 ⌝ }
-    ensures { λ r. ⌜ Counted (now (counts .entry)) (now (flips .entry)) (now (counts .exit)) ⌝ }
-{
-    let n = counts.len();
-    let mut b: usize = 0;
-    while b < n {
-        counts[b] = flips[b];
-        b += 1;
+    match check_layout(words) {
+        Acceptance::Accepted(layout) => take_in(plan_of(layout), page, metadata, data),
+        Acceptance::Refused(refusal) => TakeAnswer::Refused(refusal_of(refusal)),
     }
 }

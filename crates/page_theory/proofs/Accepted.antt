@@ -12,45 +12,47 @@ use Rattle.layout.specs.declared.Finding.{Finding}
 use Rattle.layout.specs.declared.Finding.the-variants.{Kept, Broken}
 use Rattle.layout.specs.declared.Refusal.the-variants as refusal
 use Rattle.layout.specs.declared.Acceptance.the-variants.{Accepted, Refused}
-use Rattle.layout.specs.Record.{layoutOf}
+use Rattle.layout.specs.Record.{fieldsIn, layoutOf}
 use Rattle.layout.specs.Plan.{planOf, Valid}
 use Rattle.layout.specs.Acceptance.{findingOf, judged, acceptance}
 use Rattle.layout.specs.Answers as numbers
 use Rattle.layout.specs.Answers.{acceptanceNumbers}
-use Rattle.layout.proofs.Accepting.{plan-valid}
+use Rattle.layout.proofs.Accepting.{accepted-valid}
 use Rattle.layout.proofs.Numbers.{refusal-reply-range}
 use Rattle.page_theory.specs.Damage.{Accepts}
-use Rattle.page_theory.specs.Calls.{writeIn, writeFor, writeOf, readIn, readFor, readOf, judgeIn, judgeFor, judgeOf, claimIn, claimFor, claimOf}
+use Rattle.page_theory.specs.Calls.{writeIn, writeFor, writeOf, lookIn, lookFor, lookOf, takeIn, takeFor, takeOf}
+use Rattle.page_theory.specs.Calls.{judgeIn, judgeFor, judgeOf, claimIn, claimFor, claimOf}
 
 pub accepted-accepts : (rec : List ℕ) (l : Layout) → acceptance rec ≡ Accepted l → Accepts rec (planOf (layoutOf rec))
 unfolding acceptanceNumbers numbers.done
 accepted-accepts rec l e = record { reply = rw e; plan = refl }
 
 module _ (rec : List ℕ) (q : Plan) (h : Accepts rec q) where
-  accepts-both : (findingOf (layoutOf rec) ≡ Kept) × (acceptance rec ≡ Accepted (layoutOf rec))
+  pub accepts-layout : acceptance rec ≡ Accepted (layoutOf rec)
   unfolding acceptance judged acceptanceNumbers numbers.done numbers.refused
-  accepts-both = go (eqb (length rec) 8) (findingOf (layoutOf rec)) (h .reply)
+  accepts-layout = go (eqb (length rec) 8) (findingOf (fieldsIn rec) (planOf (layoutOf rec))) (h .reply)
     where
       go : (b : Bool) (f : Finding)
           → acceptanceNumbers (cond b (judged (layoutOf rec) f) (Refused refusal.RecordLength)) .reply ≡ 0
-          → (f ≡ Kept) × (cond b (judged (layoutOf rec) f) (Refused refusal.RecordLength) ≡ Accepted (layoutOf rec))
+          → cond b (judged (layoutOf rec) f) (Refused refusal.RecordLength) ≡ Accepted (layoutOf rec)
       go false f e = absurd (omega (arith, refusal-reply-range refusal.RecordLength .0))
-      go true Kept e = (refl, refl)
+      go true Kept e = refl
       go true (Broken r) e = absurd (omega (arith, refusal-reply-range (refusal.Rule r) .0))
 
-  pub accepts-layout : acceptance rec ≡ Accepted (layoutOf rec)
-  accepts-layout = accepts-both .1
-
   pub accepts-valid : Valid q
-  accepts-valid = rw (h .plan) (plan-valid (layoutOf rec) (accepts-both .0))
+  accepts-valid = rw (h .plan) (accepted-valid rec (layoutOf rec) accepts-layout)
 
   pub write-accepted : (m d page : List ℕ) → writeOf rec m d page ≡ writeIn q m d page
   unfolding writeOf writeFor
   write-accepted m d page = rw (accepts-layout, h .plan)
 
-  pub read-accepted : (page m d c : List ℕ) → readOf rec page m d c ≡ readIn q page m d c
-  unfolding readOf readFor
-  read-accepted page m d c = rw (accepts-layout, h .plan)
+  pub look-accepted : (page c : List ℕ) → lookOf rec page c ≡ lookIn q page c
+  unfolding lookOf lookFor
+  look-accepted page c = rw (accepts-layout, h .plan)
+
+  pub take-accepted : (page m d : List ℕ) → takeOf rec page m d ≡ takeIn q page m d
+  unfolding takeOf takeFor
+  take-accepted page m d = rw (accepts-layout, h .plan)
 
   pub judge-accepted : (page : List ℕ) (b : ℕ) → judgeOf rec page b ≡ judgeIn q page b
   unfolding judgeOf judgeFor

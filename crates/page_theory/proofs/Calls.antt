@@ -8,18 +8,22 @@ use native.Mathlib.Decide.{decLt}
 use native.Mathlib.Nat.{zero-add}
 use lib.ListN.{length, getD, length-append, List·getD-append}
 use lib.Seq.{getD-append-add}
-use borrow.Author.Tests.{eq-eqb}
+use borrow.Author.Tests.{eq-eqb, ne-eqb}
 use Rattle.bits.specs.Bits.{bitAt, bitOf, run, Bytes}
-use Rattle.bits.proofs.Runs.{run-at, run-ext}
+use Rattle.bits.proofs.Runs.{run-at}
 use Rattle.bits.proofs.Pages.{bytes-bytes, bytes-bit, bytes-ext}
 use Rattle.layout.specs.declared.Plan.{Plan}
 use Rattle.layout.specs.Plan.{payload, Valid}
 use Rattle.code.specs.Word.{Word}
+use Rattle.code.proofs.Outcome.{gives-sound}
 use Rattle.page_theory.specs.Page.{message, pageOf}
-use Rattle.page_theory.specs.Reading.{GivesAt, Lowest, reading, done}
-use Rattle.page_theory.specs.Damage.{Payload, Outputs}
-use Rattle.page_theory.specs.Calls.{writeEnded, writeReply, writeIn, readEnded, readReply, bytesAt, readBy, readIn}
-use Rattle.page_theory.proofs.Reading.{gives-reading, lowest-refused}
+use Rattle.page_theory.specs.Reading.{GivesAt, RefusedAt, Lowest, Reading, reading, done, refused, counts}
+use Rattle.page_theory.specs.Damage.{Payload}
+use Rattle.page_theory.specs.Demands.{of-given}
+use Rattle.page_theory.specs.Calls.{writeEnded, writeReply, writeIn}
+use Rattle.page_theory.specs.Calls.{lookEnded, lookReply, lookBy, lookIn}
+use Rattle.page_theory.specs.Calls.{takeEnded, takeReply, bytesAt, takeBy, takeIn}
+use Rattle.page_theory.proofs.Reading.{gives-reading, lowest-refused, sound-reading, reports-list}
 
 -- bits of metadata followed by data
 
@@ -67,6 +71,21 @@ bytesAt-join w k n p h = let c = bytesAt-bytes w 0 k .count in elim (decLt p (8 
       ∙ bytesAt-bit w (8 * k) n (p - 8 * k) (omega arith) ∙ ap (λ i. getD w i false) f)
 ]
 
+-- Reply and block of a look and of a take, by what the page turns out to be.
+pub data Replied : Reading → ℕ → ℕ → Type 0 where
+  whole : (w : Word) → Replied (done w) 0 0
+  named : (b : ℕ) → Replied (refused b) 9 b
+
+pub look-replied : (r : Reading) (c : List ℕ) → Replied r (lookBy r c .reply) (lookBy r c .block)
+unfolding lookBy
+look-replied (done w) c = whole w
+look-replied (refused b) c = named b
+
+pub take-replied : (q : Plan) (r : Reading) (m d : List ℕ) → Replied r (takeBy q r m d .reply) (takeBy q r m d .block)
+unfolding takeBy
+take-replied q (done w) m d = whole w
+take-replied q (refused b) m d = named b
+
 module _ (q : Plan) where
   -- Writing.
 
@@ -80,23 +99,59 @@ module _ (q : Plan) where
   unfolding writeIn
   write-right m d page a h = rw (writeReply-right m d page a (h .metadata .count) (h .«data» .count))
 
-  -- Reading.
+  -- Looking.
 
-  pub readReply-right : (page m d c : List ℕ) → length page ≡ q .size → Outputs q m d c
-      → readReply q (length page) (length m) (length d) (length c) ≡ 0
-  unfolding readReply
-  readReply-right page m d c a h =
-      rw (
-        eq-eqb (length page) (q .size) a,
-        eq-eqb (length m) (q .metadata) (h .metadata),
-        eq-eqb (length d) (q .«data») (h .«data»),
-        eq-eqb (length c) (q .blocks) (h .counts),
-      )
+  pub lookReply-right : (page lent : List ℕ) → length page ≡ q .size → length lent ≡ q .blocks → lookReply q (length page) (length lent) ≡ 0
+  unfolding lookReply
+  lookReply-right page lent a b = rw (eq-eqb (length page) (q .size) a, eq-eqb (length lent) (q .blocks) b)
 
-  pub read-right : (page m d c : List ℕ) → length page ≡ q .size → Outputs q m d c
-      → readIn q page m d c ≡ readBy q (reading q page) m d c
-  unfolding readIn
-  read-right page m d c a h = rw (readReply-right page m d c a h)
+  pub look-right : (page lent : List ℕ) → length page ≡ q .size → length lent ≡ q .blocks → lookIn q page lent ≡ lookBy (reading q page) (counts q page)
+  unfolding lookIn
+  look-right page lent a b = rw (lookReply-right page lent a b)
+
+  -- wrong lengths leave what was lent
+  pub look-wrong : (page lent : List ℕ) → (lookReply q (length page) (length lent) ≡ 0 → ⊥)
+      → lookIn q page lent ≡ lookEnded (lookReply q (length page) (length lent)) 0 lent
+  unfolding lookIn
+  look-wrong page lent h = rw (ne-eqb (lookReply q (length page) (length lent)) 0 h)
+
+  -- One who looks and finds no block ruined has looked at the whole page.
+  pub look-sound : (page lent : List ℕ) → length page ≡ q .size → length lent ≡ q .blocks
+      → ((b : ℕ) → b < q .blocks → RefusedAt q page b → ⊥) → lookIn q page lent ≡ lookEnded 0 0 (counts q page)
+  unfolding lookBy reading
+  look-sound page lent a b h = let s = sound-reading q page h in look-right page lent a b ∙ rw (s .same)
+
+  -- One who shows of each block a count that it gives has looked at the whole page.
+  pub look-gives : Valid q → (page c : List ℕ) (m : ℕ → Word) → length page ≡ q .size → length c ≡ q .blocks
+      → ((b : ℕ) → b < q .blocks → GivesAt q page b (m b) (getD c b 0))
+      → (lent : List ℕ) → length lent ≡ q .blocks → lookIn q page lent ≡ lookEnded 0 0 c
+  look-gives v page c m a n g lent l =
+      look-sound page lent a l (λ b i. gives-sound _ _ _ _ _ _ (g b i))
+      ∙ ap (lookEnded 0 0) (reports-list q v page c n (λ b i. of-given (m b) (g b i)))
+
+  -- One who shows the lowest ruined block has refused the page.
+  pub look-refuses : (page lent : List ℕ) (b : ℕ) → length page ≡ q .size → length lent ≡ q .blocks → Lowest q page b
+      → lookIn q page lent ≡ lookEnded 9 b (counts q page)
+  unfolding lookBy
+  look-refuses page lent b a l h = look-right page lent a l ∙ rw (lowest-refused q page b h)
+
+  -- Taking.
+
+  pub takeReply-right : (page m d : List ℕ) → length page ≡ q .size → length m ≡ q .metadata → length d ≡ q .«data»
+      → takeReply q (length page) (length m) (length d) ≡ 0
+  unfolding takeReply
+  takeReply-right page m d a b c = rw (eq-eqb (length page) (q .size) a, eq-eqb (length m) (q .metadata) b, eq-eqb (length d) (q .«data») c)
+
+  pub take-right : (page m d : List ℕ) → length page ≡ q .size → length m ≡ q .metadata → length d ≡ q .«data»
+      → takeIn q page m d ≡ takeBy q (reading q page) m d
+  unfolding takeIn
+  take-right page m d a b c = rw (takeReply-right page m d a b c)
+
+  -- wrong lengths leave what was lent
+  pub take-wrong : (page m d : List ℕ) → (takeReply q (length page) (length m) (length d) ≡ 0 → ⊥)
+      → takeIn q page m d ≡ takeEnded (takeReply q (length page) (length m) (length d)) 0 m d
+  unfolding takeIn
+  take-wrong page m d h = rw (ne-eqb (takeReply q (length page) (length m) (length d)) 0 h)
 
   pub bytesAt-metadata : (m d : List ℕ) → Payload q m d → bytesAt (run (bitOf (m ++ d)) 0 (8 * payload q)) 0 (q .metadata) ≡ m
   unfolding payload
@@ -111,23 +166,22 @@ module _ (q : Plan) where
       sym (run-at (bitOf (m ++ d)) 0 (8 * (q .metadata + q .«data»)) (8 * q .metadata + p) false (omega arith)
       ∙ rw (zero-add (8 * q .metadata + p), ← l) (bitOf-second m d p)))
 
-  pub readBy-payload : (m d : List ℕ) → Payload q m d → (c old-m old-d old-c : List ℕ)
-      → readBy q (done (run (bitOf (m ++ d)) 0 (8 * payload q)) c) old-m old-d old-c ≡ readEnded 0 0 m d c
-  unfolding readBy
-  readBy-payload m d h c old-m old-d old-c = rw (bytesAt-metadata m d h, bytesAt-data m d h)
+  pub takeBy-payload : (m d : List ℕ) → Payload q m d → (old-m old-d : List ℕ)
+      → takeBy q (done (run (bitOf (m ++ d)) 0 (8 * payload q))) old-m old-d ≡ takeEnded 0 0 m d
+  unfolding takeBy
+  takeBy-payload m d h old-m old-d = rw (bytesAt-metadata m d h, bytesAt-data m d h)
 
-  -- A reader that shows of each block what it gives has read the page.
-  pub read-gives : Valid q → (page m d c : List ℕ) → length page ≡ q .size → Payload q m d → length c ≡ q .blocks
-      → ((b : ℕ) → b < q .blocks → GivesAt q page b (message q (m ++ d) b) (getD c b 0))
-      → (old-m old-d old-c : List ℕ) → Outputs q old-m old-d old-c → readIn q page old-m old-d old-c ≡ readEnded 0 0 m d c
-  read-gives v page m d c a h n g old-m old-d old-c o =
-      read-right page old-m old-d old-c a o
-      ∙ ap (λ r. readBy q r old-m old-d old-c) (gives-reading q v (m ++ d) page (λ b. getD c b 0) g)
-      ∙ readBy-payload m d h _ old-m old-d old-c
-      ∙ ap (readEnded 0 0 m d) (run-ext (λ b. getD c b 0) 0 c (q .blocks) 0 n (λ b k. rw (zero-add b)))
+  -- One who shows of each block the message that it gives has taken the payload.
+  pub take-gives : Valid q → (page m d : List ℕ) (n : ℕ → ℕ) → length page ≡ q .size → Payload q m d
+      → ((b : ℕ) → b < q .blocks → GivesAt q page b (message q (m ++ d) b) (n b))
+      → (old-m old-d : List ℕ) → length old-m ≡ q .metadata → length old-d ≡ q .«data» → takeIn q page old-m old-d ≡ takeEnded 0 0 m d
+  take-gives v page m d n a h g old-m old-d i j =
+      take-right page old-m old-d a i j
+      ∙ ap (λ (r : Reading). takeBy q r old-m old-d) (gives-reading q v (m ++ d) page n g)
+      ∙ takeBy-payload m d h old-m old-d
 
-  -- A reader that shows the lowest ruined block has refused the page.
-  pub read-refuses : (page m d c : List ℕ) (b : ℕ) → length page ≡ q .size → Outputs q m d c → Lowest q page b
-      → readIn q page m d c ≡ readEnded 9 b m d c
-  unfolding readBy
-  read-refuses page m d c b a o h = read-right page m d c a o ∙ rw (lowest-refused q page b h)
+  -- One who shows the lowest ruined block has refused the page.
+  pub take-refuses : (page m d : List ℕ) (b : ℕ) → length page ≡ q .size → length m ≡ q .metadata → length d ≡ q .«data» → Lowest q page b
+      → takeIn q page m d ≡ takeEnded 9 b m d
+  unfolding takeBy
+  take-refuses page m d b a i j h = take-right page m d a i j ∙ rw (lowest-refused q page b h)

@@ -16,8 +16,8 @@ use Rattle.bits.specs.Bits.{bit, bitAt, bitOf, run, digit, number, digits, byte
 use Rattle.layout.specs.declared.BlockFields.{BlockFields}
 use Rattle.layout.specs.declared.Plan.{Plan}
 use Rattle.layout.specs.declared.BitAnswer.the-variants.{InBlock}
-use Rattle.layout.specs.Record.{fieldOf, blockFields, layoutAt, layoutOf}
-use Rattle.layout.specs.Plan.{shapeOf, laterShape, dataBytes, planOf, coveredOf, shape, field, level, start, from, Valid}
+use Rattle.layout.specs.Record.{fieldOf, blockFields, fieldsAt, fieldsIn, layoutOf}
+use Rattle.layout.specs.Plan.{shapeWith, shapeOf, laterShape, dataBytes, planFor, layoutFor, planOf, shape, field, level, start, from, Valid}
 use Rattle.layout.specs.Bits.{within, blockBelow, blockOf, bitAnswer}
 use Rattle.layout.proofs.Cases.{words, layoutE, CaseA, CaseB, CaseC, CaseD, CaseE, CaseI, CaseK, layout-cases}
 use Rattle.code.specs.Word.{Word, apart, distance, ones, turned, flipped}
@@ -28,10 +28,10 @@ use Rattle.page_theory.specs.Page.{message, written, pageBit, pageOf, bl
 use Rattle.page_theory.specs.Reading.{GivesAt}
 use Rattle.page_theory.specs.Damage.{Accepts, Payload}
 use Rattle.page_theory.specs.Claim.{Right}
-use Rattle.page_theory.specs.Calls.{writeEnded, writeOf, readEnded, readOf, claimEnded, claimOf}
-use Rattle.page_theory.proofs.Accepted.{accepted-accepts, accepts-valid, read-accepted}
+use Rattle.page_theory.specs.Calls.{writeEnded, writeOf, lookEnded, lookOf, takeEnded, takeOf, claimEnded, claimOf}
+use Rattle.page_theory.proofs.Accepted.{accepted-accepts, accepts-valid, look-accepted, take-accepted}
 use Rattle.page_theory.proofs.Blocks.{written-message, written-code, blockWord-length, page-block}
-use Rattle.page_theory.proofs.Calls.{read-gives}
+use Rattle.page_theory.proofs.Calls.{look-gives, take-gives}
 use Rattle.page_theory.proofs.Claims.{accepted-when, otherwise-ten}
 use Rattle.page_theory.proofs.Demand2.{write-done}
 use Rattle.page_theory.proofs.Zeros.{replicate-at, zeros-parity}
@@ -55,8 +55,8 @@ pub record CaseF : Type 0 where
 
 -- G: that page with byte 0 = 0x80 reads as zeros, counts 1 and 0; the flipped exponent is 57.
 pub record CaseG : Type 0 where
-  pub reads : («data» counts : List ℕ) → length «data» ≡ 8 → length counts ≡ 2
-      → readOf recordE pageG [] «data» counts ≡ readEnded 0 0 [] (replicate 8 0) (1 ∷ 0 ∷ [])
+  pub looks : (counts : List ℕ) → length counts ≡ 2 → lookOf recordE pageG counts ≡ lookEnded 0 0 (1 ∷ 0 ∷ [])
+  pub takes : («data» : List ℕ) → length «data» ≡ 8 → takeOf recordE pageG [] «data» ≡ takeEnded 0 0 [] (replicate 8 0)
   pub flipped : turned (blockWord (planOf layoutE) pageG 0) 57 ≡ blockWord (planOf layoutE) pageF 0
   pub exponent : bitAnswer recordE 0 ≡ InBlock 0 57
 
@@ -83,7 +83,7 @@ pub record Cases : Type 0 where
   pub e : CaseE
   -- all-zero payload: all parity bits zero
   pub f : CaseF
-  -- one flip is read as zeros, with counts 1 and 0
+  -- one flip: looking counts 1 and 0, taking gives zeros
   pub g : CaseG
   -- a power of a in each field
   pub h : CaseH
@@ -97,11 +97,11 @@ pub record Cases : Type 0 where
   pub l : CaseL
 
 accepts-E : Accepts recordE (planOf layoutE)
-unfolding recordE words fieldOf blockFields layoutAt layoutOf layoutE
+unfolding recordE words fieldOf blockFields fieldsAt fieldsIn layoutOf layoutE
 accepts-E = accepted-accepts recordE layoutE (layout-cases .e .accepted)
 
 page-F : pageOf (planOf layoutE) (replicate 8 0) ≡ pageF
-unfolding pageF pageOf bytes pageBit within blockBelow blockOf layoutE planOf shapeOf laterShape dataBytes coveredOf shape start from
+unfolding pageF pageOf bytes pageBit within blockBelow blockOf layoutE layoutFor planFor planOf shapeWith shapeOf laterShape dataBytes shape start from
     written message run bitOf bitAt bit digit number digits
     degree parity remainder remainderOf remainderStep generator times minimals minimals13
 page-F = refl
@@ -110,7 +110,7 @@ valid-E : Valid (planOf layoutE)
 valid-E = accepts-valid recordE (planOf layoutE) accepts-E
 
 payload-E : Payload (planOf layoutE) [] (replicate 8 0)
-unfolding layoutE planOf dataBytes
+unfolding layoutE layoutFor planFor planOf dataBytes
 payload-E = record {
   metadata = record { count = refl; small = λ i. lit< tt };
   «data» = record { count = refl; small = λ i. rw (replicate-at {A = ℕ} 8 i 0) (lit< tt) };
@@ -119,7 +119,7 @@ payload-E = record {
 case-F : CaseF
 case-F = record {
   parity-zero = zeros-parity;
-  page = λ lent h. write-done recordE (planOf layoutE) accepts-E [] (replicate 8 0) lent payload-E (unfold layoutE planOf in h) ∙ ap (writeEnded 0 0) page-F;
+  page = λ lent h. write-done recordE (planOf layoutE) accepts-E [] (replicate 8 0) lent payload-E (unfold layoutE layoutFor planFor planOf in h) ∙ ap (writeEnded 0 0) page-F;
 }
 
 -- the written blocks of the page of F, and how far those of the page of G are from them
@@ -148,32 +148,37 @@ gives-G b n l few e = by-codeword (record {
 })
 
 near-G : distance-G 0 1
-unfolding distance-G blockWord pageF pageG layoutE planOf shapeOf laterShape coveredOf shape start degree run bitOf bitAt bit distance apart
+unfolding distance-G blockWord pageF pageG layoutE layoutFor planFor planOf shapeWith shapeOf laterShape shape start degree run bitOf bitAt bit distance apart
 near-G = refl
 
 same-G : distance-G 1 0
-unfolding distance-G blockWord pageF pageG layoutE planOf shapeOf laterShape coveredOf shape start degree run bitOf bitAt bit distance apart
+unfolding distance-G blockWord pageF pageG layoutE layoutFor planFor planOf shapeWith shapeOf laterShape shape start degree run bitOf bitAt bit distance apart
 same-G = refl
 
 flipped-G : turned (blockWord (planOf layoutE) pageG 0) 57 ≡ blockWord (planOf layoutE) pageF 0
-unfolding blockWord pageF pageG layoutE planOf shapeOf laterShape coveredOf shape start degree run bitOf bitAt bit turned flip
+unfolding blockWord pageF pageG layoutE layoutFor planFor planOf shapeWith shapeOf laterShape shape start degree run bitOf bitAt bit turned flip
 flipped-G = refl
 
-reads-G : («data» counts : List ℕ) → length «data» ≡ 8 → length counts ≡ 2
-    → readOf recordE pageG [] «data» counts ≡ readEnded 0 0 [] (replicate 8 0) (1 ∷ 0 ∷ [])
-unfolding layoutE planOf dataBytes shapeOf laterShape shape pageG
-reads-G d c h k =
-    read-accepted recordE (planOf layoutE) accepts-E pageG [] d c
-    ∙ read-gives (planOf layoutE) valid-E pageG [] (replicate 8 0) (1 ∷ 0 ∷ []) refl payload-E refl each [] d c
-    (record { metadata = refl; «data» = h; counts = k })
-  where
-    each : (b : ℕ) → b < 2 → GivesAt (planOf layoutE) pageG b (message (planOf layoutE) (replicate 8 0) b) (getD (1 ∷ 0 ∷ []) b 0)
-    each zero l = gives-G 0 1 (lit< tt) (lit≤ tt) near-G
-    each (suc zero) l = gives-G 1 0 (lit< tt) (lit≤ tt) same-G
-    each (suc (suc b)) l = absurd (omega arith)
+each-G : (b : ℕ) → b < 2 → GivesAt (planOf layoutE) pageG b (message (planOf layoutE) (replicate 8 0) b) (getD (1 ∷ 0 ∷ []) b 0)
+unfolding layoutE layoutFor planFor planOf dataBytes shapeWith shapeOf laterShape shape pageG
+each-G zero l = gives-G 0 1 (lit< tt) (lit≤ tt) near-G
+each-G (suc zero) l = gives-G 1 0 (lit< tt) (lit≤ tt) same-G
+each-G (suc (suc b)) l = absurd (omega arith)
+
+looks-G : (counts : List ℕ) → length counts ≡ 2 → lookOf recordE pageG counts ≡ lookEnded 0 0 (1 ∷ 0 ∷ [])
+unfolding layoutE layoutFor planFor planOf dataBytes shapeWith shapeOf laterShape shape pageG
+looks-G c k =
+    look-accepted recordE (planOf layoutE) accepts-E pageG c
+    ∙ look-gives (planOf layoutE) valid-E pageG (1 ∷ 0 ∷ []) (message (planOf layoutE) (replicate 8 0)) refl refl each-G c k
+
+takes-G : («data» : List ℕ) → length «data» ≡ 8 → takeOf recordE pageG [] «data» ≡ takeEnded 0 0 [] (replicate 8 0)
+unfolding layoutE layoutFor planFor planOf dataBytes shapeWith shapeOf laterShape shape pageG
+takes-G d k =
+    take-accepted recordE (planOf layoutE) accepts-E pageG [] d
+    ∙ take-gives (planOf layoutE) valid-E pageG [] (replicate 8 0) (λ b. getD (1 ∷ 0 ∷ []) b 0) refl payload-E each-G [] d refl k
 
 case-L : CaseL
-unfolding layoutE planOf shapeOf shape pageG flipped
+unfolding layoutE layoutFor planFor planOf shapeWith shapeOf shape pageG flipped
 case-L = record {
   twice = otherwise-ten recordE (planOf layoutE) accepts-E pageG 0 refl (lit< tt) (57 ∷ 57 ∷ []) (λ r. r .distinct 0 1 (lit< tt) (lit< tt) refl);
   once = accepted-when recordE (planOf layoutE) accepts-E pageG 0 refl (lit< tt) (57 ∷ []) right;
@@ -188,7 +193,7 @@ case-L = record {
     }
       where
         below : (i : ℕ) → i < 1 → getD (57 ∷ []) i 0 < length (blockWord (planOf layoutE) pageG 0)
-        below zero l = rw (blockWord-length (planOf layoutE) pageG 0) (unfold coveredOf shapeOf shape degree in lit< tt)
+        below zero l = rw (blockWord-length (planOf layoutE) pageG 0) (unfold shapeWith shapeOf shape degree in lit< tt)
         below (suc i) l = absurd (omega arith)
 
 pub cases : Cases
@@ -200,7 +205,7 @@ cases = record {
   d = layout-cases .d;
   e = layout-cases .e;
   f = case-F;
-  g = record { reads = reads-G; flipped = flipped-G; exponent = layout-cases .e .first-bit };
+  g = record { looks = looks-G; takes = takes-G; flipped = flipped-G; exponent = layout-cases .e .first-bit };
   h = record { thirteen = case-H-thirteen; fourteen = case-H-fourteen };
   i = layout-cases .i;
   j = single-codeword;

@@ -13,11 +13,12 @@ use Rattle.code.specs.Word.{apart, distance, ones}
 use Rattle.code.specs.Code.{Near}
 use Rattle.code.proofs.Outcome.{near-gives}
 use Rattle.page_theory.specs.Page.{message, written, pageOf, blockWord}
-use Rattle.page_theory.specs.Reading.{GivesAt, reading, done}
+use Rattle.page_theory.specs.Reading.{GivesAt, reading, done, counts}
 use Rattle.page_theory.specs.Damage.{size, flips, turn, Damaged}
+use Rattle.page_theory.specs.Demands.{of-given}
 use Rattle.page_theory.proofs.Words.{run-last, distance-last, ones-last}
 use Rattle.page_theory.proofs.Blocks.{written-length, written-message, written-code, blockWord-length, page-block}
-use Rattle.page_theory.proofs.Reading.{gives-reading}
+use Rattle.page_theory.proofs.Reading.{gives-reading, reports-counts}
 
 -- turning over a set of bits moves a word as far as the set is large
 
@@ -28,7 +29,7 @@ apart-turn true false = refl
 apart-turn false true = refl
 apart-turn false false = refl
 
-distance-turned : (f g s : ℕ → Bool) (p n : ℕ) → ((j : ℕ) → j < n → f (p + j) ≡ turn (s j) (g (p + j)))
+pub distance-turned : (f g s : ℕ → Bool) (p n : ℕ) → ((j : ℕ) → j < n → f (p + j) ≡ turn (s j) (g (p + j)))
     → distance (run f p n) (run g p n) ≡ size s n
 unfolding size
 distance-turned f g s p zero h = unfold distance run in refl
@@ -50,7 +51,7 @@ module _ (q : Plan) (v : Valid q) (d page : List ℕ) (s : ℕ → ℕ → Bool)
   -- a damaged block has the written one within its level
   pub damaged-near : (b : ℕ) → b < q .blocks → Near (field q b) (level q b) (blockWord q page b) (written q d b)
   damaged-near b l = record {
-    same = written-length q d b ∙ sym (blockWord-length q page b);
+    same = written-length q v d b ∙ sym (blockWord-length q page b);
     code = written-code q d b (v .strong b l);
     close = rw (damaged-flips b l) (h .few b l);
   }
@@ -58,8 +59,11 @@ module _ (q : Plan) (v : Valid q) (d page : List ℕ) (s : ℕ → ℕ → Bool)
   pub damaged-gives : (b : ℕ) → b < q .blocks → GivesAt q page b (message q d b) (flips q s b)
   damaged-gives b l = rw (← damaged-flips b l, ← written-message q d b) (near-gives _ _ (bits q b) _ _ (damaged-near b l))
 
-  pub damaged-reading : reading q page ≡ done (run (bitOf d) 0 (8 * payload q)) (run (flips q s) 0 (q .blocks))
+  pub damaged-reading : reading q page ≡ done (run (bitOf d) 0 (8 * payload q))
   damaged-reading = gives-reading q v d page (flips q s) damaged-gives
+
+  pub damaged-counts : counts q page ≡ run (flips q s) 0 (q .blocks)
+  damaged-counts = reports-counts q v page (flips q s) (λ b l. of-given _ (damaged-gives b l))
 
 -- A mask: a page whose ones are the bits to turn over, those of the tail included.
 

@@ -1,5 +1,6 @@
 -- Demand 1. "Any layout words, any lent buffers, any lengths, any page content: each call ends with an answer from the table.
--- A caller never has to have tested anything. A refused call leaves each lent buffer byte for byte as it found it."
+-- A caller never has to have tested anything. A refused call leaves each lent buffer byte for byte as it found it." Document 02, E6, amended
+-- the last sentence: but for the counts of a look that answers 9. A look then writes the count of every block (proofs/Demand2 `look-blocks`).
 --
 -- The definitions of the calls are functions of everything that is lent, so each call ends; what follows says how.
 use mathlib.Core.Path.{_≡_, refl}
@@ -7,6 +8,7 @@ use mathlib.Core.Bool.{Bool, true, false, cond}
 use mathlib.Core.List.{List, [], _∷_, _++_}
 use Prim.Native.Nat.{ℕ, zero, suc, _<_}
 use native.Mathlib.Omega.{arith}
+use native.Mathlib.Decide.{ℕ-discrete}
 use lib.ListN.{length}
 use lib.Dec.{eqb, ltb}
 use Rattle.replies.specs.Replies.{among}
@@ -18,33 +20,15 @@ use Rattle.layout.specs.Acceptance.{acceptance, refusalReply}
 use Rattle.code.specs.Outcome.{Outcome, good, erased, ruined}
 use Rattle.layout.proofs.Numbers.{acceptance-refused-reply}
 use Rattle.page_theory.specs.Page.{pageOf, blockWord}
-use Rattle.page_theory.specs.Reading.{Reading, done, refused, outcome, reading}
+use Rattle.page_theory.specs.Reading.{Reading, done, refused, outcome, reading, counts}
 use Rattle.page_theory.specs.Claim.{Right, right?}
-use Rattle.page_theory.specs.Demands.{WriteEnds, ReadEnds, JudgeEnds, ClaimEnds}
-use Rattle.page_theory.specs.Calls.{
-  writeEnded,
-  writeReply,
-  writeIn,
-  writeFor,
-  writeOf,
-  readEnded,
-  readReply,
-  readBy,
-  readIn,
-  readFor,
-  readOf,
-  blockReply,
-  judgeEnded,
-  judgeBy,
-  judgeIn,
-  judgeFor,
-  judgeOf,
-  claimEnded,
-  claimBy,
-  claimIn,
-  claimFor,
-  claimOf,
-}
+use Rattle.page_theory.specs.Demands.{WriteEnds, LookEnds, TakeEnds, JudgeEnds, ClaimEnds}
+use Rattle.page_theory.specs.Calls.{writeEnded, writeReply, writeIn, writeFor, writeOf}
+use Rattle.page_theory.specs.Calls.{lookEnded, lookReply, lookBy, lookIn, lookFor, lookOf}
+use Rattle.page_theory.specs.Calls.{takeEnded, takeReply, takeBy, takeIn, takeFor, takeOf}
+use Rattle.page_theory.specs.Calls.{blockReply, judgeEnded, judgeBy, judgeIn, judgeFor, judgeOf}
+use Rattle.page_theory.specs.Calls.{claimEnded, claimBy, claimIn, claimFor, claimOf}
+use Rattle.page_theory.proofs.Calls.{look-wrong, take-wrong}
 
 -- the numbers 0 to 6 come first in each list
 among-small : (x : ℕ) (more : List ℕ) → x < 7 → among x (0 ∷ 1 ∷ 2 ∷ 3 ∷ 4 ∷ 5 ∷ 6 ∷ more) ≡ true
@@ -58,26 +42,24 @@ among-small (suc (suc (suc (suc (suc zero))))) more h = refl
 among-small (suc (suc (suc (suc (suc (suc zero)))))) more h = refl
 among-small (suc (suc (suc (suc (suc (suc (suc x))))))) more h = absurd (omega arith)
 
+-- 5 for the page, 6 for one of two other buffers
+small-three : (a b c : Bool) → cond a (cond b (cond c 0 6) 6) 5 < 7
+small-three true true true = omega arith
+small-three true true false = omega arith
+small-three true false c = omega arith
+small-three false b c = omega arith
+
 write-small : (q : Plan) (m d page : ℕ) → writeReply q m d page < 7
 unfolding writeReply
-write-small q m d page = go (eqb page (q .size)) (eqb m (q .metadata)) (eqb d (q .«data»))
-  where
-    go : (a b c : Bool) → cond a (cond b (cond c 0 6) 6) 5 < 7
-    go true true true = omega arith
-    go true true false = omega arith
-    go true false c = omega arith
-    go false b c = omega arith
+write-small q m d page = small-three (eqb page (q .size)) (eqb m (q .metadata)) (eqb d (q .«data»))
 
-read-small : (q : Plan) (page m d c : ℕ) → readReply q page m d c < 7
-unfolding readReply
-read-small q page m d c = go (eqb page (q .size)) (eqb m (q .metadata)) (eqb d (q .«data»)) (eqb c (q .blocks))
-  where
-    go : (a b c d : Bool) → cond a (cond b (cond c (cond d 0 6) 6) 6) 5 < 7
-    go true true true true = omega arith
-    go true true true false = omega arith
-    go true true false d = omega arith
-    go true false c d = omega arith
-    go false b c d = omega arith
+take-small : (q : Plan) (page m d : ℕ) → takeReply q page m d < 7
+unfolding takeReply
+take-small q page m d = small-three (eqb page (q .size)) (eqb m (q .metadata)) (eqb d (q .«data»))
+
+look-small : (q : Plan) (page c : ℕ) → lookReply q page c < 7
+unfolding lookReply
+look-small q page c = small-three (eqb page (q .size)) (eqb c (q .blocks)) true
 
 module _ (m d page : List ℕ) where
   ends-write : (x : ℕ) → x < 7 → WriteEnds page (writeEnded x 0 page)
@@ -99,31 +81,53 @@ module _ (m d page : List ℕ) where
       go (Accepted l) h = write-in (planOf l)
       go (Refused r) h = ends-write (refusalReply r) (acceptance-refused-reply rec r h)
 
-module _ (page m d c : List ℕ) where
-  ends-read : (x : ℕ) → x < 7 → ReadEnds m d c (readEnded x 0 m d c)
-  ends-read x h = record { table = among-small x _ h; kept = λ n. refl; block = λ n. refl }
+module _ (page c : List ℕ) where
+  ends-look : (x : ℕ) → x < 7 → LookEnds c (lookEnded x 0 c)
+  ends-look x h = record { table = among-small x _ h; kept = λ n k. refl; block = λ n. refl }
 
-  ends-reading : (q : Plan) (r : Reading) → ReadEnds m d c (readBy q r m d c)
-  unfolding readBy
-  ends-reading q (done w n) = record { table = among-small 0 _ (omega arith); kept = λ n. absurd (n refl); block = λ n. refl }
-  ends-reading q (refused b) = record { table = unfold among in refl; kept = λ n. refl; block = λ n. absurd (n refl) }
+  ends-looking : (r : Reading) (l : List ℕ) → LookEnds c (lookBy r l)
+  unfolding lookBy
+  ends-looking (done w) l = record { table = among-small 0 _ (omega arith); kept = λ n k. absurd (n refl); block = λ n. refl }
+  ends-looking (refused b) l = record { table = unfold among in refl; kept = λ n k. absurd (k refl); block = λ n. absurd (n refl) }
 
-  read-in : (q : Plan) → ReadEnds m d c (readIn q page m d c)
-  unfolding readIn
-  read-in q = go (eqb (readReply q (length page) (length m) (length d) (length c)) 0)
+  look-in : (q : Plan) → LookEnds c (lookIn q page c)
+  unfolding lookIn
+  look-in q = elim (ℕ-discrete (lookReply q (length page) (length c)) 0) [
+    | yes e ↦ rw e (ends-looking (reading q page) (counts q page))
+    | no n ↦ rw (look-wrong q page c n) (ends-look _ (look-small q _ _))
+  ]
+
+  pub look-ends : (rec : List ℕ) → LookEnds c (lookOf rec page c)
+  unfolding lookOf lookFor
+  look-ends rec = go (acceptance rec) refl
     where
-      go : (b : Bool)
-          → ReadEnds m d c (cond b (readBy q (reading q page) m d c) (readEnded (readReply q (length page) (length m) (length d) (length c)) 0 m d c))
-      go true = ends-reading q (reading q page)
-      go false = ends-read _ (read-small q _ _ _ _)
+      go : (a : Acceptance) → acceptance rec ≡ a → LookEnds c (lookFor a page c)
+      go (Accepted l) h = look-in (planOf l)
+      go (Refused r) h = ends-look (refusalReply r) (acceptance-refused-reply rec r h)
 
-  pub read-ends : (rec : List ℕ) → ReadEnds m d c (readOf rec page m d c)
-  unfolding readOf readFor
-  read-ends rec = go (acceptance rec) refl
+module _ (page m d : List ℕ) where
+  ends-take : (x : ℕ) → x < 7 → TakeEnds m d (takeEnded x 0 m d)
+  ends-take x h = record { table = among-small x _ h; kept = λ n. refl; block = λ n. refl }
+
+  ends-taking : (q : Plan) (r : Reading) → TakeEnds m d (takeBy q r m d)
+  unfolding takeBy
+  ends-taking q (done w) = record { table = among-small 0 _ (omega arith); kept = λ n. absurd (n refl); block = λ n. refl }
+  ends-taking q (refused b) = record { table = unfold among in refl; kept = λ n. refl; block = λ n. absurd (n refl) }
+
+  take-in : (q : Plan) → TakeEnds m d (takeIn q page m d)
+  unfolding takeIn
+  take-in q = elim (ℕ-discrete (takeReply q (length page) (length m) (length d)) 0) [
+    | yes e ↦ rw e (ends-taking q (reading q page))
+    | no n ↦ rw (take-wrong q page m d n) (ends-take _ (take-small q _ _ _))
+  ]
+
+  pub take-ends : (rec : List ℕ) → TakeEnds m d (takeOf rec page m d)
+  unfolding takeOf takeFor
+  take-ends rec = go (acceptance rec) refl
     where
-      go : (a : Acceptance) → acceptance rec ≡ a → ReadEnds m d c (readFor a page m d c)
-      go (Accepted l) h = read-in (planOf l)
-      go (Refused r) h = ends-read (refusalReply r) (acceptance-refused-reply rec r h)
+      go : (a : Acceptance) → acceptance rec ≡ a → TakeEnds m d (takeFor a page m d)
+      go (Accepted l) h = take-in (planOf l)
+      go (Refused r) h = ends-take (refusalReply r) (acceptance-refused-reply rec r h)
 
 -- the replies about a page and a block number
 data BlockReply : ℕ → Type 0 where

@@ -1,14 +1,15 @@
 -- Demand 2. "A written page is the one that the layout words and the BCH definition in document 01 give, tail bits included.
 -- A page that is read gives, block by block, the message of a codeword at most t bit flips away, and the reported flips are
 -- exactly that distance." Document 02, E1, adds the erased block: there is no such codeword, the covered bits hold at most t zeros,
--- the message is all ones, and the count is 128 plus the zeros.
+-- the message is all ones, and the count is 128 plus the zeros. Document 02, E6, parts reading: looking gives the counts, 255 for a ruined
+-- block, and taking gives the messages.
 use mathlib.Core.Path.{_≡_, refl, sym, ap, _∙_, subst}
-use mathlib.Core.Bool.{true, false, cond}
+use mathlib.Core.Bool.{true, false}
 use mathlib.Core.List.{List, _++_}
-use Prim.Native.Nat.{ℕ, zero, suc, _+_, _*_, _≤_, _<_}
+use Prim.Native.Nat.{ℕ, _+_, _*_, _≤_, _<_}
 use native.Mathlib.Omega.{arith}
+use native.Mathlib.Decide.{ℕ-discrete}
 use lib.ListN.{length, getD}
-use lib.Dec.{eqb, eqb·suc-zero}
 use Rattle.bits.specs.Bits.{bitOf}
 use Rattle.bits.proofs.Runs.{run-cong}
 use Rattle.layout.specs.declared.Plan.{Plan}
@@ -17,15 +18,16 @@ use Rattle.code.specs.Word.{Word}
 use Rattle.code.specs.Code.{Codeword}
 use Rattle.code.specs.Generator.{parity}
 use Rattle.page_theory.specs.Page.{message, written, pageOf, blockWord}
-use Rattle.page_theory.specs.Reading.{GivesAt, Reading, done, refused, reading}
+use Rattle.page_theory.specs.Reading.{GivesAt, Reading, done, refused, outcome, reading, countOf, counts}
 use Rattle.page_theory.specs.Damage.{Accepts, Payload}
-use Rattle.page_theory.specs.Demands.{Stands, Reads}
-use Rattle.page_theory.specs.Calls.{writeEnded, writeOf, Read, readEnded, readReply, bytesAt, readBy, readIn, readOf}
+use Rattle.page_theory.specs.Demands.{Stands, Looks, Takes, Reads}
+use Rattle.page_theory.specs.Calls.{writeEnded, writeOf, Looked, lookReply, lookBy, lookIn, lookOf}
+use Rattle.page_theory.specs.Calls.{Taken, takeReply, bytesAt, takeBy, takeIn, takeOf}
 use Rattle.page_theory.proofs.Blocks.{written-code, page-block, page-tail}
 use Rattle.page_theory.proofs.Writing.{stands-page}
-use Rattle.page_theory.proofs.Reading.{from-order, reading-parts}
-use Rattle.page_theory.proofs.Calls.{bytesAt-bytes, bytesAt-join, write-right}
-use Rattle.page_theory.proofs.Accepted.{accepts-valid, write-accepted, read-accepted}
+use Rattle.page_theory.proofs.Reading.{from-order, reading-parts, counts-at, counts-length, counts-reported}
+use Rattle.page_theory.proofs.Calls.{bytesAt-bytes, bytesAt-join, write-right, look-right, look-wrong, take-wrong}
+use Rattle.page_theory.proofs.Accepted.{accepts-valid, write-accepted, look-accepted, take-accepted}
 
 module _ (rec : List ℕ) (q : Plan) (accepted : Accepts rec q) where
   -- "A written page is the one that the layout words and the BCH definition give."
@@ -46,21 +48,47 @@ module _ (rec : List ℕ) (q : Plan) (accepted : Accepts rec q) where
 
     -- "tail bits included": the bits after the last block are ones.
     pub write-tail : (p : ℕ) → used q ≤ p → p < 8 * q .size → bitOf (writeOf rec m d page .page) p ≡ true
-    write-tail p h l = rw write-done (page-tail q (m ++ d) p h l)
+    write-tail p h l = rw write-done (page-tail q (accepts-valid rec q accepted) (m ++ d) p h l)
 
     -- No other page has these blocks and this tail.
     pub write-only : (other : List ℕ) → Stands q (m ++ d) other → other ≡ writeOf rec m d page .page
     write-only other h = rw write-done (stands-page q (accepts-valid rec q accepted) (m ++ d) other h)
 
-module _ (q : Plan) (v : Valid q) (page m d c : List ℕ) where
-  by-reads : (r : Reading) → reading q page ≡ r → readBy q r m d c .reply ≡ 0 → Reads q page (readBy q r m d c)
-  unfolding readBy message
-  by-reads (refused b) e h = absurd (omega arith)
-  by-reads (done w l) e h = let p = reading-parts q page w l e in record {
+-- what a page gives that is looked at
+
+module _ (q : Plan) (page : List ℕ) where
+  by-looked : (r : Reading) → lookBy r (counts q page) .counts ≡ counts q page
+  unfolding lookBy
+  by-looked (done w) = refl
+  by-looked (refused b) = refl
+
+  in-looked : (c : List ℕ) → length page ≡ q .size → length c ≡ q .blocks → lookIn q page c .counts ≡ counts q page
+  in-looked c a l = rw (look-right q page c a l) (by-looked (reading q page))
+
+  -- with reply 0, whatever was lent
+  in-counts : (c : List ℕ) → lookIn q page c .reply ≡ 0 → lookIn q page c .counts ≡ counts q page
+  unfolding lookIn
+  in-counts c h = elim (ℕ-discrete (lookReply q (length page) (length c)) 0) [
+    | yes e ↦ rw e (by-looked (reading q page))
+    | no n ↦ absurd (n (ap (λ (r : Looked). r .reply) (sym (look-wrong q page c n)) ∙ h))
+  ]
+
+-- and what one that is taken
+
+-- The blocks give the messages of the payload, and what is reported of each belongs to it.
+record Gave (q : Plan) (page : List ℕ) (r : Taken) : Type 0 where
+  payload : Payload q (r .metadata) (r .«data»)
+  blocks : (b : ℕ) → b < q .blocks → GivesAt q page b (message q (r .metadata ++ r .«data») b) (countOf (outcome q page b))
+
+module _ (q : Plan) (v : Valid q) (page m d : List ℕ) where
+  by-taken : (r : Reading) → reading q page ≡ r → takeBy q r m d .reply ≡ 0 → Gave q page (takeBy q r m d)
+  unfolding takeBy message
+  by-taken (refused b) e h = absurd (omega arith)
+  by-taken (done w) e h = let p = reading-parts q v page w e in record {
     payload = record { metadata = bytesAt-bytes w 0 (q .metadata); «data» = bytesAt-bytes w (8 * q .metadata) (q .«data») };
-    counts = p .numbers;
     blocks = λ b k.
-        subst (λ (x : Word). GivesAt q page b x (getD l b 0)) (run-cong _ _ (from q b) (from q b) (bits q b) (λ j i. sym (same b j k i))) (p .each b k);
+        subst (λ (x : Word). GivesAt q page b x (countOf (outcome q page b)))
+        (run-cong _ _ (from q b) (from q b) (bits q b) (λ j i. sym (same b j k i))) (p .each b k);
   }
     where
       same : (b j : ℕ) → b < q .blocks → j < bits q b
@@ -68,19 +96,38 @@ module _ (q : Plan) (v : Valid q) (page m d c : List ℕ) where
       same b j k i = bytesAt-join w (q .metadata) (q .«data») (from q b + j)
           (let o = from-order q b (q .blocks) k in let w = v .whole in unfold payload in omega arith)
 
-  in-reads : readIn q page m d c .reply ≡ 0 → Reads q page (readIn q page m d c)
-  unfolding readIn
-  in-reads = go (readReply q (length page) (length m) (length d) (length c))
-    where
-      go : (x : ℕ) → cond (eqb x 0) (readBy q (reading q page) m d c) (readEnded x 0 m d c) .reply ≡ 0
-          → Reads q page (cond (eqb x 0) (readBy q (reading q page) m d c) (readEnded x 0 m d c))
-      go zero h = by-reads (reading q page) refl h
-      go (suc x) h = let k : suc x ≡ 0 = rw (eqb·suc-zero x) at h in absurd (omega arith)
+  in-taken : takeIn q page m d .reply ≡ 0 → Gave q page (takeIn q page m d)
+  unfolding takeIn
+  in-taken h = elim (ℕ-discrete (takeReply q (length page) (length m) (length d)) 0) [
+    | yes e ↦ rw e (by-taken (reading q page) refl (rw e at h))
+    | no n ↦ absurd (n (ap (λ (r : Taken). r .reply) (sym (take-wrong q page m d n)) ∙ h))
+  ]
 
--- "A page that is read gives, block by block, the message of a codeword at most t bit flips away, and the reported flips are
--- exactly that distance." Whatever was lent: reply 0 says that it was read.
-pub read-blocks : (rec : List ℕ) (q : Plan) → Accepts rec q → (page m d c : List ℕ) → readOf rec page m d c .reply ≡ 0
-    → Reads q page (readOf rec page m d c)
-read-blocks rec q accepted page m d c h =
-    let e = read-accepted rec q accepted page m d c in
-    rw e (in-reads q (accepts-valid rec q accepted) page m d c (ap (λ (r : Read). r .reply) (sym e) ∙ h))
+module _ (rec : List ℕ) (q : Plan) (accepted : Accepts rec q) (page : List ℕ) where
+  take-gave : (m d : List ℕ) → takeOf rec page m d .reply ≡ 0 → Gave q page (takeOf rec page m d)
+  take-gave m d h = let e = take-accepted rec q accepted page m d in
+      rw e (in-taken q (accepts-valid rec q accepted) page m d (ap (λ (r : Taken). r .reply) (sym e) ∙ h))
+
+  look-counts : (c : List ℕ) → lookOf rec page c .reply ≡ 0 → lookOf rec page c .counts ≡ counts q page
+  look-counts c h = let e = look-accepted rec q accepted page c in rw e (in-counts q page c (ap (λ (r : Looked). r .reply) (sym e) ∙ h))
+
+  -- "A page that is read gives, block by block, the message of a codeword at most t bit flips away, and the reported flips are
+  -- exactly that distance." Whatever was lent: reply 0 of both says that the page was read.
+  pub read-blocks : (c m d : List ℕ) → lookOf rec page c .reply ≡ 0 → takeOf rec page m d .reply ≡ 0
+      → Reads q page (lookOf rec page c) (takeOf rec page m d)
+  read-blocks c m d h k = let e = look-counts c h in let g = take-gave m d k in record {
+    payload = g .payload;
+    counts = ap length e ∙ counts-length q page;
+    blocks = λ b l. rw (e, counts-at q page b l) (g .blocks b l);
+  }
+
+  -- Taking by itself, whether or not the page is looked at.
+  pub take-blocks : (m d : List ℕ) → takeOf rec page m d .reply ≡ 0 → Takes q page (takeOf rec page m d)
+  take-blocks m d h = let g = take-gave m d h in record { payload = g .payload; blocks = λ b l. (_, g .blocks b l) }
+
+  -- Looking by itself, under reply 9 too: with right lengths it reports of every block what it gives, or 255 where it is ruined.
+  pub look-blocks : (c : List ℕ) → length page ≡ q .size → length c ≡ q .blocks → Looks q page (lookOf rec page c)
+  look-blocks c size lent = let e = ap (λ (r : Looked). r .counts) (look-accepted rec q accepted page c) ∙ in-looked q page c size lent in record {
+    counts = ap length e ∙ counts-length q page;
+    blocks = λ b l. rw (e, counts-at q page b l) (counts-reported q page b);
+  }

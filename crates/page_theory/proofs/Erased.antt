@@ -1,4 +1,5 @@
--- A page that was never written (document 02, E1): under every accepted layout a page whose bits are all ones is never refused.
+-- A page that was never written (document 02, E1): under every accepted layout a page whose bits are all ones is never refused, neither by
+-- looking at it nor by taking it nor by judging a block.
 use mathlib.Core.Path.{_≡_, refl, sym, ap, _∙_}
 use mathlib.Core.Bool.{true}
 use mathlib.Core.List.{List}
@@ -14,13 +15,13 @@ use Rattle.code.specs.Outcome.{Outcome, good, erased, ruined}
 use Rattle.code.proofs.Zeros.{zeros-none}
 use Rattle.page_theory.specs.Page.{blockWord}
 use Rattle.page_theory.specs.Reading.{RefusedAt, outcome}
-use Rattle.page_theory.specs.Damage.{Accepts, Outputs}
-use Rattle.page_theory.specs.Calls.{readOf, judgeBy, judgeOf, Judged}
+use Rattle.page_theory.specs.Damage.{Accepts}
+use Rattle.page_theory.specs.Calls.{lookOf, takeOf, judgeBy, judgeOf, Judged}
 use Rattle.page_theory.proofs.Accepted.{accepts-valid, judge-accepted}
 use Rattle.page_theory.proofs.Zeros.{replicate-at}
 use Rattle.page_theory.proofs.Reading.{ruined-outcome}
 use Rattle.page_theory.proofs.OneBlock.{judge-outcome}
-use Rattle.page_theory.proofs.Demand3.{refused-only, read-otherwise}
+use Rattle.page_theory.proofs.Demand3.{look-refused-only, look-otherwise, take-refused-only, take-otherwise}
 
 module _ (rec : List ℕ) (q : Plan) (accepted : Accepts rec q) (page : List ℕ) (size : length page ≡ q .size)
     (blank : (p : ℕ) → p < 8 * q .size → bitOf page p ≡ true) where
@@ -35,9 +36,13 @@ module _ (rec : List ℕ) (q : Plan) (accepted : Accepts rec q) (page : List ℕ
   blank-sound : (b : ℕ) → b < q .blocks → RefusedAt q page b → ⊥
   blank-sound b l h = omega (arith, h .many, blank-zeros b l)
 
-  pub blank-read : (m d c : List ℕ) → Outputs q m d c → readOf rec page m d c .reply ≡ 0
-  blank-read m d c o = read-otherwise rec q accepted page m d c size o (λ e.
-      let h = refused-only rec q accepted page m d c size o e in blank-sound _ (h .inside) (h .ruins))
+  pub blank-looked : (c : List ℕ) → length c ≡ q .blocks → lookOf rec page c .reply ≡ 0
+  blank-looked c i = look-otherwise rec q accepted page size c i (λ e.
+      let h = look-refused-only rec q accepted page size c i e in blank-sound _ (h .inside) (h .ruins))
+
+  pub blank-taken : (m d : List ℕ) → length m ≡ q .metadata → length d ≡ q .«data» → takeOf rec page m d .reply ≡ 0
+  blank-taken m d i j = take-otherwise rec q accepted page size m d i j (λ e.
+      let h = take-refused-only rec q accepted page size m d i j e in blank-sound _ (h .inside) (h .ruins))
 
   pub blank-judged : (b : ℕ) → b < q .blocks → judgeOf rec page b .reply ≡ 0
   unfolding judgeBy

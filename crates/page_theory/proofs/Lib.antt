@@ -10,7 +10,9 @@ pub mod Accepted
 pub mod Demand1
 pub mod Demand2
 pub mod Demand3
+pub mod Joint
 pub mod OneBlock
+pub mod Worn
 pub mod Claims
 pub mod Zeros
 pub mod Erased

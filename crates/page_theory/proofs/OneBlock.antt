@@ -1,10 +1,13 @@
 -- Judging one block. "It depends on the block number, the layout words, the page's length and that block's own bits, on no
 -- other page bit" (document 01, "One block").
 use mathlib.Core.Path.{_≡_, refl, sym, _∙_}
+use mathlib.Core.Bool.{cond}
 use mathlib.Core.List.{List}
 use Prim.Native.Nat.{ℕ, _+_, _<_}
-use lib.ListN.{length}
-use borrow.Author.Tests.{eq-eqb, lt-ltb}
+use native.Mathlib.Omega.{arith}
+use lib.ListN.{length, getD}
+use lib.Dec.{eqb}
+use borrow.Author.Tests.{eq-eqb, ne-eqb, lt-ltb}
 use Rattle.bits.specs.Bits.{bitOf}
 use Rattle.layout.specs.declared.Plan.{Plan}
 use Rattle.layout.specs.declared.Acceptance.{Acceptance}
@@ -15,11 +18,14 @@ use Rattle.layout.specs.Acceptance.{acceptance}
 use Rattle.code.specs.Word.{Word}
 use Rattle.code.specs.Outcome.{Outcome}
 use Rattle.page_theory.specs.Reading.{GivesAt, RefusedAt, outcome}
+use Rattle.code.proofs.Outcome.{gives-count}
 use Rattle.page_theory.specs.Damage.{Accepts}
-use Rattle.page_theory.specs.Calls.{blockReply, judgeEnded, judgeBy, judgeIn, judgeFor, judgeOf}
+use Rattle.page_theory.specs.Demands.{Reported, of-given, of-ruined}
+use Rattle.page_theory.specs.Calls.{lookOf, blockReply, Judged, judgeEnded, judgeBy, judgeIn, judgeFor, judgeOf}
 use Rattle.page_theory.proofs.Blocks.{blockWord-cong}
 use Rattle.page_theory.proofs.Reading.{Hands, of-good, of-erased, outcome-gives, outcome-ruined}
 use Rattle.page_theory.proofs.Accepted.{accepted-accepts, accepts-valid, judge-accepted}
+use Rattle.page_theory.proofs.Demand2.{look-blocks}
 
 judge-block : (q : Plan) (page other : List ℕ) (b : ℕ) → length page ≡ length other
     → ((j : ℕ) → j < covered q b → bitOf page (start q b + j) ≡ bitOf other (start q b + j)) → judgeIn q page b ≡ judgeIn q other b
@@ -63,6 +69,10 @@ module _ (q : Plan) (page : List ℕ) (b : ℕ) (size : length page ≡ q .size)
   unfolding judgeBy
   judge-refuses h = judge-outcome ∙ rw (outcome-ruined q page b h)
 
+-- How judging a block ends, by what looking at the page reports of it.
+unfoldable pub judgeCounted : ℕ → ℕ → Judged
+judgeCounted b n = cond (eqb n 255) (judgeEnded 9 b 0) (judgeEnded 0 0 n)
+
 -- "Answers the flip count, or 9 with that block's number."
 module _ (rec : List ℕ) (q : Plan) (accepted : Accepts rec q) (page : List ℕ) (b : ℕ) (size : length page ≡ q .size) (inside : b < q .blocks) where
   pub judge-flips : (m : Word) (n : ℕ) → GivesAt q page b m n → judgeOf rec page b ≡ judgeEnded 0 0 n
@@ -70,3 +80,16 @@ module _ (rec : List ℕ) (q : Plan) (accepted : Accepts rec q) (page : List ℕ
 
   pub judge-nine : RefusedAt q page b → judgeOf rec page b ≡ judgeEnded 9 b 0
   judge-nine h = judge-accepted rec q accepted page b ∙ judge-refuses q page b size inside h
+
+  -- It answers the count that looking at the page reports of the block, and 9 where that is 255 (document 02, E6).
+  pub judge-looked : (c : List ℕ) → length c ≡ q .blocks → judgeOf rec page b ≡ judgeCounted b (getD (lookOf rec page c .counts) b 0)
+  unfolding judgeCounted
+  judge-looked c l = go (look-blocks rec q accepted page c size l .blocks b inside)
+    where
+      v : Valid q
+      v = accepts-valid rec q accepted
+
+      go : {n : ℕ} → Reported q page b n → judgeOf rec page b ≡ judgeCounted b n
+      go {n} (of-given m g) = let k = gives-count _ _ _ _ m n (v .strong b inside) g in
+          judge-flips m n g ∙ rw (ne-eqb n 255 (λ e. omega arith))
+      go (of-ruined h e) = rw e (judge-nine h)

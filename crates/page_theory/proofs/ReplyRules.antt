@@ -26,15 +26,18 @@ use Rattle.layout.proofs.ReplyRules.{Accepting, accepts, refuses, accepting, ac
 use Rattle.code.specs.Word.{Word}
 use Rattle.code.specs.Outcome.{Outcome, good, erased, ruined}
 use Rattle.page_theory.specs.Page.{pageOf, blockWord}
-use Rattle.page_theory.specs.Reading.{Reading, done, refused, more, readingOf, reading, outcome}
+use Rattle.page_theory.specs.Reading.{Reading, done, refused, more, readingOf, reading, outcome, counts}
 use Rattle.page_theory.specs.Claim.{Right, right?}
 use Rattle.page_theory.specs.Calls as call
 use Rattle.page_theory.specs.Calls.{writeEnded, writeReply, writeFor, writeOf}
-use Rattle.page_theory.specs.Calls.{Read, readEnded, readReply, readBy, readFor, readOf}
+use Rattle.page_theory.specs.Calls.{Looked, lookEnded, lookReply, lookBy, lookFor, lookOf}
+use Rattle.page_theory.specs.Calls.{Taken, takeEnded, takeReply, takeBy, takeFor, takeOf}
 use Rattle.page_theory.specs.Calls.{blockReply, Judged, judgeEnded, judgeBy, judgeFor, judgeOf}
 use Rattle.page_theory.specs.Calls.{Claimed, claimEnded, claimBy, claimFor, claimOf}
 use Rattle.page_theory.specs.ReplyRules as rules
-use Rattle.page_theory.specs.ReplyRules.{isRuined, isWrong, ruinedRules, writeRules, readRules, judgeRules, claimRules}
+use Rattle.page_theory.specs.ReplyRules.{isRuined, isWrong, ruinedRules, writeRules, lookRules, takeRules, judgeRules, claimRules}
+use Rattle.page_theory.proofs.Calls as by
+use Rattle.page_theory.proofs.Calls.{Replied, look-replied, take-replied}
 
 -- ---- writing
 
@@ -69,67 +72,95 @@ module _ (m d page : List ℕ) where
     unfolding writeRules rules.writeIn layoutRules fieldRules ascending atMost number
     write-ascending = refl
 
--- ---- reading
+-- ---- looking and taking
 
 -- A reading of the first n blocks, and what the rules about them say.
 data Reads (q : Plan) (page : List ℕ) (n : ℕ) : Reading → Type 0 where
-  whole : (w : Word) (counts : List ℕ) → None (ruinedRules q page n) → Reads q page n (done w counts)
+  whole : (w : Word) → None (ruinedRules q page n) → Reads q page n (done w)
   named : (b : ℕ) → verdict (ruinedRules q page n) ≡ Refused (Uncorrectable b) → Reads q page n (refused b)
 
 module _ (q : Plan) (page : List ℕ) where
   reads-next : (n : ℕ) (r : Reading) → Reads q page n r → (o : Outcome) → outcome q page n ≡ o → Reads q page (suc n) (more n r o)
   unfolding more ruinedRules verdict isRuined
-  reads-next n r (whole w counts none) (good m k) e = whole _ _ (verdict-none _ (append-kept (ruinedRules q page n) _ none ∙ rw e))
-  reads-next n r (whole w counts none) (erased m z) e = whole _ _ (verdict-none _ (append-kept (ruinedRules q page n) _ none ∙ rw e))
-  reads-next n r (whole w counts none) ruined e = named n (append-kept (ruinedRules q page n) _ none ∙ rw e)
+  reads-next n r (whole w none) (good m k) e = whole _ (verdict-none _ (append-kept (ruinedRules q page n) _ none ∙ rw e))
+  reads-next n r (whole w none) (erased m z) e = whole _ (verdict-none _ (append-kept (ruinedRules q page n) _ none ∙ rw e))
+  reads-next n r (whole w none) ruined e = named n (append-kept (ruinedRules q page n) _ none ∙ rw e)
   reads-next n r (named b h) o e = named b (append-refused (ruinedRules q page n) _ (Uncorrectable b) h)
 
   reads-first : (n : ℕ) → Reads q page n (readingOf q page n)
   unfolding readingOf ruinedRules
-  reads-first zero = whole [] [] none.end
+  reads-first zero = whole [] none.end
   reads-first (suc n) = reads-next n (readingOf q page n) (reads-first n) (outcome q page n) refl
 
-  module _ (m d c : List ℕ) where
-    ruined-follows : (r : Reading) → Reads q page (q .blocks) r → Follows (ruinedRules q page (q .blocks)) (readBy q r m d c .reply) (readBy q r m d c .block)
-    unfolding readBy reply replyBlock verdictNumber verdictBlock number block
-    ruined-follows r (whole w counts none) = let k = none-verdict (ruinedRules q page (q .blocks)) none in record { number = rw k; beside = rw k }
-    ruined-follows r (named b h) = record { number = rw h; beside = rw h }
+  by-reading : {r : Reading} {x b : ℕ} → Reads q page (q .blocks) r → Replied r x b → Follows (ruinedRules q page (q .blocks)) x b
+  unfolding reply replyBlock verdictNumber verdictBlock number block
+  by-reading (whole w none) (by.whole _) = let k = none-verdict (ruinedRules q page (q .blocks)) none in record { number = rw k; beside = rw k }
+  by-reading (named b h) (by.named _) = record { number = rw h; beside = rw h }
 
-    read-in : Follows (rules.readIn q page m d c) (call.readIn q page m d c .reply) (call.readIn q page m d c .block)
-    unfolding rules.readIn call.readIn readReply unequal reply replyBlock verdict verdictNumber verdictBlock number block
-    read-in = go (eqb (length page) (q .size)) (eqb (length m) (q .metadata)) (eqb (length d) (q .«data»)) (eqb (length c) (q .blocks))
+  ruined-follows : {x b : ℕ} → Replied (reading q page) x b → Follows (ruinedRules q page (q .blocks)) x b
+  unfolding reading
+  ruined-follows h = by-reading (reads-first (q .blocks)) h
+
+  module _ (c : List ℕ) where
+    look-in : Follows (rules.lookIn q page c) (call.lookIn q page c .reply) (call.lookIn q page c .block)
+    unfolding rules.lookIn call.lookIn lookReply unequal reply replyBlock verdict verdictNumber verdictBlock number block
+    look-in = go (eqb (length page) (q .size)) (eqb (length c) (q .blocks))
       where
-        replied : (x y z w : Bool) → Read
-        replied x y z w =
-            cond (eqb (cond x (cond y (cond z (cond w 0 6) 6) 6) 5) 0) (readBy q (reading q page) m d c)
-            (readEnded (cond x (cond y (cond z (cond w 0 6) 6) 6) 5) 0 m d c)
+        replied : (x y : Bool) → Looked
+        replied x y = cond (eqb (cond x (cond y 0 6) 5) 0) (lookBy (reading q page) (counts q page)) (lookEnded (cond x (cond y 0 6) 5) 0 c)
 
-        go : (x y z w : Bool) → Follows
+        go : (x y : Bool) → Follows
+            (rule (cond x false true) PageLength ∷ rule (cond y false true) BufferLength ∷ ruinedRules q page (q .blocks))
+            (replied x y .reply) (replied x y .block)
+        go true true = follows-next _ refl (follows-next _ refl (ruined-follows (look-replied (reading q page) (counts q page))))
+        go true false = record { number = refl; beside = refl }
+        go false y = record { number = refl; beside = refl }
+
+  module _ (m d : List ℕ) where
+    take-in : Follows (rules.takeIn q page m d) (call.takeIn q page m d .reply) (call.takeIn q page m d .block)
+    unfolding rules.takeIn call.takeIn takeReply unequal reply replyBlock verdict verdictNumber verdictBlock number block
+    take-in = go (eqb (length page) (q .size)) (eqb (length m) (q .metadata)) (eqb (length d) (q .«data»))
+      where
+        replied : (x y z : Bool) → Taken
+        replied x y z =
+            cond (eqb (cond x (cond y (cond z 0 6) 6) 5) 0) (takeBy q (reading q page) m d) (takeEnded (cond x (cond y (cond z 0 6) 6) 5) 0 m d)
+
+        go : (x y z : Bool) → Follows
             (rule (cond x false true) PageLength
             ∷ rule (cond y false true) BufferLength
             ∷ rule (cond z false true) BufferLength
-            ∷ rule (cond w false true) BufferLength
             ∷ ruinedRules q page (q .blocks))
-            (replied x y z w .reply) (replied x y z w .block)
-        go true true true true = follows-next _ refl (follows-next _ refl (follows-next _ refl (follows-next _ refl
-            (ruined-follows (reading q page) (unfold reading in reads-first (q .blocks))))))
-        go true true true false = record { number = refl; beside = refl }
-        go true true false w = record { number = refl; beside = refl }
-        go true false z w = record { number = refl; beside = refl }
-        go false y z w = record { number = refl; beside = refl }
+            (replied x y z .reply) (replied x y z .block)
+        go true true true = follows-next _ refl (follows-next _ refl (follows-next _ refl (ruined-follows (take-replied q (reading q page) m d))))
+        go true true false = record { number = refl; beside = refl }
+        go true false z = record { number = refl; beside = refl }
+        go false y z = record { number = refl; beside = refl }
 
-module _ (rec page m d c : List ℕ) where
-  read-for : (a : Acceptance) → Accepting rec a → Follows (readRules rec page m d c) (readFor a page m d c .reply) (readFor a page m d c .block)
-  unfolding readRules readFor
-  read-for a (accepts none) = accepted-follows rec none _ (read-in (planOf (layoutOf rec)) page m d c)
-  read-for a (refuses r e) = refused-follows rec r e _
+module _ (rec page c : List ℕ) where
+  look-for : (a : Acceptance) → Accepting rec a → Follows (lookRules rec page c) (lookFor a page c .reply) (lookFor a page c .block)
+  unfolding lookRules lookFor
+  look-for a (accepts none) = accepted-follows rec none _ (look-in (planOf (layoutOf rec)) page c)
+  look-for a (refuses r e) = refused-follows rec r e _
 
-  pub read-replies : Follows (readRules rec page m d c) (readOf rec page m d c .reply) (readOf rec page m d c .block)
-  unfolding readOf
-  read-replies = read-for (acceptance rec) (accepting rec)
+  pub look-replies : Follows (lookRules rec page c) (lookOf rec page c .reply) (lookOf rec page c .block)
+  unfolding lookOf
+  look-replies = look-for (acceptance rec) (accepting rec)
 
-  pub read-exactly : Exactly (readRules rec page m d c) (readOf rec page m d c .reply) (readOf rec page m d c .block)
-  read-exactly = exactly (readRules rec page m d c) read-replies
+  pub look-exactly : Exactly (lookRules rec page c) (lookOf rec page c .reply) (lookOf rec page c .block)
+  look-exactly = exactly (lookRules rec page c) look-replies
+
+module _ (rec page m d : List ℕ) where
+  take-for : (a : Acceptance) → Accepting rec a → Follows (takeRules rec page m d) (takeFor a page m d .reply) (takeFor a page m d .block)
+  unfolding takeRules takeFor
+  take-for a (accepts none) = accepted-follows rec none _ (take-in (planOf (layoutOf rec)) page m d)
+  take-for a (refuses r e) = refused-follows rec r e _
+
+  pub take-replies : Follows (takeRules rec page m d) (takeOf rec page m d .reply) (takeOf rec page m d .block)
+  unfolding takeOf
+  take-replies = take-for (acceptance rec) (accepting rec)
+
+  pub take-exactly : Exactly (takeRules rec page m d) (takeOf rec page m d .reply) (takeOf rec page m d .block)
+  take-exactly = exactly (takeRules rec page m d) take-replies
 
 -- The rules about the blocks all have the number 9.
 data Nines : List Rule → Type 0 where
@@ -156,9 +187,15 @@ module _ (q : Plan) (page : List ℕ) where
   ruined-nines zero = end
   ruined-nines (suc n) = nines-append (ruined-nines n) (next refl end)
 
-pub read-ascending : (rec page m d c : List ℕ) → ascending (drop 1 (readRules rec page m d c)) ≡ true
-unfolding readRules rules.readIn layoutRules fieldRules ascending atMost number
-read-ascending rec page m d c =
+pub look-ascending : (rec page c : List ℕ) → ascending (drop 1 (lookRules rec page c)) ≡ true
+unfolding lookRules rules.lookIn layoutRules fieldRules ascending atMost number
+look-ascending rec page c =
+    let h = ruined-nines (planOf (layoutOf rec)) page (planOf (layoutOf rec) .blocks) in
+    rw (nines-least 6 (omega arith) h, nines-ascending h)
+
+pub take-ascending : (rec page m d : List ℕ) → ascending (drop 1 (takeRules rec page m d)) ≡ true
+unfolding takeRules rules.takeIn layoutRules fieldRules ascending atMost number
+take-ascending rec page m d =
     let h = ruined-nines (planOf (layoutOf rec)) page (planOf (layoutOf rec) .blocks) in
     rw (nines-least 6 (omega arith) h, nines-ascending h)
 

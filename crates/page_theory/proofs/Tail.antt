@@ -1,14 +1,16 @@
--- The tail is ignored (document 01, "Layout words"): two pages of one length that agree in every covered bit read, judge and are claimed about the
--- same, whatever their tails hold; under any record, any pages, any lent buffers.
-use mathlib.Core.Path.{_≡_, refl, sym, ap₂, _∙_}
+-- The tail is ignored (document 01, "Layout words"): two pages of one length that agree in every covered bit are looked at, taken, judged and
+-- claimed about with the same answers, whatever their tails hold; under any record, any pages, any lent buffers.
+use mathlib.Core.Path.{_≡_, refl, sym, ap, ap₂, _∙_}
 use mathlib.Core.List.{List}
 use Prim.Native.Nat.{ℕ, zero, suc, _≤_, _<_}
 use native.Mathlib.Omega.{arith}
 use native.Mathlib.Decide.{decLt}
+use native.Mathlib.Nat.{zero-add}
 use lib.ListN.{length}
 use borrow.Author.Tests.{le-ltb}
 use lib.Dec.{eqb}
 use mathlib.Core.Bool.{Bool, true, false, cond}
+use Rattle.bits.proofs.Runs.{run-cong}
 use Rattle.layout.specs.declared.Plan.{Plan}
 use Rattle.layout.specs.declared.Acceptance.{Acceptance}
 use Rattle.layout.specs.declared.Acceptance.the-variants.{Accepted, Refused}
@@ -16,12 +18,13 @@ use Rattle.layout.specs.Record.{layoutOf}
 use Rattle.layout.specs.Plan.{planOf}
 use Rattle.layout.specs.Acceptance.{acceptance}
 use Rattle.page_theory.specs.Page.{blockWord}
-use Rattle.page_theory.specs.Reading.{outcome, more, readingOf, reading}
+use Rattle.page_theory.specs.Reading.{outcome, more, readingOf, reading, countOf, counts}
 use Rattle.page_theory.specs.Damage.{Accepts}
-use Rattle.page_theory.specs.Calls.{readIn, readFor, readOf, blockReply, judgeIn, judgeFor, judgeOf, claimIn, claimFor, claimOf}
+use Rattle.page_theory.specs.Calls.{lookIn, lookFor, lookOf, takeIn, takeFor, takeOf}
+use Rattle.page_theory.specs.Calls.{blockReply, judgeIn, judgeFor, judgeOf, claimIn, claimFor, claimOf}
 use Rattle.page_theory.specs.Alike.{SameBlocks}
 use Rattle.page_theory.proofs.Blocks.{blockWord-cong}
-use Rattle.page_theory.proofs.Accepted.{accepted-accepts, read-accepted, judge-accepted, claim-accepted}
+use Rattle.page_theory.proofs.Accepted.{accepted-accepts, look-accepted, take-accepted, judge-accepted, claim-accepted}
 
 module _ (q : Plan) (page other : List ℕ) (size : length page ≡ length other) (words : (b : ℕ) → b < q .blocks → blockWord q page b ≡ blockWord q other b) where
   tail-outcome : (b : ℕ) → b < q .blocks → outcome q page b ≡ outcome q other b
@@ -33,9 +36,17 @@ module _ (q : Plan) (page other : List ℕ) (size : length page ≡ length other
   tail-readingOf zero l = refl
   tail-readingOf (suc n) l = ap₂ (more n) (tail-readingOf n (omega arith)) (tail-outcome n l)
 
-  tail-readIn : (m d c : List ℕ) → readIn q page m d c ≡ readIn q other m d c
-  unfolding readIn reading
-  tail-readIn m d c = rw (size, tail-readingOf (q .blocks) (omega arith))
+  tail-counts : counts q page ≡ counts q other
+  unfolding counts
+  tail-counts = run-cong _ _ 0 0 (q .blocks) (λ b l. rw (zero-add b) (ap countOf (tail-outcome b l)))
+
+  tail-lookIn : (c : List ℕ) → lookIn q page c ≡ lookIn q other c
+  unfolding lookIn reading
+  tail-lookIn c = rw (size, tail-readingOf (q .blocks) (omega arith), tail-counts)
+
+  tail-takeIn : (m d : List ℕ) → takeIn q page m d ≡ takeIn q other m d
+  unfolding takeIn reading
+  tail-takeIn m d = rw (size, tail-readingOf (q .blocks) (omega arith))
 
   -- a block number outside its range is refused whatever the page holds
   outside : (b : ℕ) → q .blocks ≤ b → (n : ℕ) → eqb (blockReply q n b) 0 ≡ false
@@ -64,14 +75,23 @@ module _ (rec page other : List ℕ) (alike : SameBlocks rec page other) where
   same-words : (q : Plan) → Accepts rec q → (b : ℕ) → b < q .blocks → blockWord q page b ≡ blockWord q other b
   same-words q a b l = blockWord-cong q page other b (λ j k. alike .bits q a b j l k)
 
-  pub tail-read : (m d c : List ℕ) → readOf rec page m d c ≡ readOf rec other m d c
-  unfolding readOf readFor
-  tail-read m d c = go (acceptance rec) refl
+  pub tail-look : (c : List ℕ) → lookOf rec page c ≡ lookOf rec other c
+  unfolding lookOf lookFor
+  tail-look c = go (acceptance rec) refl
     where
-      go : (a : Acceptance) → acceptance rec ≡ a → readOf rec page m d c ≡ readOf rec other m d c
+      go : (a : Acceptance) → acceptance rec ≡ a → lookOf rec page c ≡ lookOf rec other c
       go (Refused r) e = rw e
       go (Accepted l) e = let q = planOf (layoutOf rec) in let a = accepted-accepts rec l e in
-          read-accepted rec q a page m d c ∙ tail-readIn q page other (alike .size) (same-words q a) m d c ∙ sym (read-accepted rec q a other m d c)
+          look-accepted rec q a page c ∙ tail-lookIn q page other (alike .size) (same-words q a) c ∙ sym (look-accepted rec q a other c)
+
+  pub tail-take : (m d : List ℕ) → takeOf rec page m d ≡ takeOf rec other m d
+  unfolding takeOf takeFor
+  tail-take m d = go (acceptance rec) refl
+    where
+      go : (a : Acceptance) → acceptance rec ≡ a → takeOf rec page m d ≡ takeOf rec other m d
+      go (Refused r) e = rw e
+      go (Accepted l) e = let q = planOf (layoutOf rec) in let a = accepted-accepts rec l e in
+          take-accepted rec q a page m d ∙ tail-takeIn q page other (alike .size) (same-words q a) m d ∙ sym (take-accepted rec q a other m d)
 
   pub tail-judge : (b : ℕ) → judgeOf rec page b ≡ judgeOf rec other b
   unfolding judgeOf judgeFor

@@ -15,7 +15,7 @@ use Rattle.bits.proofs.Placed.{placed-whole}
 use Rattle.layout.specs.declared.Plan.{Plan}
 use Rattle.layout.specs.Plan.{covered, start, used, Valid}
 use Rattle.layout.proofs.Plans.{start-order}
-use Rattle.layout.proofs.Placing.{Lies, block-or-tail}
+use Rattle.page_bits.proofs.Placing.{Lies, block-or-tail}
 use Rattle.code.specs.Word.{Word}
 use Rattle.page_theory.specs.Page.{written, pageOf, blockWord}
 use Rattle.page_theory.specs.Demands.{Stands}
@@ -33,7 +33,7 @@ module _ (q : Plan) (v : Valid q) (d : List ℕ) where
   page-stands = record {
     bytes = unfold pageOf in bytes-bytes _ (q .size);
     blocks = page-block q d v;
-    tail = page-tail q d;
+    tail = page-tail q v d;
   }
 
   -- there is only one such page
@@ -45,32 +45,32 @@ module _ (q : Plan) (v : Valid q) (d : List ℕ) where
       ∙ ap (λ (w : Word). getD w (p - start q b) false) (s .blocks b (i .1) ∙ sym (o .blocks b (i .1)))
       ∙ blockWord-at q (pageOf q d) b p (i .2))
       (λ (h : used q ≤ p). s .tail p h l ∙ sym (o .tail p h l))
-      (block-or-tail q p))
+      (block-or-tail q v p))
 
 -- The first n written blocks, one after the other.
 unfoldable pub stream : Plan → List ℕ → ℕ → Word
 stream q d zero = []
 stream q d (suc n) = stream q d n ++ written q d n
 
-pub stream-length : (q : Plan) (d : List ℕ) (n : ℕ) → length (stream q d n) ≡ start q n
+pub stream-length : (q : Plan) → Valid q → (d : List ℕ) (n : ℕ) → length (stream q d n) ≡ start q n
 unfolding stream start
-stream-length q d zero = refl
-stream-length q d (suc n) = length-append (stream q d n) (written q d n) ∙ rw (stream-length q d n, written-length q d n)
+stream-length q v d zero = refl
+stream-length q v d (suc n) = length-append (stream q d n) (written q d n) ∙ rw (stream-length q v d n, written-length q v d n)
 
-pub stream-at : (q : Plan) (d : List ℕ) (n b j : ℕ) (x : Bool) → b < n → j < covered q b
+pub stream-at : (q : Plan) → Valid q → (d : List ℕ) (n b j : ℕ) (x : Bool) → b < n → j < covered q b
     → getD (stream q d n) (start q b + j) x ≡ getD (written q d b) j x
 unfolding stream
-stream-at q d zero b j x h k = absurd (omega arith)
-stream-at q d (suc n) b j x h k = elim (decLt b n) [
-  | yes l ↦ (let o = start-order q b n l in let e = stream-length q d n in
-      List·getD-append (stream q d n) (written q d n) x (start q b + j) (omega arith) ∙ stream-at q d n b j x l k)
+stream-at q v d zero b j x h k = absurd (omega arith)
+stream-at q v d (suc n) b j x h k = elim (decLt b n) [
+  | yes l ↦ (let o = start-order q b n l in let e = stream-length q v d n in
+      List·getD-append (stream q d n) (written q d n) x (start q b + j) (omega arith) ∙ stream-at q v d n b j x l k)
   | no l ↦ (let e : b ≡ n = omega arith in
-      rw (e, ← stream-length q d n) (getD-append-add (stream q d n) (written q d n) j x))
+      rw (e, ← stream-length q v d n) (getD-append-add (stream q d n) (written q d n) j x))
 ]
 
 pub used-room : (q : Plan) → Valid q → used q ≤ 8 * q .size
-unfolding used start
-used-room q v = go (q .blocks) (v .ends)
+unfolding start
+used-room q v = let r = go (q .blocks) (v .ends) in omega (arith, v .total)
   where
     go : (n : ℕ) → ((b : ℕ) → b < n → start q b + covered q b ≤ 8 * q .size) → start q n ≤ 8 * q .size
     go zero h = omega arith
@@ -82,29 +82,29 @@ filled q d = stream q d (q .blocks) ++ replicate (8 * q .size - used q) true
 
 module _ (q : Plan) (v : Valid q) (d : List ℕ) where
   pub filled-length : length (filled q d) ≡ 8 * q .size
-  unfolding filled used
+  unfolding filled
   filled-length =
-      length-append (stream q d (q .blocks)) _ ∙ rw (stream-length q d (q .blocks), length-replicate)
-      (let r : start q (q .blocks) ≤ 8 * q .size = used-room q v in omega arith)
+      length-append (stream q d (q .blocks)) _ ∙ rw (stream-length q v d (q .blocks), length-replicate)
+      (omega (arith, used-room q v, v .total))
 
   filled-block : (b j : ℕ) → b < q .blocks → j < covered q b
       → getD (filled q d) (start q b + j) false ≡ getD (written q d b) j false
   unfolding filled
-  filled-block b j h k = let o = start-order q b (q .blocks) h in let e = stream-length q d (q .blocks) in
-      List·getD-append (stream q d (q .blocks)) _ false (start q b + j) (omega arith) ∙ stream-at q d (q .blocks) b j false h k
+  filled-block b j h k = let o = start-order q b (q .blocks) h in let e = stream-length q v d (q .blocks) in
+      List·getD-append (stream q d (q .blocks)) _ false (start q b + j) (omega arith) ∙ stream-at q v d (q .blocks) b j false h k
 
   filled-tail : (p : ℕ) → used q ≤ p → p < 8 * q .size → getD (filled q d) p false ≡ true
-  unfolding filled used
+  unfolding filled
   filled-tail p h l =
-      let n = stream-length q d (q .blocks) in
-      let e : p ≡ length (stream q d (q .blocks)) + (p - start q (q .blocks)) = omega arith in
-      rw e (getD-append-add (stream q d (q .blocks)) (replicate (8 * q .size - start q (q .blocks)) true) (p - start q (q .blocks)) false
-      ∙ getD-replicate (8 * q .size - start q (q .blocks)) (p - start q (q .blocks)) true false (omega arith))
+      let n = stream-length q v d (q .blocks) in
+      let e : p ≡ length (stream q d (q .blocks)) + (p - used q) = omega (arith, v .total) in
+      rw e (getD-append-add (stream q d (q .blocks)) (replicate (8 * q .size - used q) true) (p - used q) false
+      ∙ getD-replicate (8 * q .size - used q) (p - used q) true false (omega arith))
 
   filled-stands : Stands q d (bytes (λ p. getD (filled q d) p false) (q .size))
   filled-stands = record {
     bytes = bytes-bytes _ (q .size);
-    blocks = λ b l. unfold blockWord in run-ext _ _ (written q d b) _ false (written-length q d b)
+    blocks = λ b l. unfold blockWord in run-ext _ _ (written q d b) _ false (written-length q v d b)
         (λ j k. bytes-bit _ (q .size) _ (omega (arith, v .ends b l)) ∙ filled-block b j l k);
     tail = λ p h l. bytes-bit _ (q .size) p l ∙ filled-tail p h l;
   }

@@ -1,12 +1,14 @@
--- What the four page calls answer and leave (document 01, "Replies", "One block" and "Claim").
+-- What the five page calls answer and leave (document 01, "Replies", "One block" and "Claim"; document 02, E6).
 -- Each is a function of everything that is lent, and gives the reply, the block number, the values, and what the buffers that
 -- the call may write to hold afterwards, on refusals too. Of several replies the first in the order 6 for the record, 1, 2, 3,
 -- 4, 5, 6, 7, 9, 10 is given. Numbers that are handed in have no bound. The block is 0 except in reply 9; beside a refusal
--- every other value is 0.
+-- every other value is 0. A refused call leaves each lent buffer as it found it, but for the counts of a look that answers 9:
+-- so document 02, E6, amended document 01's Replies.
 --
 -- bytesAt w s n               the n bytes whose bits are those of a word from its bit s on
 -- Written, writeEnded, writeReply, writeIn, writeFor, writeOf             writing a page
--- Read, readEnded, readReply, readBy, readIn, readFor, readOf             reading a page
+-- Looked, lookEnded, lookReply, lookBy, lookIn, lookFor, lookOf           looking at a page: the counts of its blocks
+-- Taken, takeEnded, takeReply, takeBy, takeIn, takeFor, takeOf            taking metadata and data out of a page
 -- blockReply                                                              the replies about a page and a block number
 -- Judged, judgeEnded, judgeBy, judgeIn, judgeFor, judgeOf                 judging one block
 -- Claimed, claimEnded, claimBy, claimIn, claimFor, claimOf                claimed locations
@@ -30,7 +32,7 @@ use Rattle.layout.specs.Acceptance.{acceptance, refusalReply}
 use Rattle.code.specs.Word.{Word}
 use Rattle.code.specs.Outcome.{Outcome, good, erased, ruined, erasedCount}
 use Rattle.page_theory.specs.Page.{pageOf, blockWord}
-use Rattle.page_theory.specs.Reading.{Reading, done, refused, outcome, reading}
+use Rattle.page_theory.specs.Reading.{Reading, done, refused, outcome, reading, counts}
 use Rattle.page_theory.specs.Claim.{Right, right?}
 
 -- Writing a page from metadata and data.
@@ -64,49 +66,80 @@ writeFor (Refused r) metadata «data» page = writeEnded (refusalReply r) 0 page
 unfoldable pub writeOf : List ℕ → List ℕ → List ℕ → List ℕ → Written
 writeOf rec metadata «data» page = writeFor (acceptance rec) metadata «data» page
 
--- Reading a page into metadata, data and counts.
+-- Looking at a page: its counts (document 02, E6).
 
-pub record Read : Type 0 where
+pub record Looked : Type 0 where
+  pub reply : ℕ
+  pub block : ℕ
+  pub counts : List ℕ
+
+abbrev pub lookEnded : ℕ → ℕ → List ℕ → Looked
+lookEnded reply block counts = record { reply = reply; block = block; counts = counts }
+
+-- 5: the lent page. 6: another lent buffer.
+unfoldable pub lookReply : Plan → ℕ → ℕ → ℕ
+lookReply q page counts =
+    unless (eqb page (q .size)) 5
+    (unless (eqb counts (q .blocks)) 6
+    0)
+
+-- The counts of all blocks are written, those of a ruined page too: the one refusal that writes.
+unfoldable pub lookBy : Reading → List ℕ → Looked
+lookBy (done w) counts = lookEnded 0 0 counts
+lookBy (refused b) counts = lookEnded 9 b counts
+
+unfoldable pub lookIn : Plan → List ℕ → List ℕ → Looked
+lookIn q page lent =
+    cond (eqb (lookReply q (length page) (length lent)) 0)
+    (lookBy (reading q page) (counts q page))
+    (lookEnded (lookReply q (length page) (length lent)) 0 lent)
+
+unfoldable pub lookFor : Acceptance → List ℕ → List ℕ → Looked
+lookFor (Accepted l) page lent = lookIn (planOf l) page lent
+lookFor (Refused r) page lent = lookEnded (refusalReply r) 0 lent
+
+unfoldable pub lookOf : List ℕ → List ℕ → List ℕ → Looked
+lookOf rec page lent = lookFor (acceptance rec) page lent
+
+-- Taking metadata and data out of a page (document 02, E6).
+
+pub record Taken : Type 0 where
   pub reply : ℕ
   pub block : ℕ
   pub metadata : List ℕ
   pub «data» : List ℕ
-  pub counts : List ℕ
 
-abbrev pub readEnded : ℕ → ℕ → List ℕ → List ℕ → List ℕ → Read
-readEnded reply block metadata «data» counts =
-    record { reply = reply; block = block; metadata = metadata; «data» = «data»; counts = counts }
+abbrev pub takeEnded : ℕ → ℕ → List ℕ → List ℕ → Taken
+takeEnded reply block metadata «data» = record { reply = reply; block = block; metadata = metadata; «data» = «data» }
 
 -- 5: the lent page. 6: another lent buffer.
-unfoldable pub readReply : Plan → ℕ → ℕ → ℕ → ℕ → ℕ
-readReply q page metadata «data» counts =
+unfoldable pub takeReply : Plan → ℕ → ℕ → ℕ → ℕ
+takeReply q page metadata «data» =
     unless (eqb page (q .size)) 5
     (unless (eqb metadata (q .metadata)) 6
     (unless (eqb «data» (q .«data»)) 6
-    (unless (eqb counts (q .blocks)) 6
-    0)))
+    0))
 
 unfoldable pub bytesAt : Word → ℕ → ℕ → List ℕ
 bytesAt w s n = bytes (λ p. getD w (s + p) false) n
 
 -- The messages of the blocks, one after the other, are the payload. A ruined page leaves what was lent.
-unfoldable pub readBy : Plan → Reading → List ℕ → List ℕ → List ℕ → Read
-readBy q (done w counts) metadata «data» lent =
-    readEnded 0 0 (bytesAt w 0 (q .metadata)) (bytesAt w (8 * q .metadata) (q .«data»)) counts
-readBy q (refused b) metadata «data» lent = readEnded 9 b metadata «data» lent
+unfoldable pub takeBy : Plan → Reading → List ℕ → List ℕ → Taken
+takeBy q (done w) metadata «data» = takeEnded 0 0 (bytesAt w 0 (q .metadata)) (bytesAt w (8 * q .metadata) (q .«data»))
+takeBy q (refused b) metadata «data» = takeEnded 9 b metadata «data»
 
-unfoldable pub readIn : Plan → List ℕ → List ℕ → List ℕ → List ℕ → Read
-readIn q page metadata «data» counts =
-    cond (eqb (readReply q (length page) (length metadata) (length «data») (length counts)) 0)
-    (readBy q (reading q page) metadata «data» counts)
-    (readEnded (readReply q (length page) (length metadata) (length «data») (length counts)) 0 metadata «data» counts)
+unfoldable pub takeIn : Plan → List ℕ → List ℕ → List ℕ → Taken
+takeIn q page metadata «data» =
+    cond (eqb (takeReply q (length page) (length metadata) (length «data»)) 0)
+    (takeBy q (reading q page) metadata «data»)
+    (takeEnded (takeReply q (length page) (length metadata) (length «data»)) 0 metadata «data»)
 
-unfoldable pub readFor : Acceptance → List ℕ → List ℕ → List ℕ → List ℕ → Read
-readFor (Accepted l) page metadata «data» counts = readIn (planOf l) page metadata «data» counts
-readFor (Refused r) page metadata «data» counts = readEnded (refusalReply r) 0 metadata «data» counts
+unfoldable pub takeFor : Acceptance → List ℕ → List ℕ → List ℕ → Taken
+takeFor (Accepted l) page metadata «data» = takeIn (planOf l) page metadata «data»
+takeFor (Refused r) page metadata «data» = takeEnded (refusalReply r) 0 metadata «data»
 
-unfoldable pub readOf : List ℕ → List ℕ → List ℕ → List ℕ → List ℕ → Read
-readOf rec page metadata «data» counts = readFor (acceptance rec) page metadata «data» counts
+unfoldable pub takeOf : List ℕ → List ℕ → List ℕ → List ℕ → Taken
+takeOf rec page metadata «data» = takeFor (acceptance rec) page metadata «data»
 
 -- Judging one block.
 

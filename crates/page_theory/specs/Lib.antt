@@ -1,4 +1,4 @@
--- Pages written, damaged and read, and what the four page calls answer: what a reader must believe.
+-- Pages written, damaged, looked at and taken, and what the five page calls answer: what a reader must believe.
 pub mod Page
 pub mod Reading
 pub mod Claim
@@ -7,3 +7,4 @@ pub mod Damage
 pub mod Demands
 pub mod ReplyRules
 pub mod Alike
+pub mod Worn

@@ -1,11 +1,11 @@
--- The replies of the four page calls, each as one list of rules in the order in which they are looked at (document 01, "Replies"). The first that
+-- The replies of the five page calls, each as one list of rules in the order in which they are looked at (document 01, "Replies"). The first that
 -- applies is given (replies/Given). What a layout record is refused for comes first (layout/ReplyRules `layoutRules`); q is the plan of the record.
 --
 -- isRuined o               an outcome is that the block has no codeword within t flips and more than t zeros
 -- isWrong d                what is decided does not hold
 -- pageRule q page          5: the lent page
 -- ruinedRules q page n     9 for each of the first n blocks, the lowest first
--- writeRules, readRules, judgeRules, claimRules     the calls
+-- writeRules, lookRules, takeRules, judgeRules, claimRules     the calls
 use mathlib.Core.Bool.{Bool, true, false}
 use mathlib.Core.List.{List, [], _∷_, _++_}
 use Prim.Native.Nat.{ℕ, zero, suc}
@@ -49,16 +49,24 @@ writeIn q metadata «data» page =
 unfoldable pub writeRules : List ℕ → List ℕ → List ℕ → List ℕ → List Rule
 writeRules rec metadata «data» page = layoutRules rec ++ writeIn (planOf (layoutOf rec)) metadata «data» page
 
-unfoldable pub readIn : Plan → List ℕ → List ℕ → List ℕ → List ℕ → List Rule
-readIn q page metadata «data» counts =
+unfoldable pub lookIn : Plan → List ℕ → List ℕ → List Rule
+lookIn q page counts =
     pageRule q page
-    ∷ rule (unequal (length metadata) (q .metadata)) BufferLength
-    ∷ rule (unequal (length «data») (q .«data»)) BufferLength
     ∷ rule (unequal (length counts) (q .blocks)) BufferLength
     ∷ ruinedRules q page (q .blocks)
 
-unfoldable pub readRules : List ℕ → List ℕ → List ℕ → List ℕ → List ℕ → List Rule
-readRules rec page metadata «data» counts = layoutRules rec ++ readIn (planOf (layoutOf rec)) page metadata «data» counts
+unfoldable pub lookRules : List ℕ → List ℕ → List ℕ → List Rule
+lookRules rec page counts = layoutRules rec ++ lookIn (planOf (layoutOf rec)) page counts
+
+unfoldable pub takeIn : Plan → List ℕ → List ℕ → List ℕ → List Rule
+takeIn q page metadata «data» =
+    pageRule q page
+    ∷ rule (unequal (length metadata) (q .metadata)) BufferLength
+    ∷ rule (unequal (length «data») (q .«data»)) BufferLength
+    ∷ ruinedRules q page (q .blocks)
+
+unfoldable pub takeRules : List ℕ → List ℕ → List ℕ → List ℕ → List Rule
+takeRules rec page metadata «data» = layoutRules rec ++ takeIn (planOf (layoutOf rec)) page metadata «data»
 
 unfoldable pub judgeIn : Plan → List ℕ → ℕ → List Rule
 judgeIn q page b =

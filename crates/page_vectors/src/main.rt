@@ -1,19 +1,23 @@
-// Runs test vectors of the page calls (write, read, judge, claim): each vector on standard input is one call, and its answer is one line.
+// Runs test vectors of the page calls (write, look, take, judge, claim): each vector on standard input is one call, and its answer is one
+// line.
 //
 // A vector is a head of 32 bytes and then a body. The head: the kind of call, the length of the layout record, its bytes in twelve places,
 // two bytes not used, the length of the page in four bytes, and twelve bytes that depend on the kind:
 //
 //   W   writes a page: the lengths of metadata and data; the body is the metadata and the data
-//   R   reads a page: the lengths of metadata, data and counts; the body is the page
+//   L   looks at a page: the length of the counts; the body is the page
+//   T   takes a page: the lengths of metadata and data; the body is the page
 //   J   judges a block: four bytes not used, the block in eight bytes; the body is the page
 //   C   checks a claim: how many exponents, the block in eight bytes; the body is the page and the exponents of two bytes each
 //
-// Each byte that a call may write is 165 before it. A line shows the reply and its block, and then after `W` the page, after `R` metadata,
-// data and counts (in hexadecimal, refused or not), and after `J` the flip count of a block that has one.
+// A length has four bytes, and the bytes of the twelve that are not named are not used. Each byte that a call may write is 165 before it.
+// A line shows the reply and its block, and then after `W` the page, after `L` the counts, after `T` metadata and data (in hexadecimal,
+// refused or not), and after `J` the flip count of a block that has one.
 mod claims;
 mod judges;
 mod lines;
-mod reads;
+mod looks;
+mod takes;
 mod writes;
 
 // The line for a call by its kind: its length, 0 where the input ends before the body does.
@@ -22,8 +26,11 @@ fn call_line(head: &[u8], words: &[u8], line: &mut [u8]) -> usize {
     if call == b'W' {
         return writes::write_line(head, words, line);
     }
-    if call == b'R' {
-        return reads::read_line(head, words, line);
+    if call == b'L' {
+        return looks::look_line(head, words, line);
+    }
+    if call == b'T' {
+        return takes::take_line(head, words, line);
     }
     if call == b'J' {
         return judges::judge_line(head, words, line);

@@ -124,20 +124,20 @@ module _ (q : Plan) (d : List ℕ) where
   pub streamed-size : (n : ℕ) {page : List ℕ} → Streamed q d n page → length page ≡ q .size
   streamed-size n h = ap length (h .put) ∙ placed-length (h .before) 0 (stream q d n) ∙ h .size
 
-  pub streamed-next : (b : ℕ) {s : Shape} {at position : ℕ} {page after : List ℕ} → Streamed q d b page → s ≡ shape q b → at ≡ from q b
+  pub streamed-next : Valid q → (b : ℕ) {s : Shape} {at position : ℕ} {page after : List ℕ} → Streamed q d b page → s ≡ shape q b → at ≡ from q b
       → position ≡ start q b → after ≡ placed page position (encoded s (run (bitOf d) at (s .message))) → Streamed q d (b + 1) after
   unfolding stream encoded written message
-  streamed-next b h es ea ep e = record {
+  streamed-next v b h es ea ep e = record {
     before = h .before;
     size = h .size;
-    put = e ∙ rw (es, ea, ep, h .put, add-one b) (placed-append (h .before) 0 (start q b) (stream q d b) _ (sym (zero-add _ ∙ stream-length q d b)));
+    put = e ∙ rw (es, ea, ep, h .put, add-one b) (placed-append (h .before) 0 (start q b) (stream q d b) _ (sym (zero-add _ ∙ stream-length q v d b)));
   }
 
-  pub streamed-end : Valid q → {page after : List ℕ} {u : ℕ} → Streamed q d (q .blocks) page → u ≡ start q (q .blocks)
+  pub streamed-end : Valid q → {page after : List ℕ} {u : ℕ} → Streamed q d (q .blocks) page → u ≡ used q
       → after ≡ placed page u (ones (8 * length page - u)) → after ≡ pageOf q d
-  unfolding filled ones used
+  unfolding filled ones
   streamed-end v h eu e =
       let w = stream q d (q .blocks) in
       e ∙ rw (eu, streamed-size (q .blocks) h, h .put)
-      (placed-append (h .before) 0 (start q (q .blocks)) w _ (sym (zero-add _ ∙ stream-length q d (q .blocks))))
+      (placed-append (h .before) 0 (used q) w _ (sym (zero-add _ ∙ stream-length q v d (q .blocks) ∙ sym (v .total))))
       ∙ filled-page q v d (h .before) (h .size)

@@ -1,7 +1,7 @@
 // Writing a page: block after block its message and its parity, then ones into the tail.
 use crate::WriteAnswer;
 use crate::lengths::write_reply;
-use bits::fill::fill_ones;
+use bit_writing::fill::fill_ones;
 use division::runs::parity_of;
 use division_table::make_table;
 use layout::Acceptance;
@@ -21,7 +21,7 @@ ghost use mathlib.Core.List.{_++_};
 ghost use Prim.Native.Nat.{_+_, _≤_, _<_};
 ghost use lib.ListN.{length};
 ghost use Rattle.bits.specs.Bits.{bitOf, run, placed, Inside};
-ghost use Rattle.layout.specs.Plan.{coveredOf};
+ghost use Rattle.layout.specs.Plan.{Summed};
 ghost use Rattle.code.specs.Generator.{parity};
 ghost use Rattle.division_table.specs.Table.{Table};
 ghost use Rattle.page_theory.specs.Page.{pageOf};
@@ -32,7 +32,7 @@ ghost use Rattle.page_write.specs.Writing.{Lent, encoded};
 
 // Puts the parity of a block after its message, which stands at the block's position.
 fn put_parity(shape: Shape, table: &[u64], page: &mut [u8], position: usize)
-    requires { ⌜ Table (shape .field) (shape .level) (now table) × Inside (now page) position (coveredOf shape) ⌝ }
+    requires { ⌜ Table (shape .field) (shape .level) (now table) × Summed shape × Inside (now page) position (shape .covered) ⌝ }
     ensures { λ r. ⌜ now (page .exit)
         ≡ placed (now (page .entry)) (position + shape .message)
         (parity (shape .field) (shape .level) (run (bitOf (now (page .entry))) position (shape .message))) ⌝ }
@@ -58,8 +58,8 @@ fn write_block(
     page: &mut [u8],
     position: usize,
 )
-    requires { ⌜ Table (shape .field) (shape .level) (now table) × (length (now metadata) < 256)
-        × Inside (now metadata ++ now «data») at (shape .message) × Inside (now page) position (coveredOf shape) ⌝ }
+    requires { ⌜ Table (shape .field) (shape .level) (now table) × Summed shape × (length (now metadata) < 256)
+        × Inside (now metadata ++ now «data») at (shape .message) × Inside (now page) position (shape .covered) ⌝ }
     ensures { λ r. ⌜ now (page .exit)
         ≡ placed (now (page .entry)) position
         (encoded shape (run (bitOf (now (metadata .entry) ++ now («data» .entry))) at (shape .message))) ⌝ }
@@ -102,7 +102,7 @@ fn write_blocks(plan: Plan, metadata: &[u8], data: &[u8], page: &mut [u8])
         at += later.message as usize;
         block += 1;
     }
-    let used = block_start(plan, blocks);
+    let used = plan.used as usize;
     fill_ones(page, used, 8 * page.len() - used);
 }
 

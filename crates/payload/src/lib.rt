@@ -14,9 +14,9 @@ ghost use Prim.Native.Nat.{_+_, _*_, _≤_, _<_};
 ghost use lib.ListN.{length};
 ghost use Rattle.bits.specs.Bits.{bitOf, run, ones, placed, Inside};
 ghost use Rattle.payload.specs.Payload.{Small, Joined};
-use bits::copy::copy_bits;
-use bits::fill::fill_ones;
-use bits::write::flip_bit;
+use bit_writing::copy::copy_bits;
+use bit_writing::fill::fill_ones;
+use bit_writing::write::flip_bit;
 
 // Copies n bits of the payload, from its position `at` on, to a position of the page.
 pub fn copy_from(

@@ -34,12 +34,13 @@ use Rattle.code.specs.Register.{register}
 use Rattle.code.proofs.Remainder.{remainder-below}
 use Rattle.remainder.specs.Remainder.{bytesFor, bytesOf}
 use Rattle.remainder.proofs.Fold.{parity-bits-below}
+use Rattle.piece_parity.specs.Carried.{bitsOf, carried}
 use Rattle.pieces.specs.declared.State.{State}
-use Rattle.pieces.specs.State.{bitsOf, carried, wordsOf, choiceOf, stateOf, after}
-use Rattle.pieces.specs.Calls.{blockReply, usable, answered, finished, startFor, startOf, feedIn, feedFor, feedOf, finishIn, finishFor, finishOf}
+use Rattle.pieces.specs.State.{wordsOf, choiceOf, stateOf, after}
+use Rattle.pieces.specs.Calls.{startReply, usable, answered, finished, startFor, startOf, feedIn, feedFor, feedOf, finishIn, finishFor, finishOf}
 use Rattle.pieces.specs.Cutting.{joined, feeds, parityIn}
 use Rattle.pieces.proofs.Words.{register-words}
-use Rattle.pieces.proofs.Carrying.{carried-start, carried-append, carried-below}
+use Rattle.piece_parity.proofs.Carrying.{carried-start, carried-append, carried-below}
 use Rattle.pieces.proofs.Replies.{right-level, Going, usable-going, going-usable, start-done, feed-past, feed-taken, finish-early, finish-bytes, finish-right, finish-refused, finish-done}
 
 append-assoc : (u v w : List ℕ) → (u ++ v) ++ w ≡ u ++ (v ++ w)
@@ -153,7 +154,7 @@ unfolding chosen choiceOf
 chosen-choice Thirteen = refl
 chosen-choice Fourteen = refl
 
-module _ (f : Field) (level n : ℕ) (right : blockReply f level n ≡ 0) where
+module _ (f : Field) (level n : ℕ) (right : startReply f level n ≡ 0) where
   low : level ≤ 20
   low = right-level f level n right
 

@@ -17,7 +17,7 @@ use Rattle.field.specs.Field.{chosen, degree, longest}
 use Rattle.remainder.specs.Remainder.{bytesFor}
 use Rattle.pieces.specs.declared.State.{State}
 use Rattle.pieces.specs.declared.Answered.{Answered}
-use Rattle.pieces.specs.Calls.{blockReply, usable, Finished, finished, startIn, startFor, startOf, feedIn, feedFor, feedOf, finishReply, finishIn, finishFor, finishOf}
+use Rattle.pieces.specs.Calls.{startReply, usable, Finished, finished, startIn, startFor, startOf, feedIn, feedFor, feedOf, finishReply, finishIn, finishFor, finishOf}
 use Rattle.pieces.proofs.Replies.{reply-level, reply-empty, reply-plain, reply-long, reply-right}
 
 -- a reply of the table, by its number
@@ -60,7 +60,7 @@ pub record FinishEnds (s : State) (b : List ℕ) (w : Finished) : Type 0 where
 
 -- ---- starting
 
-block-table : (f : Field) (n m : ℕ) → Start (blockReply f n m)
+block-table : (f : Field) (n m : ℕ) → Start (startReply f n m)
 block-table f n m = elim (decLt 20 n) [
   | yes h ↦ rw (← reply-level f n m h) level
   | no h ↦ elim (decLt 0 m) [
@@ -77,9 +77,9 @@ block-table f n m = elim (decLt 20 n) [
 
 startIn-ends : (f : Field) (s : State) (n m : ℕ) → StartEnds s (startIn f s n m)
 unfolding startIn
-startIn-ends f s n m = go (blockReply f n m) refl (block-table f n m)
+startIn-ends f s n m = go (startReply f n m) refl (block-table f n m)
   where
-    go : (r : ℕ) → blockReply f n m ≡ r → Start r → StartEnds s (startIn f s n m)
+    go : (r : ℕ) → startReply f n m ≡ r → Start r → StartEnds s (startIn f s n m)
     go r e done = rw e (record { table = done; kept = λ h. absurd (h refl) })
     go r e level = rw e (record { table = level; kept = λ h. refl })
     go r e message = rw e (record { table = message; kept = λ h. refl })

@@ -1,6 +1,5 @@
--- Laws of pieces: numbers in words, what is carried, the replies, a started state, how calls end, and that cuts do not matter.
+-- Laws of pieces: numbers in words, the replies, a started state, how calls end, and that cuts do not matter.
 pub mod Words
-pub mod Carrying
 pub mod Starting
 pub mod Replies
 pub mod Ends

@@ -12,14 +12,14 @@ use Rattle.field.specs.declared.Field.{Field}
 use Rattle.field.specs.declared.Field.the-variants.{Thirteen, Fourteen}
 use Rattle.field.specs.Field.{degree, longest}
 use Rattle.replies.specs.Replies.{number}
-use Rattle.layout.specs.Plan.{coveredOf}
+use Rattle.layout.specs.Plan.{shapeWith}
 use Rattle.layout.specs.Acceptance.{test, either, levelRule, messageRule, lengthRule, ruleRefusal, ruleNumber}
 use Rattle.code.specs.Register.{register}
 use Rattle.remainder.specs.Remainder.{bytesFor, bytesOf}
 use Rattle.remainder.proofs.Fold.{parity-bits-below}
 use Rattle.pieces.specs.declared.State.{State}
 use Rattle.pieces.specs.State.{stateOf, after}
-use Rattle.pieces.specs.Calls.{shapeFor, findingReply, blockReply, usable, answered, finished, startIn, feedIn, finishReply, finishIn}
+use Rattle.pieces.specs.Calls.{shapeFor, findingReply, startReply, usable, answered, finished, startIn, feedIn, finishReply, finishIn}
 
 -- ---- a block
 
@@ -29,23 +29,23 @@ longest-most Thirteen = omega arith
 longest-most Fourteen = omega arith
 
 module _ (f : Field) (level n : ℕ) where
-  pub reply-level : 20 < level → 1 ≡ blockReply f level n
-  unfolding blockReply levelRule test either findingReply ruleNumber ruleRefusal number
+  pub reply-level : 20 < level → 1 ≡ startReply f level n
+  unfolding startReply levelRule test either findingReply ruleNumber ruleRefusal number
   reply-level h = rw (lt-ltb 20 level h)
 
   module _ (low : level ≤ 20) where
-    pub reply-empty : n ≡ 0 → 2 ≡ blockReply f level n
-    unfolding blockReply levelRule messageRule shapeFor test either findingReply ruleNumber ruleRefusal number
+    pub reply-empty : n ≡ 0 → 2 ≡ startReply f level n
+    unfolding startReply levelRule messageRule shapeFor shapeWith test either findingReply ruleNumber ruleRefusal number
     reply-empty e = rw (le-ltb 20 level low, lt-ltb (8 * n) 1 (omega arith))
 
     module _ (some : 0 < n) where
-      pub reply-plain : level ≡ 0 → 0 ≡ blockReply f level n
-      unfolding blockReply levelRule messageRule lengthRule shapeFor test either findingReply ruleNumber ruleRefusal number
+      pub reply-plain : level ≡ 0 → 0 ≡ startReply f level n
+      unfolding startReply levelRule messageRule lengthRule shapeFor shapeWith test either findingReply ruleNumber ruleRefusal number
       reply-plain e = rw (le-ltb 20 level low, le-ltb (8 * n) 1 (omega arith), eq-eqb (2 * level) 0 (omega arith))
 
       module _ (coded : 0 < level) where
-        pub reply-long : longest f < 8 * n + degree f * (2 * level) → 3 ≡ blockReply f level n
-        unfolding blockReply levelRule messageRule lengthRule shapeFor coveredOf test either findingReply ruleNumber ruleRefusal number
+        pub reply-long : longest f < 8 * n + degree f * (2 * level) → 3 ≡ startReply f level n
+        unfolding startReply levelRule messageRule lengthRule shapeFor shapeWith test either findingReply ruleNumber ruleRefusal number
         reply-long h = rw (
           le-ltb 20 level low,
           le-ltb (8 * n) 1 (omega arith),
@@ -53,8 +53,8 @@ module _ (f : Field) (level n : ℕ) where
           lt-ltb (longest f) (8 * n + degree f * (2 * level)) h,
         )
 
-        pub reply-right : 8 * n + degree f * (2 * level) ≤ longest f → 0 ≡ blockReply f level n
-        unfolding blockReply levelRule messageRule lengthRule shapeFor coveredOf test either findingReply ruleNumber ruleRefusal number
+        pub reply-right : 8 * n + degree f * (2 * level) ≤ longest f → 0 ≡ startReply f level n
+        unfolding startReply levelRule messageRule lengthRule shapeFor shapeWith test either findingReply ruleNumber ruleRefusal number
         reply-right h = rw (
           le-ltb 20 level low,
           le-ltb (8 * n) 1 (omega arith),
@@ -63,7 +63,7 @@ module _ (f : Field) (level n : ℕ) where
         )
 
   -- what holds of a block that gets no reply
-  module _ (right : blockReply f level n ≡ 0) where
+  module _ (right : startReply f level n ≡ 0) where
     pub right-level : level ≤ 20
     right-level = elim (decLt 20 level) [ yes h ↦ absurd (omega (arith, reply-level h)) | no h ↦ omega arith ]
 
@@ -79,32 +79,32 @@ module _ (f : Field) (level n : ℕ) where
 -- ---- a state
 
 module _ (f : Field) (s : State) where
-  pub usable-refused : {r : ℕ} → r ≡ blockReply f (s .level) (s .size) → (r ≡ 0 → ⊥) → false ≡ usable f s
+  pub usable-refused : {r : ℕ} → r ≡ startReply f (s .level) (s .size) → (r ≡ 0 → ⊥) → false ≡ usable f s
   unfolding usable
-  usable-refused e ne = rw (ne-eqb (blockReply f (s .level) (s .size)) 0 (λ z. ne (e ∙ z)))
+  usable-refused e ne = rw (ne-eqb (startReply f (s .level) (s .size)) 0 (λ z. ne (e ∙ z)))
 
-  module _ (right : blockReply f (s .level) (s .size) ≡ 0) where
+  module _ (right : startReply f (s .level) (s .size) ≡ 0) where
     pub usable-past : s .size < s .fed → false ≡ usable f s
     unfolding usable
-    usable-past h = rw (eq-eqb (blockReply f (s .level) (s .size)) 0 right, lt-leb (s .fed) (s .size) h)
+    usable-past h = rw (eq-eqb (startReply f (s .level) (s .size)) 0 right, lt-leb (s .fed) (s .size) h)
 
     pub usable-below : {r : Bool} {bits : ℕ} → s .fed ≤ s .size → bits ≡ degree f * (2 * s .level) → r ≡ ltb (register (s .words)) (2 ^ bits) → r ≡ usable f s
     unfolding usable
-    usable-below h e g = g ∙ rw (eq-eqb (blockReply f (s .level) (s .size)) 0 right, le-leb (s .fed) (s .size) h, e)
+    usable-below h e g = g ∙ rw (eq-eqb (startReply f (s .level) (s .size)) 0 right, le-leb (s .fed) (s .size) h, e)
 
   -- what holds of a usable state
   pub record Going : Type 0 where
-    pub right : blockReply f (s .level) (s .size) ≡ 0
+    pub right : startReply f (s .level) (s .size) ≡ 0
     pub inside : s .fed ≤ s .size
     pub below : register (s .words) < 2 ^ (degree f * (2 * s .level))
 
   pub usable-going : usable f s ≡ true → Going
   unfolding usable
-  usable-going = go (eqb (blockReply f (s .level) (s .size)) 0) (leb (s .fed) (s .size)) refl refl
+  usable-going = go (eqb (startReply f (s .level) (s .size)) 0) (leb (s .fed) (s .size)) refl refl
     where
-      go : (b c : Bool) → eqb (blockReply f (s .level) (s .size)) 0 ≡ b → leb (s .fed) (s .size) ≡ c → usable f s ≡ true → Going
+      go : (b c : Bool) → eqb (startReply f (s .level) (s .size)) 0 ≡ b → leb (s .fed) (s .size) ≡ c → usable f s ≡ true → Going
       go true true eb ec h = record {
-        right = eqb-true (blockReply f (s .level) (s .size)) 0 eb;
+        right = eqb-true (startReply f (s .level) (s .size)) 0 eb;
         inside = leb-true (s .fed) (s .size) ec;
         below = ltb-true (register (s .words)) (2 ^ (degree f * (2 * s .level))) (rw (eb, ec) at h);
       }
@@ -114,7 +114,7 @@ module _ (f : Field) (s : State) where
   pub going-usable : Going → usable f s ≡ true
   unfolding usable
   going-usable g = rw (
-    eq-eqb (blockReply f (s .level) (s .size)) 0 (g .right),
+    eq-eqb (startReply f (s .level) (s .size)) 0 (g .right),
     le-leb (s .fed) (s .size) (g .inside),
     lt-ltb (register (s .words)) (2 ^ (degree f * (2 * s .level))) (g .below),
   )
@@ -176,13 +176,13 @@ module _ (f : Field) (s : State) (n : ℕ) where
 -- ---- the answers
 
 module _ (f : Field) (s : State) where
-  pub start-refused : (level n : ℕ) {r : ℕ} → r ≡ blockReply f level n → (r ≡ 0 → ⊥) → answered r s ≡ startIn f s level n
+  pub start-refused : (level n : ℕ) {r : ℕ} → r ≡ startReply f level n → (r ≡ 0 → ⊥) → answered r s ≡ startIn f s level n
   unfolding startIn
-  start-refused level n e h = rw (e, ne-eqb (blockReply f level n) 0 (λ z. h (e ∙ z)))
+  start-refused level n e h = rw (e, ne-eqb (startReply f level n) 0 (λ z. h (e ∙ z)))
 
-  pub start-done : (level n : ℕ) {a : State} → blockReply f level n ≡ 0 → a ≡ stateOf f level n [] → answered 0 a ≡ startIn f s level n
+  pub start-done : (level n : ℕ) {a : State} → startReply f level n ≡ 0 → a ≡ stateOf f level n [] → answered 0 a ≡ startIn f s level n
   unfolding startIn
-  start-done level n e h = rw (h, eq-eqb (blockReply f level n) 0 e)
+  start-done level n e h = rw (h, eq-eqb (startReply f level n) 0 e)
 
   pub feed-unusable : (piece : List ℕ) → usable f s ≡ false → answered 7 s ≡ feedIn f s piece
   unfolding feedIn number

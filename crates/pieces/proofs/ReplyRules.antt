@@ -18,13 +18,13 @@ use Rattle.field.specs.declared.Field.the-variants.{Thirteen, Fourteen}
 use Rattle.field.specs.declared.Choice.the-variants.{Offered, Unknown}
 use Rattle.field.specs.Field.{degree, longest, chosen}
 use Rattle.layout.specs.Record.{fieldOf}
-use Rattle.layout.specs.Plan.{coveredOf}
+use Rattle.layout.specs.Plan.{shapeWith}
 use Rattle.layout.specs.ReplyRules.{tooLong}
 use Rattle.pieces.specs.declared.State.{State}
 use Rattle.pieces.specs.State.{stateOf, after}
 use Rattle.code.specs.Register.{register}
 use Rattle.remainder.specs.Remainder.{bytesFor, bytesOf}
-use Rattle.pieces.specs.Calls.{Finished, shapeFor, blockReply, usable, answered, finished, startIn, startFor, startOf, feedIn, feedFor, feedOf, finishReply, finishIn, finishFor, finishOf}
+use Rattle.pieces.specs.Calls.{Finished, shapeFor, startReply, usable, answered, finished, startIn, startFor, startOf, feedIn, feedFor, feedOf, finishReply, finishIn, finishFor, finishOf}
 use Rattle.pieces.specs.ReplyRules.{blockRules, startRules, goesOn, feedRules, finishRules}
 use Rattle.pieces.proofs.Replies.{reply-level, reply-empty, reply-plain, reply-long, reply-right}
 
@@ -43,14 +43,14 @@ chose (suc (suc c)) = unknown refl (lt-ltb 1 (suc (suc c)) (omega arith))
 
 module _ (f : Field) (level n : ℕ) where
   long-plain : level ≡ 0 → tooLong (shapeFor f level n) ≡ false
-  unfolding tooLong shapeFor
+  unfolding tooLong shapeFor shapeWith
   long-plain e = rw (eq-eqb (2 * level) 0 (omega arith))
 
   long-coded : 0 < level → tooLong (shapeFor f level n) ≡ ltb (longest f) (8 * n + degree f * (2 * level))
-  unfolding tooLong shapeFor coveredOf
+  unfolding tooLong shapeFor shapeWith
   long-coded h = rw (ne-eqb (2 * level) 0 (λ e. omega arith))
 
-  block-follows : Follows (blockRules f level n) (blockReply f level n) 0
+  block-follows : Follows (blockRules f level n) (startReply f level n) 0
   unfolding blockRules number block
   block-follows = elim (decLt 20 level) [
     | yes h ↦ rw (← reply-level f level n h) (follows-here _ (lt-ltb 20 level h))
@@ -71,9 +71,9 @@ module _ (f : Field) (level n : ℕ) where
     ]
   ]
 
-  start-reply : (s : State) → startIn f s level n .reply ≡ blockReply f level n
+  start-reply : (s : State) → startIn f s level n .reply ≡ startReply f level n
   unfolding startIn
-  start-reply s = go (blockReply f level n)
+  start-reply s = go (startReply f level n)
     where
       go : (r : ℕ) → cond (eqb r 0) (answered 0 (stateOf f level n [])) (answered r s) .reply ≡ r
       go zero = refl

@@ -5,9 +5,10 @@ use Prim.Native.Nat.{ℕ, _*_}
 use lib.ListN.{replicate}
 use Rattle.bits.specs.Bits.{run}
 use Rattle.field.specs.declared.Field.{Field}
-use Rattle.pieces.specs.State.{bitsOf, choiceOf, stateOf}
+use Rattle.piece_parity.specs.Carried.{bitsOf}
+use Rattle.pieces.specs.State.{choiceOf, stateOf}
 use Rattle.pieces.proofs.Words.{wordsOf-zero}
-use Rattle.pieces.proofs.Carrying.{parity-none}
+use Rattle.piece_parity.proofs.Carrying.{parity-none}
 
 pub bitsOf-empty : bitsOf [] ≡ []
 unfolding bitsOf run

@@ -3,7 +3,7 @@
 -- order 7, 1, 2, 3, 6 is given. A refusal leaves the state and the parity buffer as they were, and finishing leaves the state.
 --
 -- shapeFor f level n        the shape of a block with a message of n bytes (layout/Plan)
--- blockReply f level n      1, 2 or 3 where a block of a page would get it (layout/Acceptance), else 0
+-- startReply f level n      1, 2 or 3 where a block of a page would get it (layout/Acceptance), else 0
 -- usable f s                a start in the field f accepts the numbers of the state, no more is fed than the message has, and what is carried is below 2^(mt)
 -- answered reply s          an answer; Finished: a reply, the state and the lent parity buffer afterwards
 -- startIn, feedIn, finishIn     the calls in a field; startFor, feedFor, finishFor: with the answer to a field choice
@@ -25,6 +25,7 @@ use Rattle.layout.specs.declared.Shape.{Shape}
 use Rattle.layout.specs.declared.Finding.{Finding}
 use Rattle.layout.specs.declared.Finding.the-variants.{Kept, Broken}
 use Rattle.layout.specs.declared.Kind.the-variants.{First}
+use Rattle.layout.specs.Plan.{shapeWith}
 use Rattle.layout.specs.Acceptance.{either, levelRule, messageRule, lengthRule, ruleNumber}
 use Rattle.code.specs.Register.{register}
 use Rattle.remainder.specs.Remainder.{bytesFor, bytesOf}
@@ -34,22 +35,22 @@ use Rattle.pieces.specs.State.{stateOf, after}
 
 -- t is twice the level field, 0 where there is no ECC.
 unfoldable pub shapeFor : Field → ℕ → ℕ → Shape
-shapeFor f level n = record { message = 8 * n; field = f; level = 2 * level }
+shapeFor f level n = shapeWith (8 * n) f (2 * level)
 
 unfoldable pub findingReply : Finding → ℕ
 findingReply Kept = 0
 findingReply (Broken reason) = ruleNumber (reason .rule)
 
 -- The rules of one block, in their order.
-unfoldable pub blockReply : Field → ℕ → ℕ → ℕ
-blockReply f level n =
+unfoldable pub startReply : Field → ℕ → ℕ → ℕ
+startReply f level n =
     findingReply
     (either (levelRule First (record { ecc = level; gf = f; units = 0 }))
     (either (messageRule First (shapeFor f level n)) (lengthRule First (shapeFor f level n))))
 
 unfoldable pub usable : Field → State → Bool
 usable f s =
-    cond (eqb (blockReply f (s .level) (s .size)) 0)
+    cond (eqb (startReply f (s .level) (s .size)) 0)
     (cond (leb (s .fed) (s .size)) (ltb (register (s .words)) (2 ^ (degree f * (2 * s .level)))) false)
     false
 
@@ -66,7 +67,7 @@ unfoldable pub finished : Answered → List ℕ → Finished
 finished a parity = record { reply = a .reply; state = a .state; parity = parity }
 
 unfoldable pub startIn : Field → State → ℕ → ℕ → Answered
-startIn f s level n = cond (eqb (blockReply f level n) 0) (answered 0 (stateOf f level n [])) (answered (blockReply f level n) s)
+startIn f s level n = cond (eqb (startReply f level n) 0) (answered 0 (stateOf f level n [])) (answered (startReply f level n) s)
 
 -- 7: a field choice that is not offered
 unfoldable pub startFor : Choice → State → ℕ → ℕ → Answered

@@ -1,8 +1,6 @@
 -- What is carried from piece to piece (document 02, E4).
 -- A polynomial over GF(2) is a number: its binary digit p is the coefficient of x^p.
 --
--- bitsOf l                 the bits of a list of bytes, as a word
--- carried f t r w          the remainder r with the bits w after those that it stands for: r times x^(length w), plus the parity of w
 -- wordsOf x                the number x in fourteen words of 64 bits, the lowest first
 -- choiceOf f               the number of a field choice
 -- stateOf f level n l      the state after the bytes l, in pieces or in one, of a message of n bytes; t is twice the level field
@@ -11,24 +9,14 @@ use mathlib.Core.Bool.{false}
 use mathlib.Core.List.{List, _++_}
 use Prim.Native.Nat.{ℕ, _+_, _*_, _/_, _%_, _^_}
 use lib.ListN.{length, replicate}
-use lib.Bits.{bitXor}
-use Rattle.bits.specs.Bits.{bitOf, run}
+use Rattle.bits.specs.Bits.{run}
 use Rattle.field.specs.declared.Field.{Field}
 use Rattle.field.specs.declared.Field.the-variants.{Thirteen, Fourteen}
 use Rattle.field.specs.Field.{degree}
-use Rattle.code.specs.Word.{Word}
-use Rattle.code.specs.Generator.{generator, remainder}
+use Rattle.code.specs.Generator.{remainder}
 use Rattle.code.specs.Register.{register}
-use Rattle.remainder.specs.Remainder.{remainderFrom}
+use Rattle.piece_parity.specs.Carried.{bitsOf, carried}
 use Rattle.pieces.specs.declared.State.{State}
-
-unfoldable pub bitsOf : List ℕ → Word
-bitsOf l = run (bitOf l) 0 (8 * length l)
-
--- Both summands are remainders by the generator of the level.
-unfoldable pub carried : Field → ℕ → ℕ → Word → ℕ
-carried f t r w =
-    bitXor (remainderFrom (degree f * t) (generator f t) r (replicate (length w) false)) (remainder f t (w ++ replicate (degree f * t) false))
 
 unfoldable pub wordsOf : ℕ → List ℕ
 wordsOf x = run (λ i. x / 2 ^ (64 * i) % 2 ^ 64) 0 14

@@ -8,11 +8,9 @@
 // parity of these. The calls take the state by value and answer it (value.rt); the calls here are thin forms of them that are
 // lent the state. None asks anything of its caller, and a refusal or a finish leaves the state as it was.
 // 1. rules.rt decides as a block's rules do, and looks at a state that may have come from anywhere.
-// 2. carry.rt takes the bits of a piece into the carried parity: a long piece by the table of the level, as pages are written, a
-//    short one bit by bit.
+// 2. Crate `piece_parity` takes the bits of a piece into the carried parity.
 // A state that no start has made is answered 7, or else is taken for what its numbers say: specs/Calls.antt has it all.
 // The law that it does not matter where a message is cut stands in proofs/Cutting.antt, once over m and t.
-mod carry;
 mod rules;
 pub mod value;
 

@@ -6,11 +6,11 @@ use remainder::coefficients::bytes_for;
 use remainder::coefficients::is_below;
 use remainder::coefficients::parity_bits;
 ghost use mathlib.Core.Path.{_≡_};
-ghost use Rattle.pieces.specs.Calls.{blockReply, usable, finishReply};
+ghost use Rattle.pieces.specs.Calls.{startReply, usable, finishReply};
 
-// The reply about a block of this level field with a message of so many bytes: 1, 2 or 3 as a layout's rules give it, else 0.
-pub fn block_reply(f: Field, level_field: u64, size: u64) -> u8
-    ensures { λ r. ⌜ r ≡ blockReply f «level_field» size ⌝ }
+// The reply about starting a block of this level field with a message of so many bytes: 1, 2 or 3 as a layout's rules give it, else 0.
+pub fn start_reply(f: Field, level_field: u64, size: u64) -> u8
+    ensures { λ r. ⌜ r ≡ startReply f «level_field» size ⌝ }
 {
     if 20 < level_field {
         return 1;
@@ -38,7 +38,7 @@ pub fn block_reply(f: Field, level_field: u64, size: u64) -> u8
 pub fn is_usable(f: Field, state: State) -> bool
     ensures { λ r. ⌜ r ≡ usable f state ⌝ }
 {
-    if block_reply(f, state.level, state.size) != 0 {
+    if start_reply(f, state.level, state.size) != 0 {
         return false;
     }
     if state.size < state.fed {

@@ -1,12 +1,12 @@
 // The calls by value: a state goes in, a reply and a state come out.
 use crate::Answered;
 use crate::State;
-use crate::carry::carried;
-use crate::rules::block_reply;
 use crate::rules::finish_reply;
 use crate::rules::is_usable;
+use crate::rules::start_reply;
 use field::Choice;
 use field::Field;
+use piece_parity::carried;
 use remainder::Register;
 use remainder::digits::to_bytes;
 ghost use mathlib.Core.Path.{_≡_};
@@ -30,7 +30,7 @@ fn choice_of(f: Field) -> u64
 fn start_in(f: Field, state: State, level_field: u64, size: u64) -> Answered
     ensures { λ r. ⌜ r ≡ startIn f state «level_field» size ⌝ }
 {
-    let reply = block_reply(f, level_field, size);
+    let reply = start_reply(f, level_field, size);
     if reply != 0 {
         return Answered {
             reply: reply,

@@ -11,7 +11,8 @@ use Rattle.layout.specs.declared.Plan.{Plan}
 use Rattle.layout.specs.Plan.{level}
 use Rattle.page_theory.specs.Page.{message}
 use Rattle.pieces.specs.declared.State.{State}
-use Rattle.pieces.specs.State.{bitsOf, choiceOf}
+use Rattle.piece_parity.specs.Carried.{bitsOf}
+use Rattle.pieces.specs.State.{choiceOf}
 use Rattle.pieces.specs.Calls.{Finished, startOf, finishOf}
 use Rattle.pieces.specs.Cutting.{joined, feeds}
 

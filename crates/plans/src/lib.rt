@@ -7,45 +7,45 @@ use layout::Reason;
 use layout::Refusal;
 use layout::Rule;
 
-fn kind(kind: Kind) {
+fn kind(out: &mut [u8; 32768], kind: Kind) {
     match kind {
-        Kind::First => say::text(b"block 0"),
-        Kind::Later => say::text(b"each later block"),
-        Kind::Page => say::text(b"the page"),
+        Kind::First => say::put(out, b"block 0"),
+        Kind::Later => say::put(out, b"each later block"),
+        Kind::Page => say::put(out, b"the page"),
     }
 }
 
 // Why a layout is refused, in a sentence with the two numbers that were compared.
-fn reason(reason: Reason) {
+fn reason(out: &mut [u8; 32768], reason: Reason) {
     let rule = reason.rule;
     let found = reason.found;
     let limit = reason.limit;
     let what = reason.kind;
-    kind(what);
+    kind(out, what);
     match rule {
         Rule::Level => {
-            say::fact(b" has the level field ", found, b", ");
-            say::fact(b"and the largest is ", limit, b"\n");
+            say::fact(out, b" has the level field ", found, b", ");
+            say::fact(out, b"and the largest is ", limit, b"\n");
         }
-        Rule::Message => say::text(b" has an empty message\n"),
+        Rule::Message => say::put(out, b" has an empty message\n"),
         Rule::Length => {
-            say::fact(b" has ", found, b" bits, ");
-            say::fact(b"and its field allows at most ", limit, b"\n");
+            say::fact(out, b" has ", found, b" bits, ");
+            say::fact(out, b"and its field allows at most ", limit, b"\n");
         }
         Rule::Room => {
-            say::fact(b" has ", limit, b" bits, ");
-            say::fact(b"and the blocks need ", found, b"\n");
+            say::fact(out, b" has ", limit, b" bits, ");
+            say::fact(out, b"and the blocks need ", found, b"\n");
         }
     }
 }
 
 // A refusal of a layout, a page bit or a code bit.
-pub fn refused(refusal: Refusal, range: &[u8]) {
-    say::reply(layout::refusal_reply(refusal));
+pub fn refused(out: &mut [u8; 32768], refusal: Refusal, range: &[u8]) {
+    say::reply(out, layout::refusal_reply(refusal));
     match refusal {
-        Refusal::RecordLength => say::text(b"the layout record has not eight bytes\n"),
-        Refusal::Rule(r) => reason(r),
-        Refusal::Range => say::text(range),
+        Refusal::RecordLength => say::put(out, b"the layout record has not eight bytes\n"),
+        Refusal::Rule(r) => reason(out, r),
+        Refusal::Range => say::put(out, range),
     }
 }
 
@@ -55,9 +55,9 @@ pub enum Planned {
     Not,
 }
 
-// The plan of a page under the words that arguments 2 and 3 give.
-pub fn plan_of_words() -> Planned {
-    let Words::Are { first, second } = arguments::layout_words() else {
+// The plan of a page under the words at place `at` of the arguments and the next.
+pub fn plan_of_words(out: &mut [u8; 32768], at: usize) -> Planned {
+    let Words::Are { first, second } = arguments::layout_words(out, at) else {
         return Planned::Not;
     };
     match layout::check_layout(&text::layout_record(first, second)) {
@@ -67,7 +67,7 @@ pub fn plan_of_words() -> Planned {
             plan: layout::plan_of(l),
         },
         Acceptance::Refused(refusal) => {
-            refused(refusal, b"\n");
+            refused(out, refusal, b"\n");
             Planned::Not
         }
     }

@@ -1,89 +1,360 @@
-// The command read: a page, or a dump of many.
-use crate::dumping;
-use files::File;
-use files::Got;
+// The commands: a page, or a dump of many.
+use crate::finishing;
+use crate::progress::seconds;
+use crate::running;
+use crate::totals::Run;
+use arguments::Options;
+use files::Known;
 use layout::Plan;
-use libc::STDIN_FILENO;
-use page_read::ReadAnswer;
 use plans::Planned;
-use replies::Refusal;
-use replies::refusal_number;
 
-// One page that was read: it goes to the files of arguments 5 and 6.
-fn save(plan: Plan, metadata: &[u8], data: &[u8], counts: &[u8; 256]) {
-    if !files::save(
-        5,
-        b"METADATA",
-        text::front(metadata, plan.metadata as usize),
-    ) {
-        return;
-    }
-    if !files::save(6, b"DATA", text::front(data, plan.data as usize)) {
-        return;
-    }
-    say::reply(0);
-    say::text(b"page read, ");
-    page_lines::corrected(plan, counts);
+// What is asked for.
+enum Command {
+    Read,
+    Look,
+    Salvage,
 }
 
-fn refused(record: &[u8], plan: Plan, page: &[u8], refusal: Refusal) {
-    if let Refusal::Uncorrectable(block) = refusal {
-        page_lines::ruined(record, plan, page, block);
-        return;
+// The descriptor of an output, -1 where it is not wanted and -2 where an error was printed, about it or about the one before.
+fn output(out: &mut [u8; 32768], path: &[u8], stdout: bool, before: i32) -> i32 {
+    if before < -1 {
+        return before;
     }
-    say::page_refused(refusal_number(refusal), plan, page.len());
-}
-
-fn read_one(record: &[u8], plan: Plan, page: &[u8]) {
-    let mut metadata = [0u8; 256];
-    let mut data = io::large_buffer();
-    let mut counts = [0u8; 256];
-    match page_lines::read_into(record, plan, page, &mut metadata, &mut data, &mut counts) {
-        ReadAnswer::Done => save(plan, &metadata, &data, &counts),
-        ReadAnswer::Refused(refusal) => refused(record, plan, page, refusal),
-    }
-}
-
-fn read_short(record: &[u8], plan: Plan, fd: i32) {
-    let mut page = io::large_buffer();
-    match files::fill(fd, b"PAGE", &mut page) {
-        Got::Bytes(n) => read_one(record, plan, text::front(&page, n)),
-        Got::Failed => (),
-    }
-}
-
-// A file of at most one page is read as one page, a longer one as a dump.
-fn read_file(record: &[u8], plan: Plan, fd: i32) {
-    if files::is_short(fd, plan.size) {
-        read_short(record, plan, fd);
-    } else {
-        dumping::read(record, plan, fd);
-    }
-}
-
-fn read_in(record: &[u8], plan: Plan) {
-    match files::input(4) {
-        File::At(fd) => {
-            read_file(record, plan, fd);
-            libc::close(fd);
+    if files::is_dash(path) {
+        if stdout {
+            return 1;
         }
-        File::Dash => read_file(record, plan, STDIN_FILENO),
-        File::Failed => (),
+        return -1;
+    }
+    let fd = files::begin(out, path, arguments::run_number());
+    if fd < 0 {
+        return -2;
+    }
+    fd
+}
+
+// The smaller of the pages that there are and those that are asked for; 0 where it is not known how many there are.
+fn known(left: Known, options: Options) -> u64 {
+    match left {
+        Known::Pages(n) => {
+            if n <= options.from {
+                return 0;
+            }
+            if n - options.from < options.pages {
+                return n - options.from;
+            }
+            options.pages
+        }
+        Known::Unknown => 0,
     }
 }
 
-// nandpage read WORD0 WORD1 PAGE METADATA DATA
-pub fn read() {
-    if !arguments::are(7, b"usage: nandpage read WORD0 WORD1 PAGE METADATA DATA") {
+fn is_look(command: Command) -> bool {
+    match command {
+        Command::Read => false,
+        Command::Look => true,
+        Command::Salvage => false,
+    }
+}
+
+fn is_dump(command: Command, options: Options) -> bool {
+    match command {
+        Command::Read => options.ranged,
+        Command::Look => options.ranged,
+        Command::Salvage => true,
+    }
+}
+
+fn run_of(
+    command: Command,
+    options: Options,
+    plan: Plan,
+    input: i32,
+    metadata: i32,
+    data: i32,
+    list: i32,
+) -> Run {
+    Run {
+        input: input,
+        metadata: metadata,
+        data: data,
+        list: list,
+        dump: is_dump(command, options),
+        first: options.from,
+        most: options.pages,
+        known: known(files::pages_left(input, plan.size), options),
+        began: seconds(),
+        quiet: options.quiet,
+        look: is_look(command),
+        raw: options.raw,
+    }
+}
+
+fn run_outputs(
+    out: &mut [u8; 32768],
+    command: Command,
+    options: Options,
+    record: &[u8],
+    plan: Plan,
+    input: i32,
+    page: &[u8],
+    metadata: &[u8],
+    data: &[u8],
+    list: &[u8],
+) {
+    let m = output(out, metadata, false, 0);
+    let d = output(out, data, options.stdout, m);
+    let l = output(out, list, false, d);
+    if l < -1 {
+        finishing::drop_all(metadata, data, list);
+        return;
+    }
+    let run = run_of(command, options, plan, input, m, d, l);
+    let totals = running::read_file(out, record, plan, run);
+    finishing::finish(out, run, totals, page, metadata, data, list);
+}
+
+// Runs a command on files, of which those of the last three that are not wanted are dashes.
+fn run_paths(
+    out: &mut [u8; 32768],
+    command: Command,
+    options: Options,
+    record: &[u8],
+    plan: Plan,
+    page: &[u8],
+    metadata: &[u8],
+    data: &[u8],
+    list: &[u8],
+) {
+    let input = files::input(out, page);
+    if input < 0 {
+        return;
+    }
+    run_outputs(
+        out,
+        command,
+        options,
+        record,
+        plan,
+        input,
+        page,
+        metadata,
+        data,
+        list,
+    );
+    files::close_input(input);
+}
+
+fn read_paths(
+    out: &mut [u8; 32768],
+    options: Options,
+    record: &[u8],
+    plan: Plan,
+    page: &[u8],
+    metadata: &[u8],
+    data: &[u8],
+) {
+    if options.stdout {
+        if !files::is_dash(data) {
+            say::error(out, b"with --stdout DATA is a dash");
+            return;
+        }
+        say::to_stderr(out);
+    }
+    run_paths(
+        out,
+        Command::Read,
+        options,
+        record,
+        plan,
+        page,
+        metadata,
+        data,
+        b"-",
+    );
+}
+
+fn read_under(out: &mut [u8; 32768], options: Options, record: &[u8], plan: Plan) {
+    let mut page = io::buffer();
+    let p = os::arg(arguments::place(options.at, 2), &mut page);
+    if !arguments::whole(out, b"PAGE") {
+        return;
+    }
+    let mut metadata = io::buffer();
+    let m = os::arg(arguments::place(options.at, 3), &mut metadata);
+    if !arguments::whole(out, b"METADATA") {
+        return;
+    }
+    let mut data = io::buffer();
+    let d = os::arg(arguments::place(options.at, 4), &mut data);
+    if !arguments::whole(out, b"DATA") {
+        return;
+    }
+    read_paths(
+        out,
+        options,
+        record,
+        plan,
+        &page[..p],
+        &metadata[..m],
+        &data[..d],
+    );
+}
+
+// nandpage read [--from N] [--pages M] [--quiet] [--stdout] WORD0 WORD1 PAGE METADATA DATA
+pub fn read(out: &mut [u8; 32768]) {
+    let options = arguments::find_options(
+        out,
+        arguments::RANGE + arguments::QUIET + arguments::STDOUT,
+    );
+    if !options.good {
+        return;
+    }
+    if !arguments::are(
+        out,
+        options.at,
+        5,
+        b"usage: nandpage read [--from N] [--pages M] [--quiet] [--stdout] WORD0 WORD1 PAGE METADATA DATA",
+    ) {
         return;
     }
     let Planned::Under {
         first,
         second,
         plan,
-    } = plans::plan_of_words()
+    } = plans::plan_of_words(out, options.at)
     else {
         return;
     };
-    read_in(&text::layout_record(first, second), plan);
+    read_under(out, options, &text::layout_record(first, second), plan);
+}
+
+fn look_under(out: &mut [u8; 32768], options: Options, record: &[u8], plan: Plan) {
+    let mut page = io::buffer();
+    let p = os::arg(arguments::place(options.at, 2), &mut page);
+    if !arguments::whole(out, b"PAGE") {
+        return;
+    }
+    run_paths(
+        out,
+        Command::Look,
+        options,
+        record,
+        plan,
+        &page[..p],
+        b"-",
+        b"-",
+        b"-",
+    );
+}
+
+// nandpage look [--from N] [--pages M] [--quiet] WORD0 WORD1 PAGE
+pub fn look(out: &mut [u8; 32768]) {
+    let options = arguments::find_options(out, arguments::RANGE + arguments::QUIET);
+    if !options.good {
+        return;
+    }
+    if !arguments::are(
+        out,
+        options.at,
+        3,
+        b"usage: nandpage look [--from N] [--pages M] [--quiet] WORD0 WORD1 PAGE",
+    ) {
+        return;
+    }
+    let Planned::Under {
+        first,
+        second,
+        plan,
+    } = plans::plan_of_words(out, options.at)
+    else {
+        return;
+    };
+    look_under(out, options, &text::layout_record(first, second), plan);
+}
+
+fn salvage_paths(
+    out: &mut [u8; 32768],
+    options: Options,
+    record: &[u8],
+    plan: Plan,
+    page: &[u8],
+    metadata: &[u8],
+    data: &[u8],
+) {
+    let mut list = io::buffer();
+    let l = os::arg(arguments::place(options.at, 5), &mut list);
+    if !arguments::whole(out, b"LIST") {
+        return;
+    }
+    if files::is_dash(&list[..l]) {
+        say::error(out, b"LIST is a file, and no dash");
+        return;
+    }
+    run_paths(
+        out,
+        Command::Salvage,
+        options,
+        record,
+        plan,
+        page,
+        metadata,
+        data,
+        &list[..l],
+    );
+}
+
+fn salvage_under(out: &mut [u8; 32768], options: Options, record: &[u8], plan: Plan) {
+    let mut page = io::buffer();
+    let p = os::arg(arguments::place(options.at, 2), &mut page);
+    if !arguments::whole(out, b"PAGE") {
+        return;
+    }
+    let mut metadata = io::buffer();
+    let m = os::arg(arguments::place(options.at, 3), &mut metadata);
+    if !arguments::whole(out, b"METADATA") {
+        return;
+    }
+    let mut data = io::buffer();
+    let d = os::arg(arguments::place(options.at, 4), &mut data);
+    if !arguments::whole(out, b"DATA") {
+        return;
+    }
+    salvage_paths(
+        out,
+        options,
+        record,
+        plan,
+        &page[..p],
+        &metadata[..m],
+        &data[..d],
+    );
+}
+
+// nandpage salvage [--raw] [--from N] [--pages M] [--quiet] WORD0 WORD1 PAGE METADATA DATA LIST
+pub fn salvage(out: &mut [u8; 32768]) {
+    let options = arguments::find_options(
+        out,
+        arguments::RAW + arguments::RANGE + arguments::QUIET,
+    );
+    if !options.good {
+        return;
+    }
+    if !arguments::are(
+        out,
+        options.at,
+        6,
+        b"usage: nandpage salvage [--raw] [--from N] [--pages M] [--quiet] WORD0 WORD1 PAGE METADATA DATA LIST",
+    ) {
+        return;
+    }
+    let Planned::Under {
+        first,
+        second,
+        plan,
+    } = plans::plan_of_words(out, options.at)
+    else {
+        return;
+    };
+    salvage_under(out, options, &text::layout_record(first, second), plan);
 }

@@ -5,7 +5,7 @@ use Prim.Native.Nat.{ℕ, zero, suc, _+_, _-_, _*_, _/_, _%_, _^_, _<_, _≤_}
 use native.Mathlib.Omega.{arith}
 use native.Mathlib.Numerals.{add-one}
 use native.Mathlib.Decide.{decLt}
-use native.Mathlib.Nat.{add-zero, add-comm, le-refl, le-trans, mul-le-mul-right, div-eq-of-lt, div-lt-iff-lt-mul, mod-lt, mul-le-mul-left, mul-mod-left, mod-eq-of-lt, zero-mul, zero-add, mul-one}
+use native.Mathlib.Nat.{add-zero, add-comm, le-refl, le-trans, mul-le-mul-right, div-eq-of-lt, div-lt-iff-lt-mul, div-add-mod', mod-lt, mul-add-div-right, mul-add-mod-self-right, mul-le-mul-left, mul-mod-left, mod-eq-of-lt, zero-mul, zero-add, mul-one}
 use mir.Syntax.{w64}
 use mir.Val.{Fits}
 use lib.ListN.{length, getD, set, drop, replicate, length-set}
@@ -259,35 +259,75 @@ shift-end ws vs n k c b l es hw inv above h =
     let m : c * 2 ^ (64 * n) + low ws n ≡ low vs n * 2 ^ k + b = omega arith in
     rw (es, s, ← m) (omega arith ∙ sym (Pow.low c (64 * n) hw))
 
--- a number moved up by l digits, k of them first
-pub raise-step : (x l k N : ℕ) {y : ℕ} → k ≤ l → x * 2 ^ l < N → y ≡ (x * 2 ^ k + 0) % N → y * 2 ^ (l - k) ≡ x * 2 ^ l
-raise-step x l k N {y} h r ey =
+-- a number moved up by l digits, k of them first; what reaches N is lost
+mod-times : (a b N : ℕ) → a % N * b % N ≡ a * b % N
+mod-times a b N =
+    let e : a * b ≡ a / N * b * N + a % N * b = ap (λ x. x * b) (sym (div-add-mod' a N)) ∙ omega arith in
+    sym (ap (λ x. x % N) e ∙ mul-add-mod-self-right (a / N * b) N (a % N * b))
+
+pub raise-step : (x l k N : ℕ) {y : ℕ} → k ≤ l → y ≡ (x * 2 ^ k + 0) % N → y * 2 ^ (l - k) % N ≡ x * 2 ^ l % N
+raise-step x l k N {y} h ey =
     let e : l ≡ k + (l - k) = omega arith in
     let p : 2 ^ l ≡ 2 ^ k * 2 ^ (l - k) = ap (λ n. 2 ^ n) e ∙ pow-add 2 k (l - k) in
     let q : x * 2 ^ l ≡ x * 2 ^ k * 2 ^ (l - k) = ap (λ n. x * n) p ∙ omega arith in
-    let m : x * 2 ^ k * 1 ≤ x * 2 ^ k * 2 ^ (l - k) = mul-le-mul-left (x * 2 ^ k) (pow-pos (l - k)) in
-    let z : y ≡ x * 2 ^ k + 0 = ey ∙ mod-eq-of-lt (omega arith) in
-    rw z (omega arith)
+    let z : y ≡ x * 2 ^ k % N = ey ∙ ap (λ n. n % N) (add-zero (x * 2 ^ k)) in
+    ap (λ n. n * 2 ^ (l - k) % N) z ∙ mod-times (x * 2 ^ k) (2 ^ (l - k)) N ∙ ap (λ n. n % N) (sym q)
 
-pub raise-end : (x l : ℕ) {y : ℕ} → l ≡ 0 → x * 2 ^ l ≡ y → x ≡ y
-raise-end x l el e = sym (ap (λ n. x * 2 ^ n) el ∙ mul-one x) ∙ e
+pub raise-end : (x l N : ℕ) {y : ℕ} → l ≡ 0 → x < N → x * 2 ^ l % N ≡ y → x ≡ y
+raise-end x l N el h e = sym (ap (λ n. x * 2 ^ n % N) el ∙ ap (λ n. n % N) (mul-one x) ∙ mod-eq-of-lt h) ∙ e
 
 pub raise-fits : (x l N : ℕ) → x * 2 ^ l < N → x < N
 raise-fits x l N h = let m : x * 1 ≤ x * 2 ^ l = mul-le-mul-left x (pow-pos l) in omega arith
 
--- a number moved up to whole words, and then down by them
-pub lower-fits : (x k : ℕ) → x < 2 ^ 832 → x * 2 ^ (64 * ((k + 63) / 64) - k) < 2 ^ 896
-lower-fits x k h =
-    let s : ℕ = 64 * ((k + 63) / 64) - k in
-    let m : 2 ^ (832 + s) ≤ 2 ^ 896 = pow-mono {i = 832 + s} {j = 896} (omega arith) in
-    let l : x * 2 ^ s < 2 ^ (832 + s) = shl-lt 832 s h in
-    le-trans l m
+pub register-room : (ws : List ℕ) → Words ws → length ws ≡ 14 → register ws < 2 ^ 896
+register-room ws h e = let l : register ws < 2 ^ (64 * length ws) = register-lt ws h in rw e at l
 
-pub lower-end : (x k : ℕ) {y z : ℕ} → y ≡ x * 2 ^ (64 * ((k + 63) / 64) - k) → z ≡ y / 2 ^ (64 * ((k + 63) / 64)) → z ≡ x / 2 ^ k
+-- a number moved down by k digits, k below 64: the words of vs, each from two, are stored in ws
+pub down-fits : (w v k : ℕ) → k ≤ 64 → w < 18446744073709551616 → w / 2 ^ k + v * 2 ^ (64 - k) % 18446744073709551616 < 18446744073709551616
+down-fits w v k l h =
+    let e : 64 - k + k ≡ 64 = omega arith in
+    let c : w / 2 ^ k < 2 ^ (64 - k) = shr-lt (64 - k) k (rw e h) in
+    let s = shift-fits v (64 - k) (w / 2 ^ k) (omega arith) c in
+    omega arith
+
+pub down-start : (ws vs : List ℕ) (k : ℕ) → low ws 0 + getD vs 0 0 / 2 ^ k * 2 ^ (64 * 0) ≡ low vs (0 + 1) / 2 ^ k
+unfolding low
+down-start ws vs k = zero-add (getD vs 0 0 / 2 ^ k * 1) ∙ mul-one (getD vs 0 0 / 2 ^ k) ∙ ap (λ x. x / 2 ^ k) (sym (low-first vs))
+
+pub down-next : (ws vs : List ℕ) (i k : ℕ) → k ≤ 64 → i < length ws → low ws i + getD vs i 0 / 2 ^ k * 2 ^ (64 * i) ≡ low vs (i + 1) / 2 ^ k
+    → low (set ws i (getD vs i 0 / 2 ^ k + getD vs (i + 1) 0 * 2 ^ (64 - k) % 18446744073709551616)) (i + 1) + getD vs (i + 1) 0 / 2 ^ k * 2 ^ (64 * (i + 1)) ≡ low vs (i + 1 + 1) / 2 ^ k
+down-next ws vs i k l h inv =
+    let P : ℕ = 2 ^ (64 * i) in
+    let w : ℕ = getD vs (i + 1) 0 in
+    let a : ℕ = getD vs i 0 / 2 ^ k in
+    let b : ℕ = w * 2 ^ (64 - k) % 18446744073709551616 in
+    let L : ℕ = low vs (i + 1) in
+    let e : 64 - (64 - k) ≡ k = omega arith in
+    let f : 64 - k + k ≡ 64 = omega arith in
+    let u : b + w / 2 ^ k * 18446744073709551616 ≡ w * 2 ^ (64 - k) = ap (λ n. b + w / 2 ^ n * 18446744073709551616) (sym e) ∙ shift-word w (64 - k) (omega arith) in
+    let v : (b + w / 2 ^ k * 18446744073709551616) * P ≡ w * 2 ^ (64 - k) * P = ap (λ x. x * P) u in
+    let t : 18446744073709551616 ≡ 2 ^ (64 - k) * 2 ^ k = sym (ap (λ n. 2 ^ n) f) ∙ pow-add 2 (64 - k) k in
+    let n : low vs (i + 1 + 1) ≡ w * 2 ^ (64 - k) * P * 2 ^ k + L = low-next vs (i + 1) ∙ ap (λ x. w * x + L) (next-power i ∙ ap (λ x. x * P) t) ∙ omega arith in
+    let d : low vs (i + 1 + 1) / 2 ^ k ≡ w * 2 ^ (64 - k) * P + L / 2 ^ k = ap (λ x. x / 2 ^ k) n ∙ mul-add-div-right (pow-pos k) (w * 2 ^ (64 - k) * P) L in
+    let s : low (set ws i (a + b)) (i + 1) ≡ (a + b) * P + low ws i = low-store ws i (a + b) h in
+    let p : w / 2 ^ k * 2 ^ (64 * (i + 1)) ≡ w / 2 ^ k * (18446744073709551616 * P) = ap (λ x. w / 2 ^ k * x) (next-power i) in
+    omega arith
+
+pub down-end : (ws vs : List ℕ) (n k : ℕ) → length ws ≡ n + 1 → length vs ≡ n + 1 → low ws n + getD vs n 0 / 2 ^ k * 2 ^ (64 * n) ≡ low vs (n + 1) / 2 ^ k
+    → register (set ws n (getD vs n 0 / 2 ^ k)) ≡ register vs / 2 ^ k
+unfolding register
+down-end ws vs n k ew ev inv =
+    let x : ℕ = getD vs n 0 / 2 ^ k in
+    let s = low-store ws n x (omega arith) in
+    rw (length-set ws n x, ew, ev, s) (omega arith)
+
+pub lower-end : (x k : ℕ) {y z : ℕ} → y ≡ x / 2 ^ (64 * (k / 64)) → z ≡ y / 2 ^ (k % 64) → z ≡ x / 2 ^ k
 lower-end x k ey ez =
-    let s : ℕ = 64 * ((k + 63) / 64) - k in
-    let e : 64 * ((k + 63) / 64) ≡ s + k = omega arith in
-    ez ∙ ap₂ (λ (a b : ℕ). a / 2 ^ b) ey e ∙ sym (shr-shr (x * 2 ^ s) s k) ∙ ap (λ a. a / 2 ^ k) (shl-shr x s)
+    let e : 64 * (k / 64) + k % 64 ≡ k = omega arith in
+    ez ∙ ap (λ n. n / 2 ^ (k % 64)) ey ∙ shr-shr x (64 * (k / 64)) (k % 64) ∙ ap (λ n. x / 2 ^ n) e
+
+pub lower-whole : (x k : ℕ) {y : ℕ} → k % 64 ≡ 0 → y ≡ x / 2 ^ (64 * (k / 64)) → y ≡ x / 2 ^ k
+lower-whole x k z ey = let e : 64 * (k / 64) ≡ k = omega arith in ey ∙ ap (λ n. x / 2 ^ n) e
 
 -- words moved down by q places
 pub move-next : (ws vs : List ℕ) (q i : ℕ) → i < length ws → low ws i ≡ low (drop q vs) i → low (set ws i (getD vs (i + q) 0)) (i + 1) ≡ low (drop q vs) (i + 1)

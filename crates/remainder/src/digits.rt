@@ -6,7 +6,7 @@ ghost use Rattle.bits.specs.Bits.{bitOf, run, number, digits, placed, Inside};
 ghost use Rattle.code.specs.Register.{register};
 ghost use Rattle.remainder.specs.Remainder.{numberOf, bytesOf};
 use crate::Register;
-use bits::copy::copy_bits;
+use bit_writing::copy::copy_bits;
 use bits::read::word_at;
 
 // The lowest n digits of the number in a register, as the last bits of 112 bytes.

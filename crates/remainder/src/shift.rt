@@ -44,10 +44,25 @@ fn without_words(state: Register, q: usize) -> Register
     Register { words: words }
 }
 
-// The number in a register times 2^k.
+// The number in a register divided by 2^k, for k below 64.
+fn without_digits(state: Register, k: usize) -> Register
+    requires { ⌜ (0 < k) × (k < 64) ⌝ }
+    ensures { λ r. ⌜ register (r .words) ≡ register (state .words) / 2 ^ k ⌝ }
+{
+    let from = state.words;
+    let mut words = [0u64; 14];
+    let mut i = 0;
+    while i < 13 {
+        words[i] = (from[i] >> k) + (from[i + 1] << (64 - k));
+        i += 1;
+    }
+    words[13] = from[13] >> k;
+    Register { words: words }
+}
+
+// The number in a register times 2^k. What leaves the register is lost.
 pub fn raised(state: Register, k: usize) -> Register
-    requires { ⌜ register (state .words) * 2 ^ k < 2 ^ 896 ⌝ }
-    ensures { λ r. ⌜ register (r .words) ≡ register (state .words) * 2 ^ k ⌝ }
+    ensures { λ r. ⌜ register (r .words) ≡ register (state .words) * 2 ^ k % 2 ^ 896 ⌝ }
 {
     let mut r = state;
     let mut left = k;
@@ -63,10 +78,13 @@ pub fn raised(state: Register, k: usize) -> Register
 
 // The number in a register divided by 2^k.
 pub fn lowered(state: Register, k: usize) -> Register
-    requires { ⌜ (k ≤ 832) × (register (state .words) < 2 ^ 832) ⌝ }
+    requires { ⌜ k ≤ 896 ⌝ }
     ensures { λ r. ⌜ register (r .words) ≡ register (state .words) / 2 ^ k ⌝ }
 {
-    let q = (k + 63) / 64;
-    let up = raised(state, 64 * q - k);
-    without_words(up, q)
+    let down = without_words(state, k / 64);
+    let odd = k % 64;
+    if odd == 0 {
+        return down;
+    }
+    without_digits(down, odd)
 }

@@ -5,24 +5,21 @@
 //
 // 1. A factor of degree 1 is read off, one of degree 2 solved by stored solutions of y^2 + y = v (quadratic.rt).
 // 2. A larger polynomial has all its roots in the field, and distinct, only if x^(2^m) modulo f is x; else there is nothing to
-//    propose (trace.rt, by the remainders of register.rt).
-// 3. The trace of a^i x is 0 at some of the roots and 1 at the others, so it splits factors (split.rt). The traces for i < m together
-//    tell every two elements apart, so m rounds are enough.
+//    propose (trace.rt, by the remainders of crate `packed_remainder`).
+// 3. The trace of a^i x is 0 at some of the roots and 1 at the others, so it splits factors (crate `splitting`). The traces for i < m
+//    together tell every two elements apart, so m rounds are enough.
 ghost use mathlib.Core.Path.{_≡_};
 ghost use Prim.Native.Nat.{_+_, _≤_, _<_};
 ghost use lib.ListN.{length};
+use coefficient_rows::log_of;
 use field::Field;
 use quadratic::root;
-use rows::log_of;
-use split::fitted;
-use split::split_all;
+use splitting::fitted;
+use splitting::split_all;
 use trace::conjugates;
 use trace::trace;
 
 mod quadratic;
-mod register;
-mod rows;
-mod split;
 mod trace;
 
 // c_len, .., c_1: the coefficients of c_0 x^len + .. + c_len below the leading one, lowest power first.

@@ -4,9 +4,9 @@
 //   root    a root of a factor of degree 1 or 2
 ghost use mathlib.Core.Path.{_≡_};
 ghost use Prim.Native.Nat.{_<_};
-use super::rows::inverse;
-use super::rows::log_of;
-use super::rows::wrapped;
+use coefficient_rows::inverse;
+use coefficient_rows::log_of;
+use coefficient_rows::wrapped;
 use field::Field;
 
 // A solution y of y^2 + y = a^j for m = 13; where a^j has the trace 1, of y^2 + y = a^j + 1.

@@ -6,13 +6,13 @@
 ghost use mathlib.Core.Path.{_≡_};
 ghost use Prim.Native.Nat.{_+_, _*_, _≤_, _<_};
 ghost use lib.ListN.{length};
-use super::register::first_digit;
-use super::register::next_digit;
-use super::register::reduce;
-use super::rows::add_multiple;
-use super::rows::take_logs;
-use super::rows::terms;
-use super::rows::wrapped;
+use coefficient_rows::add_multiple;
+use coefficient_rows::take_logs;
+use coefficient_rows::terms;
+use coefficient_rows::wrapped;
+use packed_remainder::first_digit;
+use packed_remainder::next_digit;
+use packed_remainder::reduce;
 
 // The square of an element by its logarithm.
 fn square_term(powers: &[u16; 16384], n: usize, log: u16) -> u16 {

@@ -1,8 +1,7 @@
-// The roots of an error locator among the powers of a, completely: a search through all of them, and before it a test that tells
-// locators with too few roots apart. Both answer for the locators for which the fast root finder has no proposal that holds.
+// The roots of an error locator among the powers of a, completely: a search through all of them. It answers for the locators for which
+// the fast root finder has no proposal that holds, and that crate `split_test` does not tell apart.
 //
-//   split_test::cannot_split    true only where a locator has fewer roots than its degree
-//   locate                      the places p below n for which a^p is a root, in ascending order
+//   locate    the places p below n for which a^p is a root, in ascending order
 //
 // A locator is an array of coefficients, the highest power first. Values go by Horner's rule and the lent tables.
 ghost use Prim.Native.Nat.{_<_, _≤_};
@@ -15,9 +14,7 @@ ghost use Rattle.field.specs.Tables.{Tables};
 ghost use Rattle.field.proofs.Instance.{gf, num, a};
 ghost use Rattle.series.specs.Series.{Represents, Elements};
 use field::Field;
-use field::tables::scaled;
-
-pub mod split_test;
+use field_tables::scaled;
 
 // The polynomial c_0 x^len + .. + c_len at a^p.
 fn value_at(

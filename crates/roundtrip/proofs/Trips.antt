@@ -1,15 +1,19 @@
--- Laws of the round trip: what the writer, the mask and the reader leave adds up to its definition.
+-- Laws of the round trip: what the writer, the mask, the look and the take leave adds up to its definition.
 use mathlib.Core.Path.{_≡_, refl, sym, ap, _∙_}
 use mathlib.Core.Bool.{Bool, true, false, cond}
 use mathlib.Core.List.{List, _++_}
 use Prim.Native.Nat.{ℕ, zero, _+_, _*_, _<_}
 use native.Mathlib.Omega.{arith}
+use native.Mathlib.Decide.{ℕ-discrete}
 use lib.ListN.{length, getD}
 use lib.Dec.{eqb}
-use borrow.Author.Tests.{eqb-true, eq-eqb}
+use borrow.Author.Tests.{eqb-true, eq-eqb, ne-eqb}
 use Rattle.bits.specs.Bits.{bitOf, run, Bytes}
 use Rattle.bits.proofs.Runs.{run-cong}
 use Rattle.bits.proofs.Pages.{bytes-length, bytes-bytes, bytes-bit}
+use Rattle.replies.specs.declared.Refusal.{Refusal}
+use Rattle.replies.specs.Replies.{number}
+use Rattle.replies.proofs.Given.{number-positive}
 use Rattle.layout.specs.declared.Plan.{Plan}
 use Rattle.layout.specs.declared.Layout.{Layout}
 use Rattle.layout.specs.declared.Acceptance.the-variants.{Accepted}
@@ -17,20 +21,24 @@ use Rattle.layout.specs.Record.{layoutOf}
 use Rattle.layout.specs.Plan.{planOf}
 use Rattle.layout.specs.Acceptance.{acceptance}
 use Rattle.page_theory.specs.Page.{pageOf}
-use Rattle.page_theory.specs.Reading.{reading}
-use Rattle.page_theory.specs.Damage.{Accepts, Payload, Outputs, flips, turn, WrittenAndDamaged}
-use Rattle.page_theory.specs.Calls.{Written, writeEnded, writeReply, writeIn, writeOf, Read, readEnded, readReply, readBy, readIn, readOf}
-use Rattle.page_theory.proofs.Accepted.{accepted-accepts, accepts-layout, accepts-valid, write-accepted, read-accepted}
+use Rattle.page_theory.specs.Damage.{Accepts, Payload, flips, turn, WrittenAndDamaged}
+use Rattle.page_theory.specs.Calls.{Written, writeEnded, writeReply, writeIn, writeOf, lookEnded, lookReply, lookOf, takeEnded, takeReply, takeOf}
+use Rattle.page_theory.proofs.Accepted.{accepted-accepts, accepts-layout, accepts-valid, write-accepted, look-accepted, take-accepted}
+use Rattle.page_theory.proofs.Calls.{look-wrong, take-wrong}
 use Rattle.page_theory.proofs.Damage.{maskSets, mask-flips, mask-damaged}
 use Rattle.page_theory.proofs.Demand2.{write-done}
-use Rattle.page_theory.proofs.Demand3.{reads-back}
+use Rattle.page_theory.proofs.Demand3.{looks-back, takes-back}
 use Rattle.page_write.specs.declared.WriteAnswer.{WriteAnswer}
 use Rattle.page_write.specs.Answers.{writeNumber, writeBlock}
-use Rattle.page_read.specs.declared.ReadAnswer.{ReadAnswer}
-use Rattle.page_read.specs.Answers.{readNumber, readBlock}
+use Rattle.page_look.specs.declared.LookAnswer.{LookAnswer}
+use Rattle.page_look.specs.declared.LookAnswer.the-variants as look
+use Rattle.page_look.specs.Answers.{lookNumber, lookBlock}
+use Rattle.page_take.specs.declared.TakeAnswer.{TakeAnswer}
+use Rattle.page_take.specs.Answers.{takeNumber, takeBlock}
+use Rattle.roundtrip.specs.declared.RoundTrip.{RoundTrip}
 use Rattle.roundtrip.specs.declared.RoundTrip.the-variants.{Done, Refused, Mask}
 use Rattle.roundtrip.specs.Mask.{named, allowed, overlaid}
-use Rattle.roundtrip.specs.Round.{ReadBack, roundEnded, roundRead, roundIn}
+use Rattle.roundtrip.specs.Round.{Round, roundEnded, Back, backEnded, backBy, backOf, roundTaken, roundRead, roundIn}
 use Rattle.roundtrip.proofs.Masks.{Allowed, allowed-each}
 
 pub accepted-plan : (rec : List ℕ) (l : Layout) → acceptance rec ≡ Accepted l → Accepts rec (planOf l)
@@ -43,14 +51,6 @@ accepted-plan rec l e =
 never-zero : {A : Type 0} (n : ℕ) → eqb n 0 ≡ false → n ≡ 0 → A
 never-zero n e h = let f = eq-eqb n 0 h in let z : _≡_ {A = ℕ} 0 1 = cc in absurd (omega arith)
 
-back : {r b : ℕ} {m d c : List ℕ} {read : Read} → readEnded r b m d c ≡ read → ReadBack r m d c read
-back e = record {
-  reply = ap (λ (r : Read). r .reply) e;
-  metadata = ap (λ (r : Read). r .metadata) e;
-  «data» = ap (λ (r : Read). r .«data») e;
-  counts = ap (λ (r : Read). r .counts) e;
-}
-
 -- the calls, by their answers
 
 pub write-told : {r x : WriteAnswer} {page : List ℕ} {w : Written} → w .block ≡ 0 → r ≡ x → writeEnded (writeNumber r) (writeBlock r) page ≡ w
@@ -59,9 +59,18 @@ write-told {r} {x} {page} b e h =
     let z : writeBlock r ≡ 0 = ap (λ (w : Written). w .block) h ∙ b in
     ap (λ y. writeEnded (writeNumber y) 0 page) (sym e) ∙ ap (λ k. writeEnded (writeNumber r) k page) (sym z) ∙ h
 
-pub read-told : {r x : ReadAnswer} {m d c : List ℕ} {read : Read} → r ≡ x → readEnded (readNumber r) (readBlock r) m d c ≡ read
-    → ReadBack (readNumber x) m d c read
-read-told {r} {x} {m} {d} {c} e h = back (ap (λ y. readEnded (readNumber y) (readBlock y) m d c) (sym e) ∙ h)
+-- a look that is refused ends the reading; after one that is not, the take does
+
+pub back-refused : {r : LookAnswer} {x : Refusal} {n : ℕ} {c : List ℕ} (rec page m' d' c' : List ℕ)
+    → lookEnded (lookNumber r) (lookBlock r) c ≡ lookOf rec page c' → r ≡ look.Refused x → n ≡ number x → backEnded n m' d' c ≡ backOf rec page m' d' c'
+unfolding backOf backBy lookNumber lookBlock
+back-refused {x = x} rec page m' d' c' e f g = rw (← e, f, g, ne-eqb (number x) 0 (λ z. omega (arith, number-positive x)))
+
+pub back-taken : {r : LookAnswer} {s t : TakeAnswer} {m d c : List ℕ} (rec page m' d' c' : List ℕ)
+    → lookEnded (lookNumber r) (lookBlock r) c ≡ lookOf rec page c' → r ≡ look.Done
+    → takeEnded (takeNumber s) (takeBlock s) m d ≡ takeOf rec page m' d' → s ≡ t → backEnded (takeNumber t) m d c ≡ backOf rec page m' d' c'
+unfolding backOf backBy lookNumber lookBlock
+back-taken rec page m' d' c' e f g h = rw (← e, f, ← g, h)
 
 -- lengths that fit
 
@@ -81,18 +90,25 @@ write-fitting q m d page e = go (eqb (length page) (q .size)) refl (eqb (length 
     go true ex false ey z ez e = absurd (omega arith)
     go false ex y ey z ez e = absurd (omega arith)
 
-read-fitting : (q : Plan) (m d c : List ℕ) → readReply q (q .size) (length m) (length d) (length c) ≡ 0 → Outputs q m d c
-unfolding readReply
-read-fitting q m d c e =
-    go (eqb (q .size) (q .size)) (eqb (length m) (q .metadata)) refl (eqb (length d) (q .«data»)) refl (eqb (length c) (q .blocks)) refl e
+take-fitting : (q : Plan) (m d : List ℕ) → takeReply q (q .size) (length m) (length d) ≡ 0 → (length m ≡ q .metadata) × (length d ≡ q .«data»)
+unfolding takeReply
+take-fitting q m d e = go (eqb (q .size) (q .size)) (eqb (length m) (q .metadata)) refl (eqb (length d) (q .«data»)) refl e
   where
     go : (w x : Bool) → eqb (length m) (q .metadata) ≡ x → (y : Bool) → eqb (length d) (q .«data») ≡ y
-        → (z : Bool) → eqb (length c) (q .blocks) ≡ z → cond w (cond x (cond y (cond z zero 6) 6) 6) 5 ≡ zero → Outputs q m d c
-    go true true ex true ey true ez e = record { metadata = eqb-true _ _ ex; «data» = eqb-true _ _ ey; counts = eqb-true _ _ ez }
-    go true true ex true ey false ez e = absurd (omega arith)
-    go true true ex false ey z ez e = absurd (omega arith)
-    go true false ex y ey z ez e = absurd (omega arith)
-    go false x ex y ey z ez e = absurd (omega arith)
+        → cond w (cond x (cond y zero 6) 6) 5 ≡ zero → (length m ≡ q .metadata) × (length d ≡ q .«data»)
+    go true true ex true ey e = (eqb-true _ _ ex, eqb-true _ _ ey)
+    go true true ex false ey e = absurd (omega arith)
+    go true false ex y ey e = absurd (omega arith)
+    go false x ex y ey e = absurd (omega arith)
+
+look-fitting : (q : Plan) (c : List ℕ) → lookReply q (q .size) (length c) ≡ 0 → length c ≡ q .blocks
+unfolding lookReply
+look-fitting q c e = go (eqb (q .size) (q .size)) (eqb (length c) (q .blocks)) refl e
+  where
+    go : (w x : Bool) → eqb (length c) (q .blocks) ≡ x → cond w (cond x zero 6) 5 ≡ zero → length c ≡ q .blocks
+    go true true ex e = eqb-true _ _ ex
+    go true false ex e = absurd (omega arith)
+    go false x ex e = absurd (omega arith)
 
 -- the page that is written is damaged by an allowed mask
 
@@ -171,58 +187,74 @@ module _ (rec : List ℕ) (q : Plan) (h : Accepts rec q) (m d mask page m' d' c'
         bit-damaged : (p : ℕ) → p < 8 * q .size → bitOf damagedPage p ≡ turn (bitOf mask p) (bitOf (pageOf q (m ++ d)) p)
         bit-damaged = overlaid-bit mask (pageOf q (m ++ d)) (pageOf-length q (m ++ d))
 
-    trip-outcome : Allowed q mask → Fitting q m d page → Outputs q m' d' c'
-        → readOf rec damagedPage m' d' c' ≡ readEnded 0 0 m d (run (named q mask) 0 (q .blocks))
+    abbrev flipped : List ℕ
+    flipped = run (named q mask) 0 (q .blocks)
+
+    abbrev looking : ℕ
+    looking = lookReply q (q .size) (length c')
+
+    abbrev taking : ℕ
+    taking = takeReply q (q .size) (length m') (length d')
+
+    trip-looked : Allowed q mask → Fitting q m d page → lookOf rec damagedPage c' ≡ cond (eqb looking 0) (lookEnded 0 0 flipped) (lookEnded looking 0 c')
     unfolding named
-    trip-outcome a f o =
-        reads-back rec q h m d damagedPage (maskSets q mask) (trip-damaged a f) m' d' c' o
-        ∙ ap (readEnded 0 0 m d) (run-cong (flips q (maskSets q mask)) (named q mask) 0 0 (q .blocks) (λ b l. mask-flips q mask (0 + b)))
-
-    abbrev lengths : ℕ
-    lengths = readReply q (q .size) (length m') (length d') (length c')
-
-    trip-reading : Allowed q mask → Fitting q m d page
-        → readOf rec damagedPage m' d' c'
-        ≡ cond (eqb lengths 0) (readEnded 0 0 m d (run (named q mask) 0 (q .blocks))) (readEnded lengths 0 m' d' c')
-    unfolding readIn
-    trip-reading a f = go (eqb lengths 0) refl (read-accepted rec q h damagedPage m' d' c' ∙ rw (trip-damaged a f .damaged .page .count))
+    trip-looked a f = elim (ℕ-discrete looking 0) [
+      | yes e ↦ looks-back rec q h m d damagedPage (maskSets q mask) (trip-damaged a f) c' (look-fitting q c' e)
+          ∙ ap (lookEnded 0 0) (run-cong (flips q (maskSets q mask)) (named q mask) 0 0 (q .blocks) (λ b l. mask-flips q mask (0 + b)))
+          ∙ rw e
+      | no n ↦ look-accepted rec q h damagedPage c' ∙ look-wrong q damagedPage c' (λ e. n (ap (λ k. lookReply q k (length c')) (sym size) ∙ e))
+          ∙ ap (λ k. lookEnded (lookReply q k (length c')) 0 c') size ∙ rw (ne-eqb looking 0 n)
+    ]
       where
-        go : (b : Bool) → eqb lengths 0 ≡ b
-            → readOf rec damagedPage m' d' c' ≡ cond b (readBy q (reading q damagedPage) m' d' c') (readEnded lengths 0 m' d' c')
-            → readOf rec damagedPage m' d' c' ≡ cond b (readEnded 0 0 m d (run (named q mask) 0 (q .blocks))) (readEnded lengths 0 m' d' c')
-        go true e r = trip-outcome a f (read-fitting q m' d' c' (eqb-true _ _ e))
-        go false e r = r
+        size : length damagedPage ≡ q .size
+        size = trip-damaged a f .damaged .page .count
 
-    -- how the trip ends, by the reader's reply
-    pub trip-done : {after damaged m₁ d₁ c₁ : List ℕ} {r : ℕ} → Start after → true ≡ allowed q mask → damaged ≡ overlaid mask after
-        → ReadBack r m₁ d₁ c₁ (readOf rec damaged m' d' c') → r ≡ 0
-        → roundEnded Done damaged m₁ d₁ c₁ ≡ roundIn q m d mask page m' d' c'
-    unfolding roundIn roundRead
-    trip-done {after} {damaged} {m₁} {d₁} {c₁} {r} s a e b z =
-        rw (s .reply, ← a, same) (go (eqb lengths 0) refl (rw (same, trip-reading (allowed-each q mask (sym a)) (write-fitting q m d page (s .reply))) at b))
+    trip-taken : Allowed q mask → Fitting q m d page → takeOf rec damagedPage m' d' ≡ cond (eqb taking 0) (takeEnded 0 0 m d) (takeEnded taking 0 m' d')
+    trip-taken a f = elim (ℕ-discrete taking 0) [
+      | yes e ↦ (let fits = take-fitting q m' d' e in
+          takes-back rec q h m d damagedPage (maskSets q mask) (trip-damaged a f) m' d' (fits .0) (fits .1) ∙ rw e)
+      | no n ↦ take-accepted rec q h damagedPage m' d'
+          ∙ take-wrong q damagedPage m' d' (λ e. n (ap (λ k. takeReply q k (length m') (length d')) (sym size) ∙ e))
+          ∙ ap (λ k. takeEnded (takeReply q k (length m') (length d')) 0 m' d') size ∙ rw (ne-eqb taking 0 n)
+    ]
+      where
+        size : length damagedPage ≡ q .size
+        size = trip-damaged a f .damaged .page .count
+
+    -- how a trip ends that was read back
+    abbrev ended : Back → Round
+    ended b = roundEnded (cond (eqb (b .reply) 0) Done (Refused (b .reply))) damagedPage (b .metadata) (b .«data») (b .counts)
+
+    trip-read : Allowed q mask → Fitting q m d page → ended (backOf rec damagedPage m' d' c') ≡ roundRead q m d mask m' d' c'
+    unfolding backOf backBy roundRead roundTaken
+    trip-read a f = rw (trip-looked a f, trip-taken a f) (go (eqb looking 0) refl (eqb taking 0) refl)
+      where
+        go : (x : Bool) → eqb looking 0 ≡ x → (y : Bool) → eqb taking 0 ≡ y
+            → ended (backBy (cond x (lookEnded 0 0 flipped) (lookEnded looking 0 c')) (cond y (takeEnded 0 0 m d) (takeEnded taking 0 m' d')) m' d')
+            ≡ cond x (cond y (roundEnded Done damagedPage m d flipped) (roundEnded (Refused taking) damagedPage m' d' flipped))
+            (roundEnded (Refused looking) damagedPage m' d' c')
+        go true e true g = refl
+        go true e false g = rw g
+        go false e y g = rw e (rw e)
+
+    trip-ended : {after damaged : List ℕ} {b : Back} → Start after → true ≡ allowed q mask → damaged ≡ overlaid mask after
+        → b ≡ backOf rec damaged m' d' c'
+        → roundEnded (cond (eqb (b .reply) 0) Done (Refused (b .reply))) damaged (b .metadata) (b .«data») (b .counts) ≡ roundIn q m d mask page m' d' c'
+    unfolding roundIn
+    trip-ended {after} {damaged} s a e b = rw (b, s .reply, ← a, same) (trip-read (allowed-each q mask (sym a)) (write-fitting q m d page (s .reply)))
       where
         same : damaged ≡ damagedPage
         same = e ∙ ap (overlaid mask) (s .stands)
 
-        go : (x : Bool) → eqb lengths 0 ≡ x
-            → ReadBack r m₁ d₁ c₁ (cond x (readEnded 0 0 m d (run (named q mask) 0 (q .blocks))) (readEnded lengths 0 m' d' c'))
-            → roundEnded Done damagedPage m₁ d₁ c₁
-            ≡ cond x (roundEnded Done damagedPage m d (run (named q mask) 0 (q .blocks))) (roundEnded (Refused lengths) damagedPage m' d' c')
-        go true e b = rw (b .metadata, b .«data», b .counts)
-        go false e b = never-zero _ e (sym (b .reply) ∙ z)
+    -- by the reply of the last call
+    pub trip-done : {after damaged m₁ d₁ c₁ : List ℕ} {r : ℕ} → Start after → true ≡ allowed q mask → damaged ≡ overlaid mask after
+        → backEnded r m₁ d₁ c₁ ≡ backOf rec damaged m' d' c' → r ≡ 0
+        → roundEnded Done damaged m₁ d₁ c₁ ≡ roundIn q m d mask page m' d' c'
+    trip-done {damaged = damaged} {m₁ = m₁} {d₁ = d₁} {c₁ = c₁} {r = r} s a e b z =
+        sym (rw z) ∙ trip-ended s a e b
 
     pub trip-refused : {after damaged m₁ d₁ c₁ : List ℕ} {r : ℕ} → Start after → true ≡ allowed q mask → damaged ≡ overlaid mask after
-        → ReadBack r m₁ d₁ c₁ (readOf rec damaged m' d' c') → (r ≡ 0 → ⊥)
+        → backEnded r m₁ d₁ c₁ ≡ backOf rec damaged m' d' c' → (r ≡ 0 → ⊥)
         → roundEnded (Refused r) damaged m₁ d₁ c₁ ≡ roundIn q m d mask page m' d' c'
-    unfolding roundIn roundRead
-    trip-refused {after} {damaged} {m₁} {d₁} {c₁} {r} s a e b n =
-        rw (s .reply, ← a, same) (go (eqb lengths 0) (rw (same, trip-reading (allowed-each q mask (sym a)) (write-fitting q m d page (s .reply))) at b))
-      where
-        same : damaged ≡ damagedPage
-        same = e ∙ ap (overlaid mask) (s .stands)
-
-        go : (x : Bool) → ReadBack r m₁ d₁ c₁ (cond x (readEnded 0 0 m d (run (named q mask) 0 (q .blocks))) (readEnded lengths 0 m' d' c'))
-            → roundEnded (Refused r) damagedPage m₁ d₁ c₁
-            ≡ cond x (roundEnded Done damagedPage m d (run (named q mask) 0 (q .blocks))) (roundEnded (Refused lengths) damagedPage m' d' c')
-        go true b = absurd (n (b .reply))
-        go false b = rw (b .reply, b .metadata, b .«data», b .counts)
+    trip-refused {damaged = damaged} {m₁ = m₁} {d₁ = d₁} {c₁ = c₁} {r = r} s a e b n =
+        ap (λ (x : RoundTrip). roundEnded x damaged m₁ d₁ c₁) (rw (ne-eqb r 0 n)) ∙ trip-ended s a e b

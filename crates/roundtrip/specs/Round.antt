@@ -1,12 +1,13 @@
--- Writing a page, flipping the bits that a mask names, and reading the page back (document 01, "Damage").
--- Given by what must come of it: nothing here looks for errors.
+-- Writing a page, flipping the bits that a mask names, looking at the page and taking it (document 01, "Damage"; document 02, E6).
+-- Given by what must come of it: but for `backOf`, nothing here looks for errors.
 --
 -- Round, roundEnded      how a round trip ends: its answer, and what page, metadata, data and counts hold afterwards
--- ReadBack r m d c read  what a call of the reader leaves, with its reply r
--- roundRead              the page is written and the mask allowed: the payload comes back, and each block's number of named bits
+-- Back, backEnded        how looking and then taking end: the reply of the last call, and what metadata, data and counts hold afterwards
+-- backBy, backOf         looking at a page, and taking it where the look answers 0
+-- roundTaken             the page is looked at: the payload comes back
+-- roundRead              the page is written and the mask allowed: each block's number of named bits, and the payload
 -- roundIn                the round trip under a plan
 -- roundFor, roundOf      with the answer to a layout record, and with the record itself
-use mathlib.Core.Path.{_≡_}
 use mathlib.Core.Bool.{cond}
 use mathlib.Core.List.{List, _++_}
 use Prim.Native.Nat.{ℕ}
@@ -19,7 +20,7 @@ use Rattle.layout.specs.declared.Acceptance.the-variants as layout
 use Rattle.layout.specs.Plan.{planOf}
 use Rattle.layout.specs.Acceptance.{acceptance, refusalReply}
 use Rattle.page_theory.specs.Page.{pageOf}
-use Rattle.page_theory.specs.Calls.{writeReply, Read, readReply}
+use Rattle.page_theory.specs.Calls.{writeReply, Looked, lookReply, lookOf, Taken, takeReply, takeOf}
 use Rattle.roundtrip.specs.declared.RoundTrip.{RoundTrip}
 use Rattle.roundtrip.specs.declared.RoundTrip.the-variants.{Done, Refused, Mask}
 use Rattle.roundtrip.specs.Mask.{named, allowed, overlaid}
@@ -35,18 +36,37 @@ abbrev pub roundEnded : RoundTrip → List ℕ → List ℕ → List ℕ → Lis
 roundEnded answer page metadata «data» counts =
     record { answer = answer; page = page; metadata = metadata; «data» = «data»; counts = counts }
 
-pub record ReadBack (r : ℕ) (m d c : List ℕ) (read : Read) : Type 0 where
-  pub reply : r ≡ read .reply
-  pub metadata : m ≡ read .metadata
-  pub «data» : d ≡ read .«data»
-  pub counts : c ≡ read .counts
+pub record Back : Type 0 where
+  pub reply : ℕ
+  pub metadata : List ℕ
+  pub «data» : List ℕ
+  pub counts : List ℕ
 
--- m and d are written; m', d' and c' are lent to read into. With outputs of another length nothing is read, and the page is left damaged.
+abbrev pub backEnded : ℕ → List ℕ → List ℕ → List ℕ → Back
+backEnded reply metadata «data» counts = record { reply = reply; metadata = metadata; «data» = «data»; counts = counts }
+
+unfoldable pub backBy : Looked → Taken → List ℕ → List ℕ → Back
+backBy look take metadata «data» =
+    cond (eqb (look .reply) 0)
+    (backEnded (take .reply) (take .metadata) (take .«data») (look .counts))
+    (backEnded (look .reply) metadata «data» (look .counts))
+
+unfoldable pub backOf : (rec page metadata body counts : List ℕ) → Back
+backOf rec page metadata body counts = backBy (lookOf rec page counts) (takeOf rec page metadata body) metadata body
+
+-- m and d are written; m', d' and c' are lent to look and take into. With outputs of another length nothing is taken.
+unfoldable pub roundTaken : Plan → (m d mask m' d' : List ℕ) → Round
+roundTaken q m d mask m' d' =
+    cond (eqb (takeReply q (q .size) (length m') (length d')) 0)
+    (roundEnded Done (overlaid mask (pageOf q (m ++ d))) m d (run (named q mask) 0 (q .blocks)))
+    (roundEnded (Refused (takeReply q (q .size) (length m') (length d'))) (overlaid mask (pageOf q (m ++ d))) m' d' (run (named q mask) 0 (q .blocks)))
+
+-- With counts of another length nothing is looked at or taken. The page is left damaged in each case.
 unfoldable pub roundRead : Plan → (m d mask m' d' c' : List ℕ) → Round
 roundRead q m d mask m' d' c' =
-    cond (eqb (readReply q (q .size) (length m') (length d') (length c')) 0)
-    (roundEnded Done (overlaid mask (pageOf q (m ++ d))) m d (run (named q mask) 0 (q .blocks)))
-    (roundEnded (Refused (readReply q (q .size) (length m') (length d') (length c'))) (overlaid mask (pageOf q (m ++ d))) m' d' c')
+    cond (eqb (lookReply q (q .size) (length c')) 0)
+    (roundTaken q m d mask m' d')
+    (roundEnded (Refused (lookReply q (q .size) (length c'))) (overlaid mask (pageOf q (m ++ d))) m' d' c')
 
 -- A page that is not written stays as it was lent. Under a mask that is not allowed the page is left as it was written.
 unfoldable pub roundIn : Plan → (m d mask page m' d' c' : List ℕ) → Round

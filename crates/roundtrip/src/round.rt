@@ -1,4 +1,4 @@
-// The round trip of a page: written, damaged by a mask, read back.
+// The round trip of a page: written, damaged by a mask, looked at, taken.
 use crate::RoundTrip;
 use crate::mask::flip_by;
 use crate::mask::mask_allowed;
@@ -7,15 +7,17 @@ use layout::Plan;
 use layout::check_layout;
 use layout::plan_of;
 use layout::refusal_reply;
-use page_read::ReadAnswer;
-use page_read::read_page;
+use page_look::LookAnswer;
+use page_look::look_page;
+use page_take::TakeAnswer;
+use page_take::take_page;
 use page_write::WriteAnswer;
 use page_write::write_page;
 use replies::refusal_number;
 ghost use mathlib.Core.Path.{_≡_};
 ghost use Rattle.page_theory.specs.Damage.{Accepts};
-ghost use Rattle.page_theory.specs.Calls.{writeEnded, writeOf, readOf};
-ghost use Rattle.roundtrip.specs.Round.{ReadBack, roundEnded, roundIn, roundOf};
+ghost use Rattle.page_theory.specs.Calls.{writeEnded, writeOf};
+ghost use Rattle.roundtrip.specs.Round.{backEnded, backOf, roundEnded, roundIn, roundOf};
 
 // Writes a page. The result is the reply.
 fn write(words: &[u8], metadata: &[u8], data: &[u8], page: &mut [u8]) -> u8
@@ -28,14 +30,23 @@ fn write(words: &[u8], metadata: &[u8], data: &[u8], page: &mut [u8]) -> u8
     }
 }
 
-// Reads a page. The result is the reply, 9 for a ruined block.
-fn read(words: &[u8], page: &[u8], metadata: &mut [u8], data: &mut [u8], counts: &mut [u8]) -> u8
-    ensures { λ r. ⌜ ReadBack r (now (metadata .exit)) (now («data» .exit)) (now (counts .exit))
-        (readOf (now (words .entry)) (now (page .entry)) (now (metadata .entry)) (now («data» .entry)) (now (counts .entry))) ⌝ }
+// Looks at a page, and takes it where it is not refused. The result is the reply of the last call.
+fn read_back(
+    words: &[u8],
+    page: &[u8],
+    metadata: &mut [u8],
+    data: &mut [u8],
+    counts: &mut [u8],
+) -> u8
+    ensures { λ r. ⌜ backEnded r (now (metadata .exit)) (now («data» .exit)) (now (counts .exit))
+        ≡ backOf (now (words .entry)) (now (page .entry)) (now (metadata .entry)) (now («data» .entry)) (now (counts .entry)) ⌝ }
 {
-    match read_page(words, page, metadata, data, counts) {
-        ReadAnswer::Done => 0,
-        ReadAnswer::Refused(refusal) => refusal_number(refusal),
+    match look_page(words, page, counts) {
+        LookAnswer::Refused(refusal) => refusal_number(refusal),
+        LookAnswer::Done => match take_page(words, page, metadata, data) {
+            TakeAnswer::Done => 0,
+            TakeAnswer::Refused(why) => refusal_number(why),
+        },
     }
 }
 
@@ -64,14 +75,14 @@ fn round_in(
         return RoundTrip::Mask;
     }
     flip_by(mask, page);
-    let reply = read(words, page, metadata_out, data_out, counts);
+    let reply = read_back(words, page, metadata_out, data_out, counts);
     if reply != 0 {
         return RoundTrip::Refused(reply);
     }
     RoundTrip::Done
 }
 
-// Writes a page, flips the bits that a mask names, and reads the page back.
+// Writes a page, flips the bits that a mask names, looks at the page, and takes it.
 pub fn round_trip(
     words: &[u8],
     metadata: &[u8],

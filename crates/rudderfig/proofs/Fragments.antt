@@ -10,7 +10,7 @@ use Rattle.replies.specs.Replies.{number, unless}
 use Rattle.remainder.specs.Remainder.{numberOf}
 use Rattle.fragments.specs.declared.FragmentsAnswer.{FragmentsAnswer}
 use Rattle.fragments.specs.declared.FragmentsAnswer.the-variants.{Done, Refused}
-use Rattle.fragments.specs.Fragments.{joined}
+use Rattle.register_fragments.specs.Fragments.{joined}
 use Rattle.fragments.specs.Calls.{Ended, ended, ending, offered, coefficients, fitting, reply, exportOf, importOf}
 use Rattle.fragments.proofs.Replies.{ended-lent}
 use Rattle.rudderfig.specs.Answer.{answerWord}

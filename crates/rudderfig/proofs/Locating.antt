@@ -14,11 +14,12 @@ use Rattle.field.specs.declared.Choice.the-variants.{Offered, Unknown}
 use Rattle.field.specs.Field.{degree, longest, chosen}
 use Rattle.code.specs.Locations.{Locations, exponents, nowhere, locate}
 use Rattle.code.proofs.Locations.{exponents-locate, listed-length}
+use Rattle.remainder.specs.Remainder.{bytesFor}
 use Rattle.bch.specs.declared.LocateAnswer.{LocateAnswer}
 use Rattle.bch.specs.declared.LocateAnswer.the-variants as answer
 use Rattle.replies.specs.declared.Refusal.{Refusal}
 use Rattle.replies.specs.Replies.{number, block}
-use Rattle.bch.specs.Answers.{Ended, refused, ended, levelOf, bytesFor, requestReply, listIn, remainderIn, locateIn, locateFor, locateOf}
+use Rattle.bch.specs.Answers.{Ended, refused, ended, levelOf, requestReply, listIn, remainderIn, locateIn, locateFor, locateOf}
 use Rattle.rudderfig.specs.Answer.{answerWord, doneWord, refusedWord}
 use Rattle.rudderfig.specs.Locating.{LocateReturns}
 use Rattle.rudderfig.proofs.Words.{Holds, word-holds}
@@ -82,7 +83,7 @@ record Ends (w : Ended) : Type 0 where
 request-low : (f : Field) (field n remainder places : ℕ) → requestReply f field n remainder places < 256
 unfolding requestReply
 request-low f field n remainder places =
-    go (leb field 20) (ltb 0 field) (ltb (degree f * levelOf field) n) (leb n (longest f)) (eqb remainder (bytesFor f (levelOf field))) (leb (levelOf field) places)
+    go (leb field 20) (ltb 0 field) (ltb (degree f * levelOf field) n) (leb n (longest f)) (eqb remainder (bytesFor (degree f * levelOf field))) (leb (levelOf field) places)
   where
     go : (a b c d e g : Bool) → cond a (cond b (cond c (cond d (cond e (cond g 0 6) 6) 3) 2) 2) 1 < 256
     go true true true true true true = omega arith

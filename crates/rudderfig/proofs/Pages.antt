@@ -12,32 +12,16 @@ use Rattle.layout.specs.declared.Plan.{Plan}
 use Rattle.layout.specs.declared.Acceptance.{Acceptance}
 use Rattle.layout.specs.declared.Acceptance.the-variants.{Accepted, Refused}
 use Rattle.layout.specs.Plan.{planOf}
-use Rattle.layout.specs.Acceptance.{acceptance, refusalReply}
+use Rattle.layout.specs.Acceptance.{acceptance}
 use Rattle.code.specs.Outcome.{Outcome, good, erased, ruined}
-use Rattle.page_theory.specs.Reading.{Reading, done, refused, outcome, reading}
+use Rattle.page_theory.specs.Reading.{Reading, outcome, reading, counts}
 use Rattle.replies.specs.Replies.{among}
-use Rattle.page_theory.specs.Calls.{
-  Written,
-  writeOf,
-  Read,
-  readEnded,
-  readReply,
-  readBy,
-  readIn,
-  readFor,
-  readOf,
-  blockReply,
-  Judged,
-  judgeEnded,
-  judgeBy,
-  judgeIn,
-  judgeFor,
-  judgeOf,
-  Claimed,
-  claimOf,
-}
+use Rattle.page_theory.specs.Calls.{writeOf, lookEnded, lookReply, lookBy, lookIn, lookFor, lookOf}
+use Rattle.page_theory.specs.Calls.{takeEnded, takeReply, takeBy, takeIn, takeFor, takeOf}
+use Rattle.page_theory.specs.Calls.{blockReply, judgeEnded, judgeBy, judgeIn, judgeFor, judgeOf, claimOf}
 use Rattle.page_theory.proofs.Reading.{refused-lowest}
-use Rattle.page_theory.proofs.Demand1.{write-ends, read-ends, judge-ends, claim-ends}
+use Rattle.page_theory.proofs.Calls.{Replied, whole, named, look-replied, take-replied}
+use Rattle.page_theory.proofs.Demand1.{write-ends, look-ends, take-ends, judge-ends, claim-ends}
 use Rattle.rudderfig.specs.Answer.{answerWord}
 use Rattle.rudderfig.specs.Pages.{judgeWord, claimWord}
 use Rattle.rudderfig.proofs.Words.{Holds, word-holds}
@@ -57,15 +41,26 @@ among-low x (y ∷ ys) h = go (eqb x y) refl h (among-low x ys)
     go false e k f = omega (arith, f k)
 
 -- a block that the definition of a call names is one of the layout's
-read-block : (q : Plan) (page m d c : List ℕ) → readIn q page m d c .block ≤ q .blocks
-unfolding readIn readBy
-read-block q page m d c = go (eqb (readReply q (length page) (length m) (length d) (length c)) 0) (reading q page) refl
+
+replied-block : (q : Plan) (page : List ℕ) {r : Reading} {x b : ℕ} → reading q page ≡ r → Replied r x b → b ≤ q .blocks
+replied-block q page e (whole w) = omega arith
+replied-block q page e (named b) = omega (arith, refused-lowest q page b e .inside)
+
+look-block : (q : Plan) (page c : List ℕ) → lookIn q page c .block ≤ q .blocks
+unfolding lookIn
+look-block q page c = go (eqb (lookReply q (length page) (length c)) 0)
   where
-    go : (t : Bool) (r : Reading) → reading q page ≡ r
-        → cond t (readBy q r m d c) (readEnded (readReply q (length page) (length m) (length d) (length c)) 0 m d c) .block ≤ q .blocks
-    go true (done w n) e = omega arith
-    go true (refused b) e = omega (arith, refused-lowest q page b e .inside)
-    go false r e = omega arith
+    go : (t : Bool) → cond t (lookBy (reading q page) (counts q page)) (lookEnded (lookReply q (length page) (length c)) 0 c) .block ≤ q .blocks
+    go true = replied-block q page refl (look-replied (reading q page) (counts q page))
+    go false = omega arith
+
+take-block : (q : Plan) (page m d : List ℕ) → takeIn q page m d .block ≤ q .blocks
+unfolding takeIn
+take-block q page m d = go (eqb (takeReply q (length page) (length m) (length d)) 0)
+  where
+    go : (t : Bool) → cond t (takeBy q (reading q page) m d) (takeEnded (takeReply q (length page) (length m) (length d)) 0 m d) .block ≤ q .blocks
+    go true = replied-block q page refl (take-replied q (reading q page) m d)
+    go false = omega arith
 
 judge-block : (q : Plan) (page : List ℕ) (b : ℕ) → judgeIn q page b .block ≤ q .blocks
 unfolding judgeIn blockReply judgeBy
@@ -80,12 +75,20 @@ judge-block q page b = go (eqb (length page) (q .size)) (ltb b (q .blocks)) refl
     go false t e o = omega arith
 
 module _ (rec : List ℕ) (bytes : (i : ℕ) → getD rec i 0 < 256) where
-  read-low : (page m d c : List ℕ) → readOf rec page m d c .block < 65536
-  unfolding readOf readFor
-  read-low page m d c = go (acceptance rec) refl
+  look-low : (page c : List ℕ) → lookOf rec page c .block < 65536
+  unfolding lookOf lookFor
+  look-low page c = go (acceptance rec) refl
     where
-      go : (a : Acceptance) → acceptance rec ≡ a → readFor a page m d c .block < 65536
-      go (Accepted l) h = omega (arith, read-block (planOf l) page m d c, blocks-low l (accepted-narrow rec bytes l h))
+      go : (a : Acceptance) → acceptance rec ≡ a → lookFor a page c .block < 65536
+      go (Accepted l) h = omega (arith, look-block (planOf l) page c, blocks-low l (accepted-narrow rec bytes l h))
+      go (Refused r) h = omega arith
+
+  take-low : (page m d : List ℕ) → takeOf rec page m d .block < 65536
+  unfolding takeOf takeFor
+  take-low page m d = go (acceptance rec) refl
+    where
+      go : (a : Acceptance) → acceptance rec ≡ a → takeFor a page m d .block < 65536
+      go (Accepted l) h = omega (arith, take-block (planOf l) page m d, blocks-low l (accepted-narrow rec bytes l h))
       go (Refused r) h = omega arith
 
   judge-low : (page : List ℕ) (b : ℕ) → judgeOf rec page b .block < 65536
@@ -102,10 +105,13 @@ module _ (rec : List ℕ) (bytes : (i : ℕ) → getD rec i 0 < 256) where
       let ends = write-ends m d page rec in
       word-holds 0 (omega (arith, among-low _ _ (ends .table))) (omega (arith, ends .block)) (λ h. refl)
 
-  pub read-holds : (page m d c : List ℕ) → let w = readOf rec page m d c in Holds (w .reply) (w .block) 0 (answerWord (w .reply) (w .block) 0 0)
+  pub look-holds : (page c : List ℕ) → let w = lookOf rec page c in Holds (w .reply) (w .block) 0 (answerWord (w .reply) (w .block) 0 0)
   unfolding total
-  read-holds page m d c =
-      word-holds 0 (omega (arith, among-low _ _ (read-ends page m d c rec .table))) (read-low page m d c) (λ h. refl)
+  look-holds page c = word-holds 0 (omega (arith, among-low _ _ (look-ends page c rec .table))) (look-low page c) (λ h. refl)
+
+  pub take-holds : (page m d : List ℕ) → let w = takeOf rec page m d in Holds (w .reply) (w .block) 0 (answerWord (w .reply) (w .block) 0 0)
+  unfolding total
+  take-holds page m d = word-holds 0 (omega (arith, among-low _ _ (take-ends page m d rec .table))) (take-low page m d) (λ h. refl)
 
   pub judge-holds : (page : List ℕ) (b : ℕ) → let w = judgeOf rec page b in Holds (w .reply) (w .block) (w .flips) (judgeWord w)
   unfolding total judgeWord

@@ -10,15 +10,18 @@ use Rattle.page_claim.specs.declared.ClaimAnswer.{ClaimAnswer}
 use Rattle.page_claim.specs.declared.ClaimAnswer.the-variants as claim
 use Rattle.page_write.specs.Answers.{writeNumber, writeBlock}
 use Rattle.page_claim.specs.Answers.{claimNumber}
-use Rattle.page_read.specs.declared.ReadAnswer.{ReadAnswer}
-use Rattle.page_read.specs.declared.ReadAnswer.the-variants as read
+use Rattle.page_look.specs.declared.LookAnswer.{LookAnswer}
+use Rattle.page_look.specs.declared.LookAnswer.the-variants as look
+use Rattle.page_take.specs.declared.TakeAnswer.{TakeAnswer}
+use Rattle.page_take.specs.declared.TakeAnswer.the-variants as take
 use Rattle.page_judge.specs.declared.JudgeAnswer.{JudgeAnswer}
 use Rattle.page_judge.specs.declared.JudgeAnswer.the-variants as judge
-use Rattle.page_read.specs.Answers.{readNumber, readBlock}
+use Rattle.page_look.specs.Answers.{lookNumber, lookBlock}
+use Rattle.page_take.specs.Answers.{takeNumber, takeBlock}
 use Rattle.page_judge.specs.Answers.{judgeNumber, judgeBlock, judgeFlips}
-use Rattle.page_theory.specs.Calls.{Written, writeEnded, Read, readEnded, Judged, judgeEnded, Claimed, claimEnded}
-use Rattle.rudderfig.specs.Answer.{answerWord, doneWord, refusedWord}
-use Rattle.rudderfig.specs.Pages.{WriteReturns, ReadReturns, judgeWord, claimWord}
+use Rattle.page_theory.specs.Calls.{Written, writeEnded, Looked, lookEnded, Taken, takeEnded, Judged, judgeEnded, Claimed, claimEnded}
+use Rattle.rudderfig.specs.Answer.{doneWord, refusedWord}
+use Rattle.rudderfig.specs.Pages.{WriteReturns, LookReturns, TakeReturns, judgeWord, claimWord}
 
 module _ {a : WriteAnswer} {w : Written} {p : List ℕ} {r : ℕ} (e : writeEnded (writeNumber a) (writeBlock a) p ≡ w) where
   pub write-done : a ≡ write.Done → r ≡ doneWord 0 0 → WriteReturns w r p
@@ -29,24 +32,23 @@ module _ {a : WriteAnswer} {w : Written} {p : List ℕ} {r : ℕ} (e : writeEnde
   unfolding refusedWord writeNumber writeBlock
   write-refused h k = record { word = k ∙ simp (sym e, h); page = ap (λ w. w .page) e }
 
--- the buffers are those that the call below left
-read-left : {x b : ℕ} {m d c : List ℕ} {w : Read} {r : ℕ} → readEnded x b m d c ≡ w → r ≡ answerWord x b 0 0 → ReadReturns w r m d c
-read-left e k =
-    record {
-      word = k ∙ ap (λ w. answerWord (w .reply) (w .block) 0 0) e;
-      metadata = ap (λ w. w .metadata) e;
-      «data» = ap (λ w. w .«data») e;
-      counts = ap (λ w. w .counts) e;
-    }
+module _ {a : LookAnswer} {w : Looked} {c : List ℕ} {r : ℕ} (e : lookEnded (lookNumber a) (lookBlock a) c ≡ w) where
+  pub look-done : a ≡ look.Done → r ≡ doneWord 0 0 → LookReturns w r c
+  unfolding doneWord lookNumber lookBlock
+  look-done h k = record { word = k ∙ simp (sym e, h); counts = ap (λ w. w .counts) e }
 
-module _ {a : ReadAnswer} {w : Read} {m d c : List ℕ} {r : ℕ} (e : readEnded (readNumber a) (readBlock a) m d c ≡ w) where
-  pub read-done : a ≡ read.Done → r ≡ doneWord 0 0 → ReadReturns w r m d c
-  unfolding doneWord readNumber readBlock
-  read-done h k = read-left e (k ∙ simp h)
+  pub look-refused : {x : Refusal} → a ≡ look.Refused x → r ≡ refusedWord (number x) (block x) → LookReturns w r c
+  unfolding refusedWord lookNumber lookBlock
+  look-refused h k = record { word = k ∙ simp (sym e, h); counts = ap (λ w. w .counts) e }
 
-  pub read-refused : {x : Refusal} → a ≡ read.Refused x → r ≡ refusedWord (number x) (block x) → ReadReturns w r m d c
-  unfolding refusedWord readNumber readBlock
-  read-refused h k = read-left e (k ∙ simp h)
+module _ {a : TakeAnswer} {w : Taken} {m d : List ℕ} {r : ℕ} (e : takeEnded (takeNumber a) (takeBlock a) m d ≡ w) where
+  pub take-done : a ≡ take.Done → r ≡ doneWord 0 0 → TakeReturns w r m d
+  unfolding doneWord takeNumber takeBlock
+  take-done h k = record { word = k ∙ simp (sym e, h); metadata = ap (λ w. w .metadata) e; «data» = ap (λ w. w .«data») e }
+
+  pub take-refused : {x : Refusal} → a ≡ take.Refused x → r ≡ refusedWord (number x) (block x) → TakeReturns w r m d
+  unfolding refusedWord takeNumber takeBlock
+  take-refused h k = record { word = k ∙ simp (sym e, h); metadata = ap (λ w. w .metadata) e; «data» = ap (λ w. w .«data») e }
 
 module _ {a : JudgeAnswer} {w : Judged} {r : ℕ} (e : judgeEnded (judgeNumber a) (judgeBlock a) (judgeFlips a) ≡ w) where
   pub judge-flips : {n : ℕ} → a ≡ judge.Flips n → r ≡ doneWord 0 n → r ≡ judgeWord w

@@ -2,76 +2,63 @@
 -- below 2^19, since a record is made of bytes.
 use mathlib.Core.Path.{_≡_, refl}
 use mathlib.Core.List.{List}
-use mathlib.Core.Bool.{Bool, true, false, cond}
+use mathlib.Core.Logic.{⊎-elim}
 use Prim.Native.Nat.{ℕ, zero, suc, _*_, _≤_, _<_}
 use native.Mathlib.Omega.{arith}
+use native.Mathlib.Nat.{eq-zero-or-pos}
 use lib.ListN.{getD}
-use lib.Dec.{eqb}
 use Rattle.field.specs.Field.{degree}
-use Rattle.field.specs.declared.Field.the-variants.{Thirteen}
 use Rattle.layout.specs.declared.BlockFields.{BlockFields}
 use Rattle.layout.specs.declared.Layout.{Layout}
 use Rattle.layout.specs.declared.Plan.{Plan}
-use Rattle.layout.specs.declared.Shape.{Shape}
 use Rattle.layout.specs.declared.Acceptance.{Acceptance}
 use Rattle.layout.specs.declared.Acceptance.the-variants.{Accepted, Refused}
 use Rattle.layout.specs.declared.BitAnswer.the-variants as bit
 use Rattle.layout.specs.declared.PositionAnswer.the-variants as position
-use Rattle.layout.specs.Record.{blockFields, layoutAt, layoutOf}
-use Rattle.layout.specs.Plan.{shapeOf, laterShape, planOf, coveredOf, covered, used}
+use Rattle.layout.specs.Record.{blockFields, fieldsAt, fieldsIn}
+use Rattle.layout.specs.Plan.{shapeWith, shapeOf, laterShape, planFor, planOf, shape, covered}
 use Rattle.layout.specs.Acceptance.{acceptance}
 use Rattle.layout.specs.Bits.{bitAnswer, bitFor, positionAnswer, positionFor}
-use Rattle.layout.proofs.Plans.{degree-small, product-le, covered-zero, covered-later}
-use Rattle.layout.proofs.Accepting.{keeps}
-use Rattle.layout.proofs.Inverse.{Belongs, bit-belongs, position-belongs, belongs-page, exponent-low, accepted-taken, bit-position}
+use Rattle.layout.proofs.Plans.{degree-small, product-le, later-none, later-some}
+use Rattle.layout.proofs.Accepting.{accepted-plan, accepted-valid}
+use Rattle.page_bits.proofs.Inverse.{Belongs, bit-belongs, position-belongs, belongs-page, exponent-low, bit-position}
 
--- a layout whose fields are of the widths that the record gives them
-pub record Narrow (l : Layout) : Type 0 where
-  pub nblocks : l .nblocks < 256
-  pub metadata : l .metadata < 256
-  pub page : l .page < 65536
-  pub first : (l .first .ecc < 32) × (l .first .units < 1024)
-  pub later : (l .later .ecc < 32) × (l .later .units < 1024)
+-- a plan whose numbers are as small as a record of bytes makes them
+pub record Narrow (q : Plan) : Type 0 where
+  pub blocks : q .blocks ≤ 256
+  pub size : q .size < 65536
+  pub covered : (b : ℕ) → covered q b < 65536
 
-pub narrow : (rec : List ℕ) → ((i : ℕ) → getD rec i 0 < 256) → Narrow (layoutOf rec)
-unfolding layoutOf layoutAt blockFields
-narrow rec h =
-    record {
-      nblocks = h 0;
-      metadata = h 1;
-      page = omega (arith, h 4, h 5);
-      first = (omega (arith, h 2), omega (arith, h 2, h 3));
-      later = (omega (arith, h 6), omega (arith, h 6, h 7));
-    }
+shape-low : (metadata : ℕ) (fields : BlockFields) → metadata < 256 → fields .ecc < 32 → fields .units < 1024 → shapeOf metadata fields .covered < 65536
+unfolding shapeOf shapeWith
+shape-low metadata fields m e u = let p = product-le 14 62 {a = degree (fields .gf)} {b = 2 * fields .ecc} (degree-small (fields .gf)) (omega arith) in omega arith
 
-shape-low : (s : Shape) → s .message ≤ 34776 → s .level ≤ 62 → coveredOf s < 65536
-unfolding coveredOf
-shape-low s h k = let p = product-le 14 62 {a = degree (s .field)} {b = s .level} (degree-small (s .field)) k in omega arith
+module _ (rec : List ℕ) (bytes : (i : ℕ) → getD rec i 0 < 256) where
+  first-low : shapeOf (fieldsIn rec .metadata) (fieldsIn rec .first) .covered < 65536
+  unfolding fieldsIn fieldsAt blockFields
+  first-low = shape-low _ _ (bytes 1) (omega (arith, bytes 2)) (omega (arith, bytes 2, bytes 3))
 
-module _ (l : Layout) (n : Narrow l) where
-  pub blocks-low : planOf l .blocks ≤ 256
-  unfolding planOf
-  blocks-low = omega (arith, n .nblocks)
+  later-low : laterShape (fieldsIn rec) .covered < 65536
+  unfolding fieldsIn fieldsAt blockFields
+  later-low =
+      ⊎-elim
+      (λ (e : fieldsIn rec .nblocks ≡ 0). rw (later-none (fieldsIn rec) e) (unfold shapeWith in omega arith))
+      (λ (k : 0 < fieldsIn rec .nblocks). rw (later-some (fieldsIn rec) k) (shape-low _ _ (omega arith) (omega (arith, bytes 6)) (omega (arith, bytes 6, bytes 7))))
+      (eq-zero-or-pos (fieldsIn rec .nblocks))
 
-  pub size-low : planOf l .size < 65536
-  unfolding planOf
-  size-low = n .page
-
-  first-low : coveredOf (planOf l .first) < 65536
-  unfolding planOf shapeOf
-  first-low = shape-low _ (omega (arith, n .metadata, n .first .1)) (omega (arith, n .first .0))
-
-  later-low : coveredOf (planOf l .later) < 65536
-  unfolding planOf laterShape shapeOf
-  later-low = go (eqb (l .nblocks) 0)
+  narrow : Narrow (planFor (fieldsIn rec))
+  unfolding planFor fieldsIn fieldsAt shape
+  narrow = record { blocks = omega (arith, bytes 0); size = omega (arith, bytes 4, bytes 5); covered = go }
     where
-      go : (t : Bool) → coveredOf (cond t (record { message = 0; field = Thirteen; level = 0 }) (shapeOf 0 (l .later))) < 65536
-      go true = shape-low _ (omega arith) (omega arith)
-      go false = shape-low _ (omega (arith, n .later .1)) (omega (arith, n .later .0))
+      go : (b : ℕ) → covered (planFor (fieldsIn rec)) b < 65536
+      go zero = first-low
+      go (suc b) = later-low
 
-  pub covered-low : (b : ℕ) → covered (planOf l) b < 65536
-  covered-low zero = rw covered-zero first-low
-  covered-low (suc b) = rw covered-later later-low
+  pub accepted-narrow : (l : Layout) → acceptance rec ≡ Accepted l → Narrow (planOf l)
+  accepted-narrow l h = rw (accepted-plan rec l h) narrow
+
+pub blocks-low : (l : Layout) → Narrow (planOf l) → planOf l .blocks ≤ 256
+blocks-low l n = n .blocks
 
 -- block and exponent of a page bit
 pub record Located (b e : ℕ) : Type 0 where
@@ -79,20 +66,17 @@ pub record Located (b e : ℕ) : Type 0 where
   pub exponent : e < 65536
 
 module _ (rec : List ℕ) (bytes : (i : ℕ) → getD rec i 0 < 256) where
-  pub accepted-narrow : (l : Layout) → acceptance rec ≡ Accepted l → Narrow l
-  accepted-narrow l h = rw (accepted-taken rec l h .fields) (narrow rec bytes)
-
   pub bit-low : (p b e : ℕ) → bitAnswer rec p ≡ bit.InBlock b e → Located b e
   unfolding bitAnswer bitFor
   bit-low p b e h = go (acceptance rec) refl h
     where
       go : (a : Acceptance) → acceptance rec ≡ a → bitFor a p ≡ bit.InBlock b e → Located b e
       go (Accepted l) k x =
-          let n = accepted-narrow l k in
+          let n = accepted-narrow rec bytes l k in
           let at = bit-belongs (planOf l) p b e x in
           record {
-            block = omega (arith, at .number, blocks-low l n);
-            exponent = omega (arith, at .exponent, exponent-low (planOf l) (at .lies), covered-low l n b);
+            block = omega (arith, at .number, n .blocks);
+            exponent = omega (arith, at .exponent, exponent-low (planOf l) (at .lies), n .covered b);
           }
       go (Refused r) k x = let z : _≡_ {A = ℕ} 0 1 = cc x in absurd (omega arith)
 
@@ -102,7 +86,6 @@ module _ (rec : List ℕ) (bytes : (i : ℕ) → getD rec i 0 < 256) where
     where
       go : (a : Acceptance) → acceptance rec ≡ a → positionFor a b e ≡ position.Position p → p < 524288
       go (Accepted l) k x =
-          let fits : used (planOf l) ≤ 8 * planOf l .size = unfold planOf in keeps l (accepted-taken rec l k .kept) .fits in
-          let inside = belongs-page (planOf l) fits (position-belongs (planOf l) p b e x) in
-          omega (arith, size-low l (accepted-narrow l k))
+          let inside = belongs-page (planOf l) (accepted-valid rec l k) (position-belongs (planOf l) p b e x) in
+          omega (arith, accepted-narrow rec bytes l k .size)
       go (Refused r) k x = let z : _≡_ {A = ℕ} 0 1 = cc x in absurd (omega arith)

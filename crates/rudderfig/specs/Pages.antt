@@ -1,24 +1,29 @@
--- What the calls on a page return (document 01, "Replies", "One block" and "Claim"): the reply and the block of how the call ends, and what it leaves.
+-- What the calls on a page return (document 01, "Replies", "One block" and "Claim"; document 02, E6): the reply and the block of how the call ends,
+-- and what it leaves.
 --
 -- WriteReturns w r p         writing that ends as w returns r and leaves p in the page
--- ReadReturns w r m d c      reading that ends as w returns r and leaves m, d and c in metadata, data and counts
+-- LookReturns w r c          looking that ends as w returns r and leaves c in the counts
+-- TakeReturns w r m d        taking that ends as w returns r and leaves m and d in metadata and data
 -- judgeWord w                what judging one block returns that ends as w: the value is the number of flips
 -- claimWord w                what a claim returns that ends as w
 use mathlib.Core.Path.{_≡_}
 use mathlib.Core.List.{List}
 use Prim.Native.Nat.{ℕ}
-use Rattle.page_theory.specs.Calls.{Written, Read, Judged, Claimed}
+use Rattle.page_theory.specs.Calls.{Written, Looked, Taken, Judged, Claimed}
 use Rattle.rudderfig.specs.Answer.{answerWord}
 
 pub record WriteReturns (w : Written) (r : ℕ) (p : List ℕ) : Type 0 where
   pub word : r ≡ answerWord (w .reply) (w .block) 0 0
   pub page : p ≡ w .page
 
-pub record ReadReturns (w : Read) (r : ℕ) (m d c : List ℕ) : Type 0 where
+pub record LookReturns (w : Looked) (r : ℕ) (c : List ℕ) : Type 0 where
+  pub word : r ≡ answerWord (w .reply) (w .block) 0 0
+  pub counts : c ≡ w .counts
+
+pub record TakeReturns (w : Taken) (r : ℕ) (m d : List ℕ) : Type 0 where
   pub word : r ≡ answerWord (w .reply) (w .block) 0 0
   pub metadata : m ≡ w .metadata
   pub «data» : d ≡ w .«data»
-  pub counts : c ≡ w .counts
 
 unfoldable pub judgeWord : Judged → ℕ
 judgeWord w = answerWord (w .reply) (w .block) 0 (w .flips)

@@ -1,10 +1,11 @@
-// The library as C calls it: the questions of document 01 on numbers and slices, each answered by one 64-bit word.
+// The library as C calls it: the questions of documents 01 and 02 on numbers and slices, each answered by one 64-bit word.
 //
 //   rudderfig_check_layout     is this layout acceptable?
 //   rudderfig_locate_bit       where does a page bit belong?
 //   rudderfig_bit_position     where does a code bit lie?
 //   rudderfig_write_page       write a page from metadata and data
-//   rudderfig_read_page        read a page into metadata, data and flip counts
+//   rudderfig_look_page        look at a page: the count of each block
+//   rudderfig_take_page        take metadata and data out of a page
 //   rudderfig_judge_block      judge one block of a page
 //   rudderfig_check_claim      are these error locations, reported by a hardware locator, right?
 //   rudderfig_locate_errors    from a remainder alone, which bits are wrong?
@@ -27,16 +28,17 @@ use layout::BitAnswer;
 use layout::PositionAnswer;
 use page_claim::ClaimAnswer;
 use page_judge::JudgeAnswer;
-use page_read::ReadAnswer;
+use page_look::LookAnswer;
+use page_take::TakeAnswer;
 use page_write::WriteAnswer;
 ghost use mathlib.Core.Path.{_≡_};
 ghost use Rattle.bch.specs.Answers.{locateOf};
 ghost use Rattle.layout.specs.Acceptance.{acceptance};
 ghost use Rattle.layout.specs.Bits.{bitAnswer, positionAnswer};
-ghost use Rattle.page_theory.specs.Calls.{writeOf, readOf, judgeOf, claimOf};
+ghost use Rattle.page_theory.specs.Calls.{writeOf, lookOf, takeOf, judgeOf, claimOf};
 ghost use Rattle.rudderfig.specs.Bits.{acceptanceWord, bitWord, positionWord};
 ghost use Rattle.rudderfig.specs.Locating.{LocateReturns};
-ghost use Rattle.rudderfig.specs.Pages.{WriteReturns, ReadReturns, judgeWord, claimWord};
+ghost use Rattle.rudderfig.specs.Pages.{WriteReturns, LookReturns, TakeReturns, judgeWord, claimWord};
 
 // Is this layout acceptable?
 #[no_mangle]
@@ -54,7 +56,7 @@ pub extern "C" fn rudderfig_check_layout(words: &[u8]) -> u64
 pub extern "C" fn rudderfig_locate_bit(words: &[u8], position: u64) -> u64
     ensures { λ r. ⌜ r ≡ bitWord (bitAnswer (now (words .entry)) position) ⌝ }
 {
-    match layout::locate_bit(words, position) {
+    match page_bits::locate_bit(words, position) {
         BitAnswer::InBlock { block, exponent } => done(0, 0x10000 * block as u32 + exponent as u32),
         BitAnswer::Tail => done(1, 0),
         BitAnswer::Refused(refusal) => refused(layout::refusal_reply(refusal), 0),
@@ -66,7 +68,7 @@ pub extern "C" fn rudderfig_locate_bit(words: &[u8], position: u64) -> u64
 pub extern "C" fn rudderfig_bit_position(words: &[u8], block: u64, exponent: u64) -> u64
     ensures { λ r. ⌜ r ≡ positionWord (positionAnswer (now (words .entry)) block exponent) ⌝ }
 {
-    match layout::bit_position(words, block, exponent) {
+    match page_bits::bit_position(words, block, exponent) {
         PositionAnswer::Position(position) => done(0, position as u32),
         PositionAnswer::Refused(refusal) => refused(layout::refusal_reply(refusal), 0),
     }
@@ -89,22 +91,31 @@ pub extern "C" fn rudderfig_write_page(
     }
 }
 
-// Reads a page into metadata, data and flip counts. Reply 9 names the lowest ruined block.
+// Looks at a page: the count of each block. Reply 9 names the lowest ruined block, and the counts are written all the same.
 #[no_mangle]
-pub extern "C" fn rudderfig_read_page(
+pub extern "C" fn rudderfig_look_page(words: &[u8], page: &[u8], counts: &mut [u8]) -> u64
+    ensures { λ r. ⌜ LookReturns (lookOf (now (words .entry)) (now (page .entry)) (now (counts .entry))) r (now (counts .exit)) ⌝ }
+{
+    match page_look::look_page(words, page, counts) {
+        LookAnswer::Done => done(0, 0),
+        LookAnswer::Refused(refusal) => refused_by(refusal),
+    }
+}
+
+// Takes metadata and data out of a page. Reply 9 names the lowest ruined block.
+#[no_mangle]
+pub extern "C" fn rudderfig_take_page(
     words: &[u8],
     page: &[u8],
     metadata: &mut [u8],
     data: &mut [u8],
-    counts: &mut [u8],
 ) -> u64
-    ensures { λ r. ⌜ ReadReturns
-        (readOf (now (words .entry)) (now (page .entry)) (now (metadata .entry)) (now («data» .entry)) (now (counts .entry)))
-        r (now (metadata .exit)) (now («data» .exit)) (now (counts .exit)) ⌝ }
+    ensures { λ r. ⌜ TakeReturns (takeOf (now (words .entry)) (now (page .entry)) (now (metadata .entry)) (now («data» .entry)))
+        r (now (metadata .exit)) (now («data» .exit)) ⌝ }
 {
-    match page_read::read_page(words, page, metadata, data, counts) {
-        ReadAnswer::Done => done(0, 0),
-        ReadAnswer::Refused(refusal) => refused_by(refusal),
+    match page_take::take_page(words, page, metadata, data) {
+        TakeAnswer::Done => done(0, 0),
+        TakeAnswer::Refused(refusal) => refused_by(refusal),
     }
 }
 

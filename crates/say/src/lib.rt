@@ -1,103 +1,181 @@
-// What the tool prints. Answers go to standard output, errors to standard error.
+// What the tool prints, and the exit status that it comes to.
 //
-//   text, number, fact     a text, a number, a number between two texts
-//   reply, meaning         the start of an answer, and what a reply says
-//   length, page_refused, ruined   what is wrong with a page
-//   progress               how far a dump is read
-//   error, bad_argument, bad_file   an error's line
-use layout::Plan;
+// An answer is gathered in a buffer that every function here is lent, and written by one call when it is whole:
+//   bytes 0 and 1   how many bytes of text it holds
+//   byte 2          the exit status so far: 0, the first other reply, or the number of an error
+//   byte 3          the descriptor that the text goes to; 0 where writing it failed
+//   from byte 8 on  the text
+//
+//   new, flush, forget, to_stderr   a buffer; its text written, dropped, or sent to standard error
+//   text                            the text, to be written elsewhere
+//   status, fail                    the exit status; another one
+//   put, number, fact               a text, a number, a number between two texts
+//   reply, meaning                  the start of an answer, and what a reply says
+//   length, page_refused, ruined    what is wrong with a page
+//   error, bad_argument, bad_file, bad_output   an error's line on standard error
+//   close                           standard output closed, which may fail as well
+mod errors;
+mod pages;
+
+pub use errors::bad_argument;
+pub use errors::bad_file;
+pub use errors::bad_output;
+pub use errors::error;
 use libc::STDERR_FILENO;
 use libc::STDOUT_FILENO;
+pub use pages::length;
+pub use pages::page_number;
+pub use pages::page_refused;
+pub use pages::ruined;
+ghost use mathlib.Core.Path.{_≡_};
+ghost use Prim.Native.Nat.{_≤_};
+ghost use lib.ListN.{length as List·length};
 
-pub fn text(bytes: &[u8]) {
-    io::write_all(STDOUT_FILENO, bytes);
+// The exit status of an error in the arguments, and that of a file that fails. Neither is a reply.
+pub const USAGE: u8 = 64;
+
+pub const FILE: u8 = 74;
+
+// A buffer with no text, for standard output.
+pub fn new() -> [u8; 32768]
+    ensures { λ r. ⌜ 32768 ≡ List·length r ⌝ }
+{
+    let mut out = [0u8; 32768];
+    out[3] = 1;
+    out
 }
 
-pub fn number(n: u64) {
-    io::print_decimal(STDOUT_FILENO, n);
+fn wide(b: u8) -> usize
+    ensures { λ r. ⌜ r ≤ 255 ⌝ }
+{
+    b as usize
+}
+
+fn held(out: &[u8; 32768]) -> usize
+    ensures { λ r. ⌜ r ≤ 65535 ⌝ }
+{
+    256 * wide(out[0]) + wide(out[1])
+}
+
+fn hold(out: &mut [u8; 32768], n: usize) {
+    out[0] = (n / 256 % 256) as u8;
+    out[1] = (n % 256) as u8;
+}
+
+// Drops the text.
+pub fn forget(out: &mut [u8; 32768]) {
+    hold(out, 0);
+}
+
+// Sends the text to standard error, where standard output has a page's bytes.
+pub fn to_stderr(out: &mut [u8; 32768]) {
+    out[3] = 2;
+}
+
+pub fn status(out: &[u8; 32768]) -> u8 {
+    out[2]
+}
+
+// Sets the exit status, whatever was answered before.
+pub fn fail(out: &mut [u8; 32768], status: u8) {
+    out[2] = status;
+}
+
+fn broken(out: &mut [u8; 32768]) {
+    out[3] = 0;
+    bad_output(out, b"-");
+}
+
+fn descriptor(b: u8) -> i32 {
+    if b == 1 {
+        return STDOUT_FILENO;
+    }
+    STDERR_FILENO
+}
+
+// What stands after the head.
+fn body(bytes: &[u8]) -> &[u8] {
+    if bytes.len() < 8 {
+        return bytes;
+    }
+    &bytes[8..]
+}
+
+// The text.
+pub fn text(out: &[u8; 32768]) -> &[u8] {
+    let n = held(out);
+    text::front(body(out), n)
+}
+
+// Writes the text. Where that fails an error is printed, and nothing is written from then on.
+pub fn flush(out: &mut [u8; 32768]) {
+    let n = held(out);
+    let fd = out[3];
+    hold(out, 0);
+    if fd == 0 {
+        return;
+    }
+    if !streams::put(descriptor(fd), text::front(body(out), n)) {
+        broken(out);
+    }
+}
+
+// Closes standard output, where the text goes to it.
+pub fn close(out: &mut [u8; 32768]) {
+    if out[3] == 1 {
+        if libc::close(STDOUT_FILENO) != 0 {
+            broken(out);
+        }
+    }
+}
+
+pub fn put(out: &mut [u8; 32768], bytes: &[u8]) {
+    let at = 8 + held(out);
+    let end = text::put_all(out, at, bytes);
+    if 8 <= end {
+        hold(out, end - 8);
+    }
+}
+
+pub fn number(out: &mut [u8; 32768], n: u64) {
+    let mut digits = [0u8; 20];
+    let k = io::decimal(n, &mut digits);
+    put(out, &digits[..k]);
 }
 
 // A number between two texts.
-pub fn fact(before: &[u8], n: u64, after: &[u8]) {
-    text(before);
-    number(n);
-    text(after);
+pub fn fact(out: &mut [u8; 32768], before: &[u8], n: u64, after: &[u8]) {
+    put(out, before);
+    number(out, n);
+    put(out, after);
+}
+
+// The exit status is the first reply that is not 0.
+fn note(out: &mut [u8; 32768], reply: u8) {
+    if out[2] == 0 {
+        out[2] = reply;
+    }
 }
 
 // The start of an answer's line: its reply.
-pub fn reply(n: u8) {
-    fact(b"reply ", n as u64, b": ");
+pub fn reply(out: &mut [u8; 32768], n: u8) {
+    note(out, n);
+    fact(out, b"reply ", n as u64, b": ");
 }
 
 // What a reply says (document 01, "Replies").
-pub fn meaning(reply: u8) {
+pub fn meaning(out: &mut [u8; 32768], reply: u8) {
     match reply {
-        1 => text(b"a level field is too large"),
-        2 => text(b"a block has an empty message"),
-        3 => text(b"a block is longer than its field allows"),
-        4 => text(b"the blocks need more bits than the page has"),
-        5 => text(b"the page has not the length that the layout says"),
-        6 => text(b"a file has a wrong length"),
-        7 => text(b"a number is outside its range"),
-        8 => text(b"the remainder has a one above its highest bit"),
-        9 => text(b"uncorrectable, no codeword within t flips"),
-        10 => text(b"the claimed locations are wrong"),
-        _ => text(b"refused"),
+        1 => put(out, b"a level field is too large"),
+        2 => put(out, b"a block has an empty message"),
+        3 => put(out, b"a block is longer than its field allows"),
+        4 => put(out, b"the blocks need more bits than the page has"),
+        5 => put(out, b"the page has not the length that the layout says"),
+        6 => put(out, b"a file has a wrong length"),
+        7 => put(out, b"a number is outside its range"),
+        8 => put(out, b"the remainder has a one above its highest bit"),
+        9 => put(out, b"uncorrectable, no codeword within t flips"),
+        10 => put(out, b"the claimed locations are wrong"),
+        _ => put(out, b"refused"),
     }
-}
-
-// A length that was found, and the one that is wanted.
-pub fn length(what: &[u8], found: usize, wanted: usize) {
-    fact(what, found as u64, b" bytes");
-    fact(b" (", wanted as u64, b" wanted)");
-}
-
-// A page that is refused, and what is wrong with it. A page of another length has its length shown.
-pub fn page_refused(reply_number: u8, plan: Plan, length_found: usize) {
-    reply(reply_number);
-    meaning(reply_number);
-    if reply_number == 5 {
-        length(b": ", length_found, plan.size as usize);
-    }
-    if reply_number == 7 {
-        fact(b": the page has ", plan.blocks as u64, b" blocks");
-    }
-    text(b"\n");
-}
-
-// A block that has no codeword within t flips. Its line is not ended.
-pub fn ruined(block: u16) {
-    fact(b"reply 9 block ", block as u64, b": ");
-    meaning(9);
-}
-
-// How many pages of a dump are read, on standard error.
-pub fn progress(pages: u64) {
-    io::write_all(STDERR_FILENO, b"nandpage: ");
-    io::print_decimal(STDERR_FILENO, pages);
-    io::write_all(STDERR_FILENO, b" pages so far\n");
-}
-
-// An error's line.
-pub fn error(what: &[u8]) {
-    io::write_all(STDERR_FILENO, b"nandpage: ");
-    io::write_all(STDERR_FILENO, what);
-    io::write_all(STDERR_FILENO, b"\n");
-}
-
-// An error's line about an argument: what it is called, what was given and what it has to be.
-pub fn bad_argument(name: &[u8], given: &[u8], wanted: &[u8]) {
-    io::write_all(STDERR_FILENO, b"nandpage: ");
-    io::write_all(STDERR_FILENO, name);
-    io::write_all(STDERR_FILENO, b" '");
-    io::write_all(STDERR_FILENO, given);
-    io::write_all(STDERR_FILENO, b"' ");
-    io::write_all(STDERR_FILENO, wanted);
-    io::write_all(STDERR_FILENO, b"\n");
-}
-
-// An error's line about a file, with the system's reason.
-pub fn bad_file(path: &[u8]) {
-    io::write_all(STDERR_FILENO, b"nandpage: ");
-    os::fail(path);
 }

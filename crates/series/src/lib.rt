@@ -11,7 +11,7 @@ ghost use Rattle.field.specs.Tables.{Tables};
 ghost use Rattle.field.proofs.Instance.{gf, num};
 ghost use Rattle.series.specs.Series.{Elements, Updated};
 use field::Field;
-use field::tables::scaled;
+use field_tables::scaled;
 
 // c + a^e x^gap u, where u has the given number of terms.
 pub fn mix(

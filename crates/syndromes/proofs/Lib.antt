@@ -1,2 +1,2 @@
 pub mod PowerSums
-pub mod Rows
+pub mod Spreading

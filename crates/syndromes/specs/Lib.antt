@@ -1,2 +1,1 @@
 pub mod PowerSums
-pub mod Lanes

@@ -4,6 +4,5 @@
 //   power_sums::sums_agree    whether the power sums of a list of places are the syndromes
 //
 // The value of a polynomial at a^j is the sum of a^(jp) over the exponents p of its terms. So the syndromes of a remainder that a set
-// of places leaves are the power sums of that set. lanes.rt works the values at the odd powers of a out side by side.
-pub mod lanes;
+// of places leaves are the power sums of that set. Crate `syndrome_lanes` works the values at the odd powers of a out.
 pub mod power_sums;

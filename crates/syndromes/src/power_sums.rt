@@ -4,7 +4,7 @@
 //   sums_agree     whether the power sums of a list of places are the syndromes
 //
 // The value of a polynomial at a^j is the sum of a^(jp) over the exponents p of its terms; it stands at the place j - 1 of an array.
-// The sums with odd j are worked out, for a remainder by lanes.rt, for a list of places by adding the powers of one after the other.
+// The sums with odd j are worked out, for a remainder by crate `syndrome_lanes`, for a list of places by adding the powers of one after the other.
 // The sums with even j are squares.
 ghost use mathlib.Core.Path.{_≡_};
 ghost use mathlib.Core.List.{[], _∷_};
@@ -15,15 +15,14 @@ ghost use Rattle.field.specs.Tables.{Tables};
 ghost use Rattle.powers.specs.Powers.{Powers};
 ghost use Rattle.code.specs.Register.{register};
 ghost use Rattle.series.specs.Series.{Elements};
-ghost use Rattle.syndromes.specs.Lanes.{Spread};
 ghost use Rattle.bits.specs.Decides.{Decides};
-ghost use Rattle.syndromes.specs.PowerSums.{Summed, Agrees, Squared, Syndromes};
-use crate::lanes::fill_rows;
-use crate::lanes::lane_values;
+ghost use Rattle.syndromes.specs.PowerSums.{Summed, Agrees, Squared, Spread, Syndromes};
 use field::Field;
-use field::tables::product_by_tables;
-use field::tables::wrap;
+use field_tables::product_by_tables;
+use field_tables::wrap;
 use remainder::Register;
+use syndrome_lanes::fill_rows;
+use syndrome_lanes::lane_values;
 
 // Adds a^(jp) to the sum with each odd j below 2t.
 fn add_powers(f: Field, powers: &[u16; 16384], sums: &mut [u16; 128], t: usize, p: usize)

@@ -4,30 +4,34 @@
 //   parse_bytes       bytes in hexadecimal, two digits each
 //   hex_byte          a byte in hexadecimal
 //   layout_record     the layout record of two words
-//   total, largest    of the flip counts of a page
-//   plus, larger      of two numbers
+//   plus, times, larger   of two numbers
+//   natural           a number that is not below 0
 //   without_prefix    the digits after 0x
+//   put, put_all      bytes onto a buffer
 //   front, front_mut, front_words, front_exponents   the first places of a buffer
 //
 // No public function asks anything of its caller.
 mod digits;
 mod hex;
+mod lines;
 mod pairs;
 mod parts;
 
 pub use digits::parse_number;
 pub use digits::without_prefix;
 pub use hex::hex_byte;
+pub use lines::put;
+pub use lines::put_all;
 pub use pairs::parse_bytes;
 pub use parts::front;
 pub use parts::front_exponents;
 pub use parts::front_mut;
 pub use parts::front_words;
 pub use parts::larger;
-pub use parts::largest;
 pub use parts::layout_record;
+pub use parts::natural;
 pub use parts::plus;
-pub use parts::total;
+pub use parts::times;
 
 // What a text says: a number of at most 64 bits, or none.
 pub enum Number {

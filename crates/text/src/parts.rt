@@ -1,8 +1,7 @@
 // Parts of buffers, and what is worked out over them.
 ghost use mathlib.Core.Path.{_≡_};
-ghost use Prim.Native.Nat.{_≤_};
 ghost use lib.ListN.{take};
-ghost use Rattle.text.specs.Parts.{recordOf, totalOf, plusOf, largerOf, largestOf};
+ghost use Rattle.text.specs.Parts.{recordOf, plusOf, largerOf};
 
 // The layout record of two words of 32 bits, word 0 first, most significant byte first.
 pub fn layout_record(first: u32, second: u32) -> [u8; 8]
@@ -20,26 +19,6 @@ pub fn layout_record(first: u32, second: u32) -> [u8; 8]
     ]
 }
 
-// A count at 64 bits.
-fn wide(count: u8) -> u64
-    ensures { λ r. ⌜ (r ≡ count) × (r ≤ 255) ⌝ }
-{
-    count as u64
-}
-
-// The sum of all counts.
-pub fn total(counts: &[u8; 256]) -> u64
-    ensures { λ r. ⌜ (r ≡ totalOf (now (counts .entry)) 256) × (r ≤ 65280) ⌝ }
-{
-    let mut sum = 0;
-    let mut i = 0;
-    while i < 256 {
-        sum += wide(counts[i]);
-        i += 1;
-    }
-    sum
-}
-
 // The sum of two numbers; the first where the sum has more than 64 bits.
 pub fn plus(a: u64, b: u64) -> u64
     ensures { λ r. ⌜ r ≡ plusOf a b ⌝ }
@@ -50,6 +29,26 @@ pub fn plus(a: u64, b: u64) -> u64
     a + b
 }
 
+// The product of a number and one of 32 bits; the largest of 64 bits where it has more.
+pub fn times(a: u64, b: u32) -> u64 {
+    let k = b as u64;
+    if k == 0 {
+        return 0;
+    }
+    if 18446744073709551615 / k < a {
+        return 18446744073709551615;
+    }
+    a * k
+}
+
+// A number that is not below 0; 0 for one that is.
+pub fn natural(n: i64) -> u64 {
+    if n >= 0 {
+        return n as u64;
+    }
+    0
+}
+
 // The larger of two counts.
 pub fn larger(a: u8, b: u8) -> u8
     ensures { λ r. ⌜ r ≡ largerOf a b ⌝ }
@@ -58,19 +57,6 @@ pub fn larger(a: u8, b: u8) -> u8
         return b;
     }
     a
-}
-
-// The largest of all counts.
-pub fn largest(counts: &[u8; 256]) -> u8
-    ensures { λ r. ⌜ r ≡ largestOf (now (counts .entry)) 256 ⌝ }
-{
-    let mut most = 0;
-    let mut i = 0;
-    while i < 256 {
-        most = larger(most, counts[i]);
-        i += 1;
-    }
-    most
 }
 
 // The first n bytes; all where there are no more.

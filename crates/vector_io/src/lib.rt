@@ -10,6 +10,8 @@
 // What is read is proved; what is written is compared by running the programs.
 use libc::STDIN_FILENO;
 use libc::STDOUT_FILENO;
+pub use text::put;
+pub use text::put_all;
 ghost use mathlib.Core.Path.{_≡_};
 ghost use Prim.Native.Nat.{_+_};
 ghost use lib.ListN.{getD};
@@ -45,27 +47,6 @@ pub fn number(bytes: &[u8], at: usize, count: usize) -> u64
         i += 1;
     }
     v
-}
-
-// A byte onto the line: the next place.
-pub fn put(line: &mut [u8], at: usize, b: u8) -> usize {
-    if at < line.len() {
-        line[at] = b;
-        return at + 1;
-    }
-    at
-}
-
-// Bytes onto the line, one after the other.
-pub fn put_all(line: &mut [u8], at: usize, bytes: &[u8]) -> usize {
-    let n = bytes.len();
-    let mut p = at;
-    let mut i = 0;
-    while i < n {
-        p = put(line, p, bytes[i]);
-        i += 1;
-    }
-    p
 }
 
 // A space onto the line, where something stands before it.

@@ -1,10 +1,9 @@
-//! Samples of pages with erased blocks (document 02, E1), and the edges of that rule which they meet.
+//! Samples of pages with erased blocks (document 02, E1).
 
 use crate::bits::{bit, flip};
 use crate::call::Call;
 use crate::decoder::errors_of_word;
-use crate::layout::{Block, Layout, LayoutWords, check_layout};
-use crate::outcome::{Outcome, outcome, zeros};
+use crate::layout::{Block, Layout, LayoutWords};
 use crate::page::block_word;
 use crate::random::Random;
 use crate::samples::pages::WrittenPage;
@@ -50,16 +49,17 @@ impl WrittenPage {
             _ => right.unwrap_or_default(),
         };
         let claim = claim.iter().map(|&exponent| exponent as u16).collect();
-        vec![
+        let mut calls = vec![
             self.judge(page.clone(), block),
             self.claim(page.clone(), block, claim),
-            self.read(page),
-        ]
+        ];
+        calls.extend(self.read(page));
+        calls
     }
 
     /// Makes a block all ones with none, one, t or any other number of zeros up to t. Where t = 2,
     /// two of three blocks have one to four zeros of a codeword that has four, if there is one.
-    fn erase(&self, page: &mut [u8], block: usize, random: &mut Random) {
+    pub(super) fn erase(&self, page: &mut [u8], block: usize, random: &mut Random) {
         let shape = self.layout.block(block);
         if shape.t() == 2 && !random.chance(3) {
             if let Some(mut four) = codeword_of_ones(shape, random) {
@@ -152,87 +152,5 @@ pub fn edge_layouts() -> [LayoutWords; 5] {
         words(10, (0, 0, 2), (1, 0, 14)),
         words(2, (1, 1, 17), (0, 1, 1)),
         words(5, (0x14, 0, 1), (0x14, 1, 3)),
-    ]
-}
-
-/// The edges of the rule; t is above 0 where it is not said to be 0.
-pub const EDGES: [&str; 13] = [
-    "erased with no zero",
-    "erased with t zeros",
-    "ruined with t + 1 zeros",
-    "erased with zeros in the parity alone",
-    "erased with zeros in the message alone",
-    "ruined with t + 1 zeros, some of them in the parity",
-    "repaired though it has 1 to t zeros",
-    "repaired with more than t zeros and at most 2t",
-    "t = 0 and at most 3 zeros",
-    "block 0 erased with metadata",
-    "erased from inside a byte on",
-    "page with blocks erased and blocks written",
-    "ruined block behind an erased one",
-];
-
-/// How often a call meets each edge: one that reads a page counts for each of its blocks, one that
-/// judges a block for that block; any other call and one that is refused otherwise meets none.
-pub fn edges(call: &Call) -> [usize; EDGES.len()] {
-    let mut met = [0; EDGES.len()];
-    let (record, page, judged) = match call {
-        Call::ReadPage { record, page, .. } => (record, page, None),
-        Call::JudgeBlock {
-            record,
-            page,
-            block,
-        } => (record, page, Some(*block)),
-        _ => return met,
-    };
-    let Ok(layout) = check_layout(record) else {
-        return met;
-    };
-    if page.len() != layout.page_length || judged.is_some_and(|b| b >= layout.blocks() as u64) {
-        return met;
-    }
-    let blocks = match judged {
-        Some(block) => block as usize..block as usize + 1,
-        None => 0..layout.blocks(),
-    };
-    let (mut any_erased, mut any_written, mut behind) = (false, false, false);
-    for number in blocks {
-        let word = block_word(&layout, page, number);
-        let found = outcome(layout.block(number).code(), &word);
-        for (count, edge) in met
-            .iter_mut()
-            .zip(block_edges(&layout, number, &word, &found))
-        {
-            *count += edge as usize;
-        }
-        any_written |= matches!(found, Outcome::Repaired { .. }) && layout.block(number).t() > 0;
-        behind |= any_erased && found == Outcome::Ruined;
-        any_erased |= matches!(found, Outcome::Erased { .. });
-    }
-    met[11] = (any_erased && any_written && !behind) as usize;
-    met[12] = behind as usize;
-    met
-}
-
-/// The edges that one block meets.
-fn block_edges(layout: &Layout, number: usize, word: &[bool], found: &Outcome) -> [bool; 11] {
-    let block = layout.block(number);
-    let (t, all) = (block.t(), zeros(word));
-    let in_message = zeros(&word[..block.message_bits]);
-    let erased = matches!(found, Outcome::Erased { .. });
-    let ruined = *found == Outcome::Ruined;
-    let repaired = matches!(found, Outcome::Repaired { .. }) && t > 0;
-    [
-        erased && all == 0,
-        erased && all == t,
-        ruined && all == t + 1,
-        erased && all > 0 && in_message == 0,
-        erased && all > 0 && in_message == all,
-        ruined && all == t + 1 && in_message < all,
-        repaired && (1..=t).contains(&all),
-        repaired && (t + 1..=2 * t).contains(&all),
-        t == 0 && all <= 3,
-        erased && number == 0 && layout.metadata_length > 0,
-        erased && layout.start(number) % 8 != 0,
     ]
 }

@@ -1,8 +1,10 @@
 //! Seeded samples of layouts and calls.
 
+pub mod edges;
 pub mod erased;
 pub mod fragments;
 pub mod layouts;
 pub mod pages;
 pub mod pieces;
 pub mod remainders;
+pub mod ruined;

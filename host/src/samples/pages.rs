@@ -45,14 +45,26 @@ impl WrittenPage {
         }
     }
 
-    pub fn read(&self, page: Vec<u8>) -> Call {
-        Call::ReadPage {
+    pub fn look(&self, page: Vec<u8>) -> Call {
+        Call::LookPage {
+            record: self.record.clone(),
+            page,
+            counts: vec![BEFORE; self.layout.blocks()],
+        }
+    }
+
+    pub fn take(&self, page: Vec<u8>) -> Call {
+        Call::TakePage {
             record: self.record.clone(),
             page,
             metadata: vec![BEFORE; self.metadata.len()],
             data: vec![BEFORE; self.data.len()],
-            counts: vec![BEFORE; self.layout.blocks()],
         }
+    }
+
+    /// Reading a page: looking, then taking the same page.
+    pub fn read(&self, page: Vec<u8>) -> [Call; 2] {
+        [self.look(page.clone()), self.take(page)]
     }
 
     pub fn judge(&self, page: Vec<u8>, block: usize) -> Call {
@@ -86,23 +98,22 @@ impl WrittenPage {
     }
 
     /// Every call about this page: written, read clean, damaged within t and past it, read from
-    /// random bytes and partly erased; blocks judged; claims right and wrong.
+    /// random bytes, partly erased and with some blocks ruined; blocks judged; claims right and wrong.
     pub fn calls(&self, random: &mut Random) -> Vec<Call> {
-        let mut calls = vec![
-            self.write(),
-            self.read(self.page.clone()),
-            self.read(self.damaged(random)),
-        ];
+        let mut calls = vec![self.write()];
+        calls.extend(self.read(self.page.clone()));
+        calls.extend(self.read(self.damaged(random)));
         let random_page = random.bytes(self.page.len());
         calls.push(self.judge(random_page.clone(), random.below(self.layout.blocks())));
-        calls.push(self.read(random_page));
+        calls.extend(self.read(random_page));
         for _ in 0..2 {
             let (page, block) = self.overdamaged(random);
             calls.push(self.judge(page.clone(), block));
-            calls.push(self.read(page));
+            calls.extend(self.read(page));
         }
         calls.extend(self.claims(random));
         calls.extend(self.erased_calls(random));
+        calls.extend(self.read(self.ruined(random)));
         calls
     }
 
@@ -200,23 +211,25 @@ pub fn spoil(call: &mut Call, random: &mut Random) {
             metadata,
             data,
             page,
+        }
+        | Call::TakePage {
+            record,
+            page,
+            metadata,
+            data,
         } => match random.below(4) {
             0 => spoil_record(record, random),
             1 => spoil_length(page, random),
             2 => spoil_length(metadata, random),
             _ => spoil_length(data, random),
         },
-        Call::ReadPage {
+        Call::LookPage {
             record,
             page,
-            metadata,
-            data,
             counts,
-        } => match random.below(5) {
+        } => match random.below(4) {
             0 => spoil_record(record, random),
             1 => spoil_length(page, random),
-            2 => spoil_length(metadata, random),
-            3 => spoil_length(data, random),
             _ => spoil_length(counts, random),
         },
         Call::JudgeBlock {

@@ -65,16 +65,22 @@ impl Library for Archive {
         }
     }
 
-    fn read_page(
-        &self,
-        record: &[u8],
-        page: &[u8],
-        metadata: &mut [u8],
-        data: &mut [u8],
-        counts: &mut [u8],
-    ) -> u64 {
+    fn look_page(&self, record: &[u8], page: &[u8], counts: &mut [u8]) -> u64 {
         unsafe {
-            interface::rudderfig_read_page(
+            interface::rudderfig_look_page(
+                self.of(record),
+                record.len(),
+                self.of(page),
+                page.len(),
+                self.of_mut(counts),
+                counts.len(),
+            )
+        }
+    }
+
+    fn take_page(&self, record: &[u8], page: &[u8], metadata: &mut [u8], data: &mut [u8]) -> u64 {
+        unsafe {
+            interface::rudderfig_take_page(
                 self.of(record),
                 record.len(),
                 self.of(page),
@@ -83,8 +89,6 @@ impl Library for Archive {
                 metadata.len(),
                 self.of_mut(data),
                 data.len(),
-                self.of_mut(counts),
-                counts.len(),
             )
         }
     }

@@ -2,7 +2,7 @@ use mathlib.Core.Path.{sym, ap, _∙_}
 use native.Mathlib.Omega.{arith}
 use borrow.Author.Needs.{needs}
 use borrow.Author.Tests.{not-true, not-false}
-use Rattle.fragments.specs.Fragments.{fragmentsOf}
+use Rattle.register_fragments.specs.Fragments.{fragmentsOf}
 use Rattle.fragments.specs.Calls.{exportOf}
 use Rattle.fragments.proofs.Replies.{offered-level, offered-bits, fitting-lengths, ends-level, ends-buffer, ends-high, ends-done, tested, measured, few-bytes}
 use Rattle.fragments.proofs.export_fragments.Statement.{statement}

@@ -1,8 +1,11 @@
 -- `layout::check_layout` meets its contract.
-use mathlib.Core.Path.{sym}
-use borrow.Author.Tests.{eq-eqb, ne-eqb}
+use mathlib.Core.Path.{ap, ap₂, _∙_}
+use borrow.Author.Tests.{ne-eqb}
 use borrow.Author.Needs.{needs}
-use Rattle.layout.specs.Acceptance.{acceptance, judged}
+use Rattle.layout.specs.Record.{layoutOf}
+use Rattle.layout.specs.Plan.{layoutFor, planOf}
+use Rattle.layout.specs.Acceptance.{findingOf, acceptance}
+use Rattle.layout.proofs.Findings.{kept-accepted, broken-refused}
 use Rattle.layout.proofs.check_layout.Statement.{statement}
 use Rattle.layout.proofs.check_layout.Tie as tie
 
@@ -10,8 +13,14 @@ returns : tie.Need-returns
 unfolding acceptance
 returns c = simp (ne-eqb _ _ (c .if1 .taken))
 
-layout-of-requires : tie.Need-layout-of-requires
-layout-of-requires c κs = search needs
+fields-in-requires : tie.Need-fields-in-requires
+fields-in-requires c κs = search needs
+
+layout-for-requires : tie.Need-layout-for-requires
+layout-for-requires c κs = search needs
+
+plan-of-requires : tie.Need-plan-of-requires
+plan-of-requires c κs = search needs
 
 finding-of-requires : tie.Need-finding-of-requires
 finding-of-requires c κs = search needs
@@ -23,25 +32,35 @@ enum-known-reason : tie.Need-enum-known-reason
 enum-known-reason c = search needs
 
 returns-2 : tie.Need-returns-2
-unfolding acceptance judged
+unfolding layoutOf
 returns-2 c =
     let found = c .before .before in
-    let parsed = found .before in
-    simp (eq-eqb _ _ (parsed .before .if1 .left), sym (parsed .layout-of .ensures), sym (found .finding-of .ensures), c .enum-told .given .1)
+    let planned = found .before in
+    let made = planned .before in
+    let parsed = made .before in
+    let layout = made .layout-for .ensures ∙ ap layoutFor (parsed .fields-in .ensures) in
+    let finding = found .finding-of .ensures ∙ ap₂ findingOf (parsed .fields-in .ensures) (planned .plan-of .ensures ∙ ap planOf layout) in
+    kept-accepted _ (parsed .before .if1 .left) finding layout (c .enum-told .given .1)
 
 returns-3 : tie.Need-returns-3
-unfolding acceptance judged
+unfolding layoutOf
 returns-3 c =
     let found = c .before .before .before in
-    let parsed = found .before in
-    simp (eq-eqb _ _ (parsed .before .if1 .left), sym (parsed .layout-of .ensures), sym (found .finding-of .ensures), c .before .reason .given .1)
+    let planned = found .before in
+    let made = planned .before in
+    let parsed = made .before in
+    let layout = made .layout-for .ensures ∙ ap layoutFor (parsed .fields-in .ensures) in
+    let finding = found .finding-of .ensures ∙ ap₂ findingOf (parsed .fields-in .ensures) (planned .plan-of .ensures ∙ ap planOf layout) in
+    broken-refused _ (parsed .before .if1 .left) finding (c .before .reason .given .1)
 
 pub check-layout-spec : {M : Type 1} → statement M
 check-layout-spec =
     tie.close
     (tie.spec
     returns
-    layout-of-requires
+    fields-in-requires
+    layout-for-requires
+    plan-of-requires
     finding-of-requires
     enum-told
     enum-known-reason

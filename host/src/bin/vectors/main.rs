@@ -10,13 +10,13 @@ mod locate;
 mod pages;
 mod roots;
 
-use model::samples::erased::EDGES;
+use model::samples::edges::EDGES;
 use model::{Refusal, Reply};
 use std::fmt::Display;
 use std::process::ExitCode;
 
 /// Vectors in the making: the input's bytes, the output's lines, how many vectors got which reply,
-/// and how often they met which edge of the erased block's rule.
+/// and how often they met which edge of the rules for erased and ruined blocks.
 #[derive(Default)]
 pub struct Vectors {
     input: Vec<u8>,

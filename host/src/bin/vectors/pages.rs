@@ -1,13 +1,14 @@
-//! Vectors of pages: kinds `W`, `R`, `J` and `C`.
+//! Vectors of pages: kinds `W`, `L`, `T`, `J` and `C`.
 
 use crate::{Answer, Vectors};
 use model::call::Call;
 use model::layout::{Layout, LayoutWords};
 use model::random::Random;
-use model::samples::erased::{edge_layouts, edges};
+use model::samples::edges::edges;
+use model::samples::erased::edge_layouts;
 use model::samples::layouts::accepted_words;
-use model::samples::pages::{BEFORE, WrittenPage, spoil};
-use model::{Refusal, check_claim, judge_block, read_page, write_page};
+use model::samples::pages::{WrittenPage, spoil};
+use model::{Refusal, check_claim, check_layout, judge_block, look_page, take_page, write_page};
 
 pub fn vectors() -> Vectors {
     let mut vectors = Vectors::default();
@@ -15,7 +16,7 @@ pub fn vectors() -> Vectors {
     for call in document_calls() {
         add(&mut vectors, &call);
     }
-    for i in 0..260 {
+    for i in 0..200 {
         let most = [20, 40, 70, 120, 250][i % 5];
         let words = chosen_words(&mut random, i % 8, most);
         add_page(&mut vectors, words, &mut random);
@@ -42,7 +43,8 @@ fn add_page(vectors: &mut Vectors, words: LayoutWords, random: &mut Random) {
     let (page, block) = written.overdamaged(random);
     let spoilt = [
         written.write(),
-        written.read(written.damaged(random)),
+        written.look(written.ruined(random)),
+        written.take(page.clone()),
         written.judge(page.clone(), block),
         written.claim(page, block, vec![0]),
     ];
@@ -54,7 +56,7 @@ fn add_page(vectors: &mut Vectors, words: LayoutWords, random: &mut Random) {
     }
 }
 
-/// A large page written, read with damage within t and past it, and read erased.
+/// A large page written, read with damage within t and past it, and read erased and ruined.
 fn add_large_page(vectors: &mut Vectors, words: LayoutWords, random: &mut Random) {
     let written = WrittenPage::new(words, random);
     add(vectors, &written.write());
@@ -63,14 +65,21 @@ fn add_large_page(vectors: &mut Vectors, words: LayoutWords, random: &mut Random
         vectors,
         &written.judge(page.clone(), written.layout.later_blocks),
     );
-    add(vectors, &written.read(page));
+    add_read(vectors, &written, page);
     if words.page_size < 5000 {
         let (page, block) = written.overdamaged(random);
         add(vectors, &written.judge(page.clone(), block));
-        add(vectors, &written.read(page));
+        add_read(vectors, &written, page);
         for call in written.erased_calls(random) {
             add(vectors, &call);
         }
+        add_read(vectors, &written, written.ruined(random));
+    }
+}
+
+fn add_read(vectors: &mut Vectors, written: &WrittenPage, page: Vec<u8>) {
+    for call in written.read(page) {
+        add(vectors, &call);
     }
 }
 
@@ -149,42 +158,22 @@ fn large_words(random: &mut Random) -> [LayoutWords; 5] {
 /// Cases E, F, G and L of document 01.
 fn document_calls() -> Vec<Call> {
     let record = 0x0100_0801_000F_0801_u64.to_be_bytes().to_vec();
-    let write = Call::WritePage {
-        record: record.clone(),
+    let written = WrittenPage {
+        layout: check_layout(&record).unwrap(),
+        record,
         metadata: vec![],
         data: vec![0; 8],
-        page: vec![BEFORE; 15],
+        page: [vec![0; 14], vec![0x0F]].concat(),
     };
-    let mut page = vec![0; 15];
+    let mut page = written.page.clone();
     page[0] = 0x80;
-    page[14] = 0x0F;
-    let read = Call::ReadPage {
-        record: record.clone(),
-        page: page.clone(),
-        metadata: vec![],
-        data: vec![BEFORE; 8],
-        counts: vec![BEFORE; 2],
-    };
-    let judge = |block| Call::JudgeBlock {
-        record: record.clone(),
-        page: page.clone(),
-        block,
-    };
-    let claim = |claims: &[u16]| Call::CheckClaim {
-        record: record.clone(),
-        page: page.clone(),
-        block: 0,
-        claims: claims.to_vec(),
-    };
-    vec![
-        write,
-        read,
-        judge(0),
-        judge(1),
-        claim(&[57, 57]),
-        claim(&[57]),
-        claim(&[]),
-    ]
+    let judge = |block| written.judge(page.clone(), block);
+    let claim = |claims: &[u16]| written.claim(page.clone(), 0, claims.to_vec());
+    let mut calls = vec![written.write()];
+    calls.extend(written.read(page.clone()));
+    calls.extend([judge(0), judge(1)]);
+    calls.extend([claim(&[57, 57]), claim(&[57]), claim(&[])]);
+    calls
 }
 
 fn add(vectors: &mut Vectors, call: &Call) {
@@ -203,26 +192,29 @@ fn add(vectors: &mut Vectors, call: &Call) {
             let reply = write_page(&record, &metadata, &data, &mut page);
             vectors.add(&input, answer(reply).with_bytes(&page));
         }
-        Call::ReadPage {
+        Call::LookPage {
+            record,
+            page,
+            mut counts,
+        } => {
+            let mut input = head(b'L', &record, page.len(), counts.len());
+            input.extend([0; 8]);
+            input.extend(&page);
+            let reply = look_page(&record, &page, &mut counts);
+            vectors.add(&input, answer(reply).with_bytes(&counts));
+        }
+        Call::TakePage {
             record,
             page,
             mut metadata,
             mut data,
-            mut counts,
         } => {
-            let mut input = head(b'R', &record, page.len(), metadata.len());
+            let mut input = head(b'T', &record, page.len(), metadata.len());
             input.extend((data.len() as u32).to_be_bytes());
-            input.extend((counts.len() as u32).to_be_bytes());
+            input.extend([0; 4]);
             input.extend(&page);
-            let reply = read_page(&record, &page, &mut metadata, &mut data, &mut counts);
-            let answer = answer(reply);
-            vectors.add(
-                &input,
-                answer
-                    .with_bytes(&metadata)
-                    .with_bytes(&data)
-                    .with_bytes(&counts),
-            );
+            let answer = answer(take_page(&record, &page, &mut metadata, &mut data));
+            vectors.add(&input, answer.with_bytes(&metadata).with_bytes(&data));
         }
         Call::JudgeBlock {
             record,

@@ -3,8 +3,9 @@ use mathlib.Core.Path.{sym, ap, _∙_}
 use Prim.Native.Nat.{_+_, _*_, _/_, _≤_}
 use native.Mathlib.Omega.{arith}
 use borrow.Author.Needs.{needs}
+use Rattle.remainder.specs.Remainder.{bytesFor}
 use Rattle.remainder.proofs.Fold.{parity-bits-below}
-use Rattle.bch.specs.Answers.{levelOf, bytesFor}
+use Rattle.bch.specs.Answers.{levelOf}
 use Rattle.bch.proofs.Replies.{in-level, in-zero, in-short, in-long, in-bytes, in-places, in-right}
 use Rattle.bch.proofs.request.locate_in.Statement.{statement}
 use Rattle.bch.proofs.request.locate_in.Tie as tie

@@ -1,18 +1,18 @@
-use Prim.Native.Nat.{_≤_, _<_, _+_, _-_, _*_}
+use Prim.Native.Nat.{_≤_, _<_, _+_, _-_, _*_, _^_}
 use mathlib.Core.Path.{_≡_, ap, _∙_}
 use native.Mathlib.Omega.{arith}
 use borrow.Author.Needs.{needs}
 use Rattle.bits.specs.Bits.{bitOf, run}
 use Rattle.bits.proofs.Pages.{bitAt-lt}
 use Rattle.bit_reader.proofs.Walking.{bitIn-read}
-use Rattle.code.specs.Register.{register}
+use Rattle.code.specs.Register.{low, register}
 use Rattle.remainder.specs.Parity.{parityFrom}
 use Rattle.division.proofs.Single.{taken-below, run-start, run-next}
 use Rattle.division.proofs.bitwise.bits_taken.Statement.{statement}
 use Rattle.division.proofs.bitwise.bits_taken.Tie as tie
 
 abbrev Inv-loop : tie.InvT-loop
-Inv-loop row used bytes at n r₀ i₀ r i = (i ≤ n) × (register (r .words) ≡ parityFrom (64 * used) (register row) (register (r₀ .words)) (run (bitOf bytes) at i))
+Inv-loop row used bytes at n r₀ i₀ r i = (i ≤ n) × (register (r .words) ≡ parityFrom (64 * used) (2 ^ (64 * used) + low row used) (register (r₀ .words)) (run (bitOf bytes) at i))
 
 abbrev μ-loop : tie.MeasureT-loop
 μ-loop row used bytes at n r₀ i₀ r i = n - i
@@ -37,7 +37,7 @@ bit-taken-requires c κs =
     let s = c .before .before .before .before .before in
     let l = c .before .before .before .loop in
     let e = bitIn-read (s .args .bytes .now) (s .args .at + l .i) (c .before .next-bit .ensures) (c .bit-or-zero .ensures) (omega arith) in
-    (s .pre .0, taken-below _ (s .args .row) (s .pre .0) _ _ (s .pre .1) (l .inv .1), rw e (bitAt-lt _ _))
+    (s .pre .0, taken-below _ (s .args .row) (s .pre .0) (λ k. search needs) _ _ (s .pre .1) (l .inv .1), rw e (bitAt-lt _ _))
 
 add-i : tie.Need-add-i Inv-loop μ-loop
 add-i c = search needs
@@ -58,7 +58,7 @@ returns c =
     let s = c .before .before .before .args in
     let l = c .before .loop in
     let e : l .i ≡ s .n = omega arith in
-    l .inv .1 ∙ ap (λ k. parityFrom (64 * s .used) (register (s .row)) (register (s .state .words)) (run (bitOf (s .bytes .now)) (s .at) k)) e
+    l .inv .1 ∙ ap (λ k. parityFrom (64 * s .used) (2 ^ (64 * s .used) + low (s .row) (s .used)) (register (s .state .words)) (run (bitOf (s .bytes .now)) (s .at) k)) e
 
 pub bits-taken-spec : {M : Type 1} → statement M
 bits-taken-spec =

@@ -1,5 +1,5 @@
 use mathlib.Core.Path.{_∙_}
-use borrow.Author.Needs.{needs}
+use Rattle.division_table.proofs.Filling.{wide-last}
 use Rattle.division.proofs.bitwise.bits_taken_fixed.Statement.{statement}
 use Rattle.division.proofs.bitwise.bits_taken_fixed.Tie as tie
 
@@ -22,10 +22,16 @@ returns-2 : tie.Need-returns-2
 returns-2 c = c .bits-taken2 .ensures ∙ rw (c .before .if2 .taken)
 
 bits-taken-requires-3 : tie.Need-bits-taken-requires-3
-bits-taken-requires-3 c κs = search needs
+bits-taken-requires-3 c κs =
+    let p = c .before .before .before .pre in
+    let e = wide-last (p .0) (c .before .if1 .left) (c .if2 .left) in
+    (rw e at (p .0), rw e at (p .1), p .2)
 
 returns-3 : tie.Need-returns-3
-returns-3 c = search needs
+returns-3 c =
+    let b = c .before in
+    let e = wide-last (b .before .before .before .pre .0) (b .before .if1 .left) (b .if2 .left) in
+    c .bits-taken3 .ensures ∙ rw e
 
 pub bits-taken-fixed-spec : {M : Type 1} → statement M
 bits-taken-fixed-spec =

@@ -1,5 +1,5 @@
 use mathlib.Core.Path.{_∙_}
-use borrow.Author.Needs.{needs}
+use Rattle.division_table.proofs.Filling.{wide-last}
 use Rattle.division.proofs.feed.feed_words_fixed.Statement.{statement}
 use Rattle.division.proofs.feed.feed_words_fixed.Tie as tie
 
@@ -22,10 +22,16 @@ returns-2 : tie.Need-returns-2
 returns-2 c = c .feed-words2 .ensures ∙ rw (c .before .if2 .taken)
 
 feed-words-requires-3 : tie.Need-feed-words-requires-3
-feed-words-requires-3 c κs = search needs
+feed-words-requires-3 c κs =
+    let p = c .before .before .before .before .pre in
+    let e = wide-last (p .0 .wide) (c .before .if1 .left) (c .if2 .left) in
+    (rw e at (p .0), rw e at (p .1), p .2)
 
 returns-3 : tie.Need-returns-3
-returns-3 c = search needs
+returns-3 c =
+    let b = c .before in
+    let e = wide-last (b .before .before .before .before .pre .0 .wide) (b .before .if1 .left) (b .if2 .left) in
+    c .feed-words3 .ensures ∙ rw e
 
 pub feed-words-fixed-spec : {M : Type 1} → statement M
 feed-words-fixed-spec =

@@ -1,15 +1,16 @@
 use native.Mathlib.Omega.{arith}
 use borrow.Author.Needs.{needs}
 use lib.Pow.{pow-pos}
+use Rattle.division_table.proofs.Filling.{wide-some, wide-most}
 use Rattle.division.proofs.Steps.{step-room, step-pushed, table-step}
 use Rattle.division.proofs.feed.step_bits.Statement.{statement}
 use Rattle.division.proofs.feed.step_bits.Tie as tie
 
 top-requires : tie.Need-top-requires
-top-requires c κs = search needs
+top-requires c κs = let a = c .before in (wide-some (a .pre .0 .wide), wide-most (a .pre .0 .wide), a .pre .2, omega arith, a .pre .1)
 
 pushed-requires : tie.Need-pushed-requires
-pushed-requires c κs = let a = c .before .before in (a .pre .0 .room, a .pre .2, omega arith, pow-pos _, a .pre .1)
+pushed-requires c κs = let a = c .before .before in (wide-most (a .pre .0 .wide), a .pre .2, omega arith, pow-pos _, a .pre .1)
 
 rows-added-requires : tie.Need-rows-added-requires
 rows-added-requires c κs =

@@ -1,8 +1,7 @@
 use native.Mathlib.Omega.{arith}
 use borrow.Author.Needs.{needs}
 use Rattle.division_table.proofs.Level.{level-words, level-room}
-use Rattle.division.proofs.Steps.{rests-below}
-use Rattle.division.proofs.Level.{up-below, up-fits, up-lowers, up-divided, table-rests, table-divides}
+use Rattle.division.proofs.Level.{up-below, up-fits, up-divided, table-rests, table-divides}
 use Rattle.division.proofs.runs.parity_more.Statement.{statement}
 use Rattle.division.proofs.runs.parity_more.Tie as tie
 
@@ -15,18 +14,16 @@ row-words-requires c κs = search needs
 mul-gap : tie.Need-mul-gap
 mul-gap c =
     let a = c .before .before .before .before in
-    let l = level-words (a .args .f) (a .args .t) (a .pre .0 .room) (c .before .parity-bits .ensures) (c .row-words .ensures) in
+    let l = level-words (a .args .f) (a .args .t) (a .pre .0 .level) (c .before .parity-bits .ensures) (c .row-words .ensures) in
     record { fits = omega arith }
 
 sub-gap : tie.Need-sub-gap
 sub-gap c =
     let a = c .before .before .before .before in
-    level-room (a .args .f) (a .args .t) (a .pre .0 .room) (c .before .parity-bits .ensures) (c .row-words .ensures)
+    level-room (a .args .f) (a .args .t) (a .pre .0 .level) (c .before .parity-bits .ensures) (c .row-words .ensures)
 
 raised-requires : tie.Need-raised-requires
-raised-requires c κs =
-    let a = c .before .before .before .before in
-    up-fits (a .args .f) (a .args .t) (a .pre .1) (a .pre .0 .room) (c .before .parity-bits .ensures) (c .row-words .ensures) _ (a .pre .2)
+raised-requires c κs = search needs
 
 feed-run-requires : tie.Need-feed-run-requires
 feed-run-requires c κs =
@@ -34,19 +31,14 @@ feed-run-requires c κs =
     let a = b .before .before .before .before in
     let ed = b .before .parity-bits .ensures in
     let eu = b .row-words .ensures in
-    (table-rests (a .args .f) (a .args .t) (a .pre .0) (a .pre .1) ed eu, up-below (a .args .f) (a .args .t) (a .pre .1) (a .pre .0 .room) ed eu _ (a .pre .2) (c .raised .ensures), a .pre .3)
+    (table-rests (a .args .f) (a .args .t) (a .pre .0) (a .pre .1) ed eu, up-below (a .args .f) (a .args .t) (a .pre .1) (a .pre .0 .level) ed eu _ (a .pre .2) (c .raised .ensures), a .pre .3)
 
 lowered-requires : tie.Need-lowered-requires
 lowered-requires c κs =
     let b = c .before .before in
     let a = b .before .before .before .before in
-    let f = a .args .f in
-    let t = a .args .t in
-    let ed = b .before .parity-bits .ensures in
-    let eu = b .row-words .ensures in
-    let l = level-words f t (a .pre .0 .room) ed eu in
-    let n = up-below f t (a .pre .1) (a .pre .0 .room) ed eu _ (a .pre .2) (c .before .raised .ensures) in
-    (omega arith, up-lowers f t (a .pre .1) (a .pre .0 .room) ed eu _ (a .pre .2) (rw (c .feed-run .ensures) (rests-below _ _ (table-rests f t (a .pre .0) (a .pre .1) ed eu) _ _ n)))
+    let l = level-words (a .args .f) (a .args .t) (a .pre .0 .level) (b .before .parity-bits .ensures) (b .row-words .ensures) in
+    omega arith
 
 returns : tie.Need-returns
 returns c =
@@ -56,7 +48,7 @@ returns c =
     let t = a .args .t in
     let ed = b .before .parity-bits .ensures in
     let eu = b .row-words .ensures in
-    up-divided f t (a .pre .1) (a .pre .0 .room) ed eu _ (a .pre .2) _ (table-divides f t (a .pre .0) (a .pre .1) ed eu) (c .before .before .raised .ensures) (c .before .feed-run .ensures)
+    up-divided f t (a .pre .1) (a .pre .0 .level) ed eu _ (a .pre .2) _ (table-divides f t (a .pre .0) (a .pre .1) ed eu) (up-fits f t (a .pre .1) (a .pre .0 .level) ed eu _ (a .pre .2) (c .before .before .raised .ensures)) (c .before .feed-run .ensures)
     (c .lowered .ensures)
 
 pub parity-more-spec : {M : Type 1} → statement M

@@ -1,5 +1,6 @@
 use native.Mathlib.Omega.{arith}
 use borrow.Author.Needs.{needs}
+use Rattle.division_table.proofs.Level.{level-degree}
 use Rattle.division.proofs.Level.{remainder-number, remainder-parts}
 use Rattle.division.proofs.runs.remainder_of.Statement.{statement}
 use Rattle.division.proofs.runs.remainder_of.Tie as tie
@@ -8,7 +9,12 @@ parity-bits-requires : tie.Need-parity-bits-requires
 parity-bits-requires c κs = search needs
 
 number-at-requires : tie.Need-number-at-requires
-number-at-requires c κs = search needs
+number-at-requires c κs =
+    let b = c .before in
+    let a = b .before .before .before in
+    let e = b .parity-bits .ensures in
+    let m = level-degree (a .args .f) (a .args .t) (a .pre .0 .level) in
+    (omega arith, a .pre .1)
 
 returns : tie.Need-returns
 returns c =
@@ -24,7 +30,12 @@ add-number-at : tie.Need-add-number-at
 add-number-at c = search needs
 
 number-at-requires-2 : tie.Need-number-at-requires-2
-number-at-requires-2 c κs = search needs
+number-at-requires-2 c κs =
+    let b = c .before .before in
+    let a = b .before .before .before in
+    let e = b .parity-bits .ensures in
+    let m = level-degree (a .args .f) (a .args .t) (a .pre .0 .level) in
+    (omega arith, omega arith)
 
 added-requires : tie.Need-added-requires
 added-requires c κs = search needs

@@ -4,109 +4,79 @@ use native.Mathlib.Omega.{arith}
 use native.Mathlib.Nat.{add-zero}
 use borrow.Author.Needs.{needs}
 use lib.ListN.{length}
-use lib.Pow.{pow-pos}
 use Rattle.code.specs.Register.{low}
 use Rattle.remainder.specs.Parity.{rest}
-use Rattle.division_table.specs.Table.{powerRow, Filled}
-use Rattle.division_table.proofs.Filling.{row-inside, row-product, rows-apart, power-size, power-most, power-count, power-holds, power-place, sum-filled}
+use Rattle.division_table.specs.Table.{digitBits, rowsOf, powerRow, Filled}
+use Rattle.division_table.proofs.Filling.{wide-most, bits-some, bits-most, power-within, row-inside, row-product, rows-apart, power-rows, power-place, sum-filled}
 use Rattle.division_table.proofs.fill.add_rows.Statement.{statement}
 use Rattle.division_table.proofs.fill.add_rows.Tie as tie
 
 abbrev Inv-loop : tie.InvT-loop
-Inv-loop table₀ row used i high size v₀ table v = (v ≤ size) × (length table ≡ length table₀)
+Inv-loop table₀ row used i bits high size v₀ table v = (v ≤ size) × (length table ≡ length table₀) × (size ≤ high) × (high + size ≤ rowsOf used) × (rowsOf used ≤ 400)
     × ((g : ℕ) → Filled used g high table₀ → low row used ≡ rest (64 * used) g (2 ^ i) → Filled used g (high + v) table)
 
 abbrev μ-loop : tie.MeasureT-loop
-μ-loop table₀ row used i high size v₀ table v = size - v
+μ-loop table₀ row used i bits high size v₀ table v = size - v
+
+digit-bits-requires : tie.Need-digit-bits-requires Inv-loop μ-loop
+digit-bits-requires c κs = search needs
 
 power-row-requires : tie.Need-power-row-requires Inv-loop μ-loop
-power-row-requires c κs = search needs
+power-row-requires c κs =
+    let a = c .before .before in
+    let e = c .digit-bits .ensures in
+    (rw e (bits-some (a .args .used)), rw e (bits-most (a .args .used)), a .pre .2)
 
-shl-size : tie.Need-shl-size Inv-loop μ-loop
-shl-size c = search needs
+rem-power : tie.Need-rem-power Inv-loop μ-loop
+rem-power c =
+    let d = c .before in
+    let s = bits-some (d .before .before .args .used) in
+    let e = d .digit-bits .ensures in
+    omega arith
+
+power-requires : tie.Need-power-requires Inv-loop μ-loop
+power-requires c κs =
+    let d = c .before in
+    let a = d .before .before .args in
+    rw (d .digit-bits .ensures) (power-within (a .used) (a .i))
 
 loop-holds : tie.Need-loop-holds Inv-loop μ-loop
 loop-holds c =
-    let i = c .before .before .args .i in
-    let n = power-count i in
-    let p = pow-pos (i % 5) in
-    (omega arith, refl, λ g f w. rw (add-zero _) f)
+    let p = c .before in
+    let d = p .before in
+    let a = d .before .before in
+    let r = power-rows (a .pre .0) (a .args .i) (a .pre .2) (d .digit-bits .ensures) (p .power-row .ensures) (c .power .ensures) in
+    (omega arith, refl, r .1, r .2, r .3, λ g f w. rw (add-zero _) f)
 
 sub-add-words : tie.Need-sub-add-words Inv-loop μ-loop
-sub-add-words c =
-    let r = c .before .before .before in
-    let a = r .before .before in
-    let i = a .args .i in
-    let e = r .power-row .ensures in
-    let n = power-count i in
-    let l = power-holds i e in
-    let m = power-most i (a .pre .2) in
-    omega arith
+sub-add-words c = omega arith
 
 add-add-words : tie.Need-add-add-words Inv-loop μ-loop
-add-add-words c =
-    let r = c .before .before .before in
-    let a = r .before .before in
-    let i = a .args .i in
-    let e = r .power-row .ensures in
-    let n = power-count i in
-    let l = power-holds i e in
-    let m = power-most i (a .pre .2) in
-    record { fits = omega arith }
+add-add-words c = record { fits = omega arith }
 
 mul-add-words : tie.Need-mul-add-words Inv-loop μ-loop
 mul-add-words c =
-    let r = c .before .before .before in
-    let a = r .before .before in
-    let i = a .args .i in
-    let e = r .power-row .ensures in
-    let n = power-count i in
-    let l = power-holds i e in
-    let m = power-most i (a .pre .2) in
-    record { fits = row-product _ (a .args .used) (omega arith) (a .pre .0) }
+    let a = c .before .before .before .before .before .before .before in
+    record { fits = row-product _ (a .pre .0) (omega arith) }
 
 add-add-words-2 : tie.Need-add-add-words-2 Inv-loop μ-loop
-add-add-words-2 c =
-    let r = c .before .before .before in
-    let a = r .before .before in
-    let i = a .args .i in
-    let e = r .power-row .ensures in
-    let n = power-count i in
-    let l = power-holds i e in
-    let m = power-most i (a .pre .2) in
-    record { fits = omega arith }
+add-add-words-2 c = record { fits = omega arith }
 
 mul-add-words-2 : tie.Need-mul-add-words-2 Inv-loop μ-loop
 mul-add-words-2 c =
-    let r = c .before .before .before in
-    let a = r .before .before in
-    let i = a .args .i in
-    let e = r .power-row .ensures in
-    let n = power-count i in
-    let l = power-holds i e in
-    let m = power-most i (a .pre .2) in
-    record { fits = row-product _ (a .args .used) (omega arith) (a .pre .0) }
+    let a = c .before .before .before .before .before .before .before in
+    record { fits = row-product _ (a .pre .0) (omega arith) }
 
 add-words-requires : tie.Need-add-words-requires Inv-loop μ-loop
 add-words-requires c κs =
-    let r = c .before .before .before in
-    let a = r .before .before in
-    let i = a .args .i in
-    let e = r .power-row .ensures in
-    let n = power-count i in
-    let l = power-holds i e in
-    let m = power-most i (a .pre .2) in
-    let u = a .args .used in
     let s = c .before .before .loop in
-    let z : 400 * u ≤ length (s .table) = rw (s .inv .1) (a .pre .1) in
-    (a .pre .0, row-inside _ u (omega arith) z, row-inside _ u (omega arith) z, rows-apart _ _ u (λ y. omega arith))
+    let a = c .before .before .before .before .before .before .before in
+    let u = a .args .used in
+    let z : rowsOf u * u ≤ length (s .table) = rw (s .inv .1) (a .pre .1) in
+    (wide-most (a .pre .0), row-inside _ u _ (omega arith) z, row-inside _ u _ (omega arith) z, rows-apart _ _ u (λ y. omega arith))
 
 add-v : tie.Need-add-v Inv-loop μ-loop
-add-v c =
-    let a = c .before .before .before .before .before .before .before .before in
-    let n = power-size (a .args .i) in
-    let m = power-count (a .args .i) in
-    record { fits = omega arith }
+add-v c = record { fits = omega arith }
 
 loop-less : tie.Need-loop-less Inv-loop μ-loop
 loop-less c = search needs
@@ -114,20 +84,27 @@ loop-less c = search needs
 loop-again : tie.Need-loop-again Inv-loop μ-loop
 loop-again c =
     let q = c .before .before .add-words in
-    let b = c .before .before .before .before .before in
+    let t = c .before .before .before .before in
+    let b = t .before in
     let s = b .loop in
-    let r = b .before in
-    let a = r .before .before in
+    let w = b .before in
+    let p = w .before in
+    let d = p .before in
+    let a = d .before .before in
     let i = a .args .i in
     let u = a .args .used in
-    let e = r .power-row .ensures in
-    let n = power-count i in
-    let h : s .v < 2 ^ (i % 5) = omega arith in
-    let k = q .kept .0 in (
+    let eb = d .digit-bits .ensures in
+    let eh = p .power-row .ensures ∙ ap (λ x. powerRow x i) eb in
+    let es = w .power .ensures ∙ ap (λ x. 2 ^ (i % x)) eb in
+    let k = q .kept .0 in
+    let h : s .v < w .power .result = (let l = t .loop-test in omega arith) in (
       omega arith,
       k ∙ s .inv .1,
-      λ g f w. sum-filled u g i (s .v) (s .inv .2 g f w) h (ap (λ x. x + s .v) e) (ap₂ (λ (x y : ℕ). x - y + s .v) e n) k (w ∙ ap (rest (64 * u) g) (sym (power-place i))) (q .ensures .0)
-          (q .ensures .1) (omega arith),
+      s .inv .2,
+      s .inv .3,
+      s .inv .4,
+      λ g f o. sum-filled u g i (s .v) (s .inv .5 g f o) (rw es at h) (ap (λ x. x + s .v) eh) (ap₂ (λ (x y : ℕ). x - y + s .v) eh es) k
+          (o ∙ ap (rest (64 * u) g) (sym (power-place (digitBits u) (bits-some u) i))) (q .ensures .0) (q .ensures .1) (omega arith),
     )
 
 same-length : tie.Need-same-length Inv-loop μ-loop
@@ -136,12 +113,15 @@ same-length c = search needs
 returns : tie.Need-returns Inv-loop μ-loop
 returns c =
     let s = c .before .loop in
-    let r = c .before .before in
-    let i = r .before .before .args .i in
-    let e = r .power-row .ensures in
-    let n = power-count i in
-    let k : r .power-row .result + s .v ≡ powerRow i + 2 ^ (i % 5) = omega arith in
-    λ g f w. rw k at (s .inv .2 g (rw e f) w)
+    let w = c .before .before in
+    let p = w .before in
+    let d = p .before in
+    let i = d .before .before .args .i in
+    let eb = d .digit-bits .ensures in
+    let eh = p .power-row .ensures ∙ ap (λ x. powerRow x i) eb in
+    let es = w .power .ensures ∙ ap (λ x. 2 ^ (i % x)) eb in
+    let e : s .v ≡ w .power .result = omega arith in
+    λ g f o. rw (← eh, ← es, ← e) (s .inv .5 g (rw eh f) o)
 
 pub add-rows-spec : {M : Type 1} → statement M
 add-rows-spec =
@@ -149,8 +129,10 @@ add-rows-spec =
     (tie.spec
     Inv-loop
     μ-loop
+    digit-bits-requires
     power-row-requires
-    shl-size
+    rem-power
+    power-requires
     loop-holds
     sub-add-words
     add-add-words

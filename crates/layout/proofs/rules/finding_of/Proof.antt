@@ -1,93 +1,88 @@
 -- `layout::rules::finding_of` meets its contract.
-use mathlib.Core.Path.{_∙_}
 use borrow.Author.Needs.{needs}
 use Rattle.layout.specs.Acceptance.{findingOf}
+use Rattle.layout.proofs.Findings.{broken-found, kept-found}
 use Rattle.layout.proofs.rules.finding_of.Statement.{statement}
 use Rattle.layout.proofs.rules.finding_of.Tie as tie
 
-plan-of-requires : tie.Need-plan-of-requires
-plan-of-requires c κs = search needs
+levels-requires : tie.Need-levels-requires
+levels-requires c κs = search needs
 
-level-rule-requires : tie.Need-level-rule-requires
-level-rule-requires c κs = search needs
+enum-known-level : tie.Need-enum-known-level
+enum-known-level c = search needs
 
-level-rule-requires-2 : tie.Need-level-rule-requires-2
-level-rule-requires-2 c κs = search needs
+returns : tie.Need-returns
+unfolding findingOf
+returns c = broken-found _ (c .before .before .before .levels .ensures) (c .before .level .given .1)
 
-of-blocks-requires : tie.Need-of-blocks-requires
-of-blocks-requires c κs = search needs
+enum-told : tie.Need-enum-told
+enum-told c = search needs
 
-message-rule-requires : tie.Need-message-rule-requires
-message-rule-requires c κs = search needs
+messages-requires : tie.Need-messages-requires
+messages-requires c κs = search needs
 
-message-rule-requires-2 : tie.Need-message-rule-requires-2
-message-rule-requires-2 c κs = search needs
+enum-known-message : tie.Need-enum-known-message
+enum-known-message c = search needs
 
-of-blocks-requires-2 : tie.Need-of-blocks-requires-2
-of-blocks-requires-2 c κs = search needs
+returns-2 : tie.Need-returns-2
+unfolding findingOf
+returns-2 c =
+    let messages = c .before .before .before in
+    let told = messages .before in
+    kept-found (told .before .before .levels .ensures) (told .enum-told .given .1) (broken-found _ (messages .messages .ensures) (c .before .message .given .1))
 
-length-rule-requires : tie.Need-length-rule-requires
-length-rule-requires c κs = search needs
+enum-told-2 : tie.Need-enum-told-2
+enum-told-2 c = search needs
 
-length-rule-requires-2 : tie.Need-length-rule-requires-2
-length-rule-requires-2 c κs = search needs
+lengths-requires : tie.Need-lengths-requires
+lengths-requires c κs = search needs
 
-of-blocks-requires-3 : tie.Need-of-blocks-requires-3
-of-blocks-requires-3 c κs = search needs
+enum-known-length : tie.Need-enum-known-length
+enum-known-length c = search needs
+
+returns-3 : tie.Need-returns-3
+unfolding findingOf
+returns-3 c =
+    let lengths = c .before .before .before in
+    let told2 = lengths .before in
+    let messages = told2 .before .before in
+    let told = messages .before in
+    kept-found (told .before .before .levels .ensures) (told .enum-told .given .1)
+    (kept-found (messages .messages .ensures) (told2 .enum-told2 .given .1) (broken-found _ (lengths .lengths .ensures) (c .before .length .given .1)))
+
+enum-told-3 : tie.Need-enum-told-3
+enum-told-3 c = search needs
 
 room-rule-requires : tie.Need-room-rule-requires
 room-rule-requires c κs = search needs
 
-either-requires : tie.Need-either-requires
-either-requires c κs = search needs
-
-either-requires-2 : tie.Need-either-requires-2
-either-requires-2 c κs = search needs
-
-either-requires-3 : tie.Need-either-requires-3
-either-requires-3 c κs = search needs
-
-returns : tie.Need-returns
+returns-4 : tie.Need-returns-4
 unfolding findingOf
-returns c =
-    let room = c .before .before .before in
-    let lengths = room .before in
-    let messages = lengths .before .before .before in
-    let levels = messages .before .before .before in
-    let planned = levels .before .before .before .before .before in
-    c .either3 .ensures
-    ∙ simp (
-      c .before .either2 .ensures,
-      c .before .before .either .ensures,
-      room .room-rule .ensures,
-      lengths .of-blocks3 .ensures,
-      lengths .before .length-rule2 .ensures,
-      lengths .before .before .length-rule .ensures,
-      messages .of-blocks2 .ensures,
-      messages .before .message-rule2 .ensures,
-      messages .before .before .message-rule .ensures,
-      levels .of-blocks .ensures,
-      levels .before .level-rule2 .ensures,
-      levels .before .before .level-rule .ensures,
-      planned .plan-of .ensures,
-    )
+returns-4 c =
+    let told3 = c .before in
+    let lengths = told3 .before .before in
+    let told2 = lengths .before in
+    let messages = told2 .before .before in
+    let told = messages .before in
+    kept-found (told .before .before .levels .ensures) (told .enum-told .given .1)
+    (kept-found (messages .messages .ensures) (told2 .enum-told2 .given .1)
+    (kept-found (lengths .lengths .ensures) (told3 .enum-told3 .given .1) (c .room-rule .ensures)))
 
 pub finding-of-spec : {M : Type 1} → statement M
 finding-of-spec =
     tie.close
     (tie.spec
-    plan-of-requires
-    level-rule-requires
-    level-rule-requires-2
-    of-blocks-requires
-    message-rule-requires
-    message-rule-requires-2
-    of-blocks-requires-2
-    length-rule-requires
-    length-rule-requires-2
-    of-blocks-requires-3
+    levels-requires
+    enum-known-level
+    returns
+    enum-told
+    messages-requires
+    enum-known-message
+    returns-2
+    enum-told-2
+    lengths-requires
+    enum-known-length
+    returns-3
+    enum-told-3
     room-rule-requires
-    either-requires
-    either-requires-2
-    either-requires-3
-    returns)
+    returns-4)

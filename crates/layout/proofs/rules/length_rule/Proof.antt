@@ -10,8 +10,8 @@ returns : tie.Need-returns
 unfolding lengthRule test
 returns c = simp (eq-eqb _ _ (c .if1 .taken))
 
-covered-requires : tie.Need-covered-requires
-covered-requires c κs = search needs
+cast-found : tie.Need-cast-found
+cast-found c = search needs
 
 longest-requires : tie.Need-longest-requires
 longest-requires c κs = search needs
@@ -24,9 +24,8 @@ test-requires c κs = search needs
 
 returns-2 : tie.Need-returns-2
 unfolding lengthRule
-returns-2 c = c .test .ensures ∙ simp (c .before .before .covered .ensures .0, c .before .longest .ensures, ne-eqb _ _ (c .before .before .before .if1 .left))
+returns-2 c = c .test .ensures ∙ simp (c .before .longest .ensures, ne-eqb _ _ (c .before .before .before .if1 .left))
 
 pub length-rule-spec : {M : Type 1} → statement M
 length-rule-spec =
-    tie.close
-    (tie.spec returns covered-requires longest-requires cast-limit test-requires returns-2)
+    tie.close (tie.spec returns cast-found longest-requires cast-limit test-requires returns-2)

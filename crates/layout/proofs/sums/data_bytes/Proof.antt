@@ -18,17 +18,17 @@ cast-result c = search needs
 
 mul-result : tie.Need-mul-result
 mul-result c =
-    let l = c .before .before .before .args .layout in
+    let l = c .before .before .before .args .fields in
     omega (arith, product-le 255 65535 {a = l .nblocks} {b = l .later .units} (omega arith) (omega arith))
 
 add-result : tie.Need-add-result
 add-result c =
-    let l = c .before .before .before .args .layout in
+    let l = c .before .before .before .args .fields in
     omega (arith, product-le 255 65535 {a = l .nblocks} {b = l .later .units} (omega arith) (omega arith))
 
 mul-result-2 : tie.Need-mul-result-2
 mul-result-2 c =
-    let l = c .before .before .before .args .layout in
+    let l = c .before .before .before .args .fields in
     omega (arith, product-le 255 65535 {a = l .nblocks} {b = l .later .units} (omega arith) (omega arith))
 
 returns : tie.Need-returns

@@ -5,10 +5,10 @@ use Rattle.layout_commands.proofs.layouts.blocks.Statement.{statement}
 use Rattle.layout_commands.proofs.layouts.blocks.Tie as tie
 
 abbrev Inv-loop : tie.InvT-loop
-Inv-loop plan n b₀ b = b ≤ n
+Inv-loop out₀ plan n b₀ out b = b ≤ n
 
 abbrev μ-loop : tie.MeasureT-loop
-μ-loop plan n b₀ b = n - b
+μ-loop out₀ plan n b₀ out b = n - b
 
 loop-holds : tie.Need-loop-holds Inv-loop μ-loop
 loop-holds c = search needs

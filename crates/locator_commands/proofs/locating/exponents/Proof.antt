@@ -6,10 +6,10 @@ use Rattle.locator_commands.proofs.locating.exponents.Statement.{statem
 use Rattle.locator_commands.proofs.locating.exponents.Tie as tie
 
 abbrev Inv-loop : tie.InvT-loop
-Inv-loop list i₀ i = i ≤ length list
+Inv-loop out₀ list i₀ out i = i ≤ length list
 
 abbrev μ-loop : tie.MeasureT-loop
-μ-loop list i₀ i = length list - i
+μ-loop out₀ list i₀ out i = length list - i
 
 loop-holds : tie.Need-loop-holds Inv-loop μ-loop
 loop-holds c = search needs

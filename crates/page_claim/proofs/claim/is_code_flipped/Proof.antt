@@ -1,6 +1,6 @@
 -- `page_claim::claim::is_code_flipped` meets its contract.
 use Prim.Native.Nat.{_≤_}
-use mathlib.Core.Path.{_≡_, _∙_, ap}
+use mathlib.Core.Path.{_≡_, refl, _∙_, ap}
 use native.Mathlib.Omega.{arith}
 use Rattle.code.specs.Generator.{remainder}
 use Rattle.page_claim.proofs.Claims.{zero-decides, copied-flipped}
@@ -11,8 +11,8 @@ use Rattle.page_claim.proofs.claim.is_code_flipped.Tie as tie
 cast-level : tie.Need-cast-level
 cast-level c = search needs
 
-covered-requires : tie.Need-covered-requires
-covered-requires c κs = search needs
+cast-n : tie.Need-cast-n
+cast-n c = search needs
 
 copy-bits-requires : tie.Need-copy-bits-requires
 copy-bits-requires c κs = search needs
@@ -20,8 +20,7 @@ copy-bits-requires c κs = search needs
 flip-claims-requires : tie.Need-flip-claims-requires
 flip-claims-requires c κs =
     let a = c .before .before .before .before .before .before .before .before .before .before in
-    let e = c .before .before .before .before .before .covered .ensures .0 in
-    (rw e (a .pre .2), omega arith)
+    (a .pre .2, omega arith)
 
 slice-aggregate-make-table : tie.Need-slice-aggregate-make-table
 slice-aggregate-make-table c = search needs
@@ -47,8 +46,7 @@ returns c =
     let copy = flip .before .before .before .before in
     let a = copy .before .before .before .before .before .before .before in
     let s = a .args .shape in
-    let e = copy .before .before .covered .ensures .0 in
-    let w = copied-flipped (a .args .word .now) (a .args .page .now) (a .args .claims .now) _ (a .args .position) _ _ e (omega arith)
+    let w = copied-flipped (a .args .word .now) (a .args .page .now) (a .args .claims .now) _ (a .args .position) _ _ refl (omega arith)
     (copy .copy-bits .ensures) (flip .flip-claims .ensures) in
     zero-decides (s .field) (s .level) _ (omega arith) (c .is-zero .ensures)
     (c .before .remainder-of .ensures ∙ ap (remainder (s .field) (s .level)) w)
@@ -58,7 +56,7 @@ is-code-flipped-spec =
     tie.close
     (tie.spec
     cast-level
-    covered-requires
+    cast-n
     copy-bits-requires
     flip-claims-requires
     slice-aggregate-make-table

@@ -6,7 +6,6 @@ use borrow.Author.Tests.{not-true, not-false}
 use Rattle.bits.specs.Bits.{bitOf}
 use Rattle.bits.proofs.Decides.{decides-false}
 use Rattle.bits.proofs.Runs.{run-length}
-use Rattle.layout.specs.Plan.{coveredOf}
 use borrow.Author.Needs.{needs}
 use Rattle.page_claim.proofs.claim.is_right.Statement.{statement}
 use Rattle.page_claim.proofs.claim.is_right.Tie as tie
@@ -17,8 +16,8 @@ cast-level c = search needs
 returns : tie.Need-returns
 returns c = decides-false (λ r. let l = r .few in omega arith)
 
-covered-requires : tie.Need-covered-requires
-covered-requires c κs = search needs
+cast-n : tie.Need-cast-n
+cast-n c = search needs
 
 within-requires : tie.Need-within-requires
 within-requires c κs = search needs
@@ -26,8 +25,7 @@ within-requires c κs = search needs
 returns-2 : tie.Need-returns-2
 returns-2 c =
     let a = c .before .before .before .before .before .before .before .args in
-    let e = c .before .before .covered .ensures .0 in
-    let n = run-length (bitOf (a .page .now)) (a .position) (coveredOf (a .shape)) in
+    let n = run-length (bitOf (a .page .now)) (a .position) (a .shape .covered) in
     decides-false (λ r. c .before .within .ensures .fails (not-true _ (c .if2 .taken)) (λ i l. let k = r .below i l in omega arith))
 
 distinct-requires : tie.Need-distinct-requires
@@ -40,15 +38,14 @@ leads-to-code-requires : tie.Need-leads-to-code-requires
 leads-to-code-requires c κs =
     let a = c .before .before .before .before .before .before .before .before .before in
     let inside = c .before .before .before in
-    (a .pre .0, a .pre .1, a .pre .2, rw (inside .before .covered .ensures .0) at (inside .within .ensures .holds (not-false _ (c .before .before .if2 .left))))
+    (a .pre .0, a .pre .1, a .pre .2, inside .within .ensures .holds (not-false _ (c .before .before .if2 .left)))
 
 returns-4 : tie.Need-returns-4
 returns-4 c =
     let apart = c .before .before in
     let inside = apart .before .before in
     let a = inside .before .before .before .before .before .before in
-    let e = inside .before .covered .ensures .0 in
-    let n = run-length (bitOf (a .args .page .now)) (a .args .position) (coveredOf (a .args .shape)) in
+    let n = run-length (bitOf (a .args .page .now)) (a .args .position) (a .args .shape .covered) in
     record {
       holds = λ y. record {
         distinct = apart .distinct .ensures .holds (not-false _ (c .before .if3 .left));
@@ -65,7 +62,7 @@ is-right-spec =
     (tie.spec
     cast-level
     returns
-    covered-requires
+    cast-n
     within-requires
     returns-2
     distinct-requires

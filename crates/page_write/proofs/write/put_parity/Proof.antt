@@ -4,7 +4,6 @@ use mathlib.Core.Path.{_≡_, refl, _∙_, ap}
 use native.Mathlib.Omega.{arith}
 use Rattle.bits.specs.Bits.{placed}
 use Rattle.field.specs.Field.{degree}
-use Rattle.layout.specs.Plan.{coveredOf}
 use Rattle.remainder.proofs.Fold.{parity-bits-below, parity-digits}
 use Rattle.page_write.proofs.Writing.{parity-none}
 use borrow.Author.Needs.{needs}
@@ -26,17 +25,14 @@ parity-bits-requires : tie.Need-parity-bits-requires
 parity-bits-requires c κs = search needs
 
 parity-of-requires : tie.Need-parity-of-requires
-unfolding coveredOf
 parity-of-requires c κs =
     let a = c .before .before .before .before .before .before .before in
     (a .pre .0, omega arith)
 
 add-place-parity : tie.Need-add-place-parity
-unfolding coveredOf
 add-place-parity c = omega arith
 
 place-parity-requires : tie.Need-place-parity-requires
-unfolding coveredOf
 place-parity-requires c κs =
     let a = c .before .before .before .before .before .before .before .before .before in
     let s = a .args .shape in

@@ -4,7 +4,7 @@ use mathlib.Core.Path.{_≡_, refl, sym, _∙_, ap}
 use mathlib.Core.List.{_++_}
 use native.Mathlib.Omega.{arith}
 use borrow.Author.Needs.{needs}
-use Rattle.layout.specs.Plan.{shape, start, used, from}
+use Rattle.layout.specs.Plan.{shape, start, from}
 use Rattle.layout.proofs.Plans.{shape-zero, shape-later}
 use Rattle.page_theory.proofs.Writing.{used-room}
 use Rattle.page_plan.proofs.Plans.{block-inside}
@@ -38,7 +38,7 @@ loop-holds c =
       omega arith,
       a .pre .0 .some,
       from-one q,
-      streamed-next q _ 0 fresh (shape-zero q 0 refl) refl refl (c .before .before .before .before .write-first .ensures .0),
+      streamed-next q _ (a .pre .0 .valid) 0 fresh (shape-zero q 0 refl) refl refl (c .before .before .before .before .write-first .ensures .0),
     )
 
 block-start-requires : tie.Need-block-start-requires Inv-loop μ-loop
@@ -59,6 +59,7 @@ write-block-requires c κs =
     let e = shape-later q (s .block) (s .inv .0) in
     let l = c .before .before .before .loop-test .taken in (
       first .write-first .ensures .1,
+      rw e (a .pre .0 .valid .sums (s .block)),
       omega arith,
       message-lent q (a .pre .0 .valid) (s .block) l e h x (a .pre .0 .«data») (s .inv .2),
       block-inside q (a .pre .0) (s .block) l e (streamed-size q _ _ (s .inv .3)) (search needs) (c .before .before .block-start .ensures .0),
@@ -92,18 +93,19 @@ loop-less c = search needs
 loop-again : tie.Need-loop-again Inv-loop μ-loop
 loop-again c =
     let turn = c .before .before .before .before .before .before .before .before in
-    let q = turn .before .before .before .before .before .before .before .before .before .before .before .before .before .args .plan in
+    let a = turn .before .before .before .before .before .before .before .before .before .before .before .before .before in
+    let q = a .args .plan in
     let s = turn .loop in
     let l = c .before .before .before .before .before .before .before .loop-test .taken in
     let put = c .before .before .before in (
       omega arith,
       omega arith,
       rw (s .inv .2) (from-next q (s .block) (s .inv .0)),
-      streamed-next q _ (s .block) (s .inv .3) (shape-later q (s .block) (s .inv .0)) (s .inv .2) (put .before .before .before .block-start .ensures .0) (put .write-block .ensures),
+      streamed-next q _ (a .pre .0 .valid) (s .block) (s .inv .3) (shape-later q (s .block) (s .inv .0)) (s .inv .2) (put .before .before .before .block-start .ensures .0) (put .write-block .ensures),
     )
 
-block-start-requires-2 : tie.Need-block-start-requires-2 Inv-loop μ-loop
-block-start-requires-2 c κs = search needs
+cast-used : tie.Need-cast-used Inv-loop μ-loop
+cast-used c = search needs
 
 mul-fill-ones : tie.Need-mul-fill-ones Inv-loop μ-loop
 mul-fill-ones c =
@@ -113,23 +115,19 @@ mul-fill-ones c =
     record { fits = omega arith }
 
 sub-fill-ones : tie.Need-sub-fill-ones Inv-loop μ-loop
-unfolding used
 sub-fill-ones c =
     let a = c .before .before .before .before .before .before .before .before .before .before .before .before .before .before .before .before in
     let q = a .args .plan in
     let n = streamed-size q _ _ (c .before .before .before .loop .inv .3) in
     let r = used-room q (a .pre .0 .valid) in
-    let e = c .before .block-start2 .ensures .0 in
     omega arith
 
 fill-ones-requires : tie.Need-fill-ones-requires Inv-loop μ-loop
-unfolding used
 fill-ones-requires c κs =
     let a = c .before .before .before .before .before .before .before .before .before .before .before .before .before .before .before .before in
     let q = a .args .plan in
     let n = streamed-size q _ _ (c .before .before .before .loop .inv .3) in
     let r = used-room q (a .pre .0 .valid) in
-    let e = c .before .block-start2 .ensures .0 in
     let x : q .size < 65536 = search needs in
     record { ends = omega arith; fits = omega arith }
 
@@ -147,7 +145,7 @@ returns c =
     let a = done .before .before .before .before .before .before .before .before .before .before .before .before .before .before .before .before .before in
     let s = done .before .before .before .before .loop in
     let e : s .block ≡ a .args .plan .blocks = omega arith in
-    streamed-end (a .args .plan) _ (a .pre .0 .valid) (rw e at (s .inv .3)) (done .before .before .block-start2 .ensures .0) (done .fill-ones .ensures)
+    streamed-end (a .args .plan) _ (a .pre .0 .valid) (rw e at (s .inv .3)) refl (done .fill-ones .ensures)
 
 pub write-blocks-spec : {M : Type 1} → statement M
 write-blocks-spec =
@@ -167,7 +165,7 @@ write-blocks-spec =
     add-block
     loop-less
     loop-again
-    block-start-requires-2
+    cast-used
     mul-fill-ones
     sub-fill-ones
     fill-ones-requires

@@ -25,6 +25,7 @@ write-block-requires c κs =
     let x = a .pre .0 .metadata in
     let e = shape-zero q 0 refl in (
       m .make-table .ensures,
+      rw e (a .pre .0 .valid .sums 0),
       omega arith,
       message-lent q (a .pre .0 .valid) 0 (a .pre .0 .some) e h x (a .pre .0 .«data») refl,
       block-inside q (a .pre .0) 0 (a .pre .0 .some) e (h .size) (search needs) refl,

@@ -7,24 +7,24 @@ use borrow.Author.Needs.{needs}
 use Rattle.pieces.proofs.rules.is_usable.Statement.{statement}
 use Rattle.pieces.proofs.rules.is_usable.Tie as tie
 
-block-reply-requires : tie.Need-block-reply-requires
-block-reply-requires c κs = search needs
+start-reply-requires : tie.Need-start-reply-requires
+start-reply-requires c κs = search needs
 
 returns : tie.Need-returns
-returns c = usable-refused _ _ (c .before .block-reply .ensures) (c .if1 .taken)
+returns c = usable-refused _ _ (c .before .start-reply .ensures) (c .if1 .taken)
 
 returns-2 : tie.Need-returns-2
-returns-2 c = usable-past _ _ (sym (c .before .before .before .block-reply .ensures) ∙ c .before .before .if1 .left) (c .if2 .taken)
+returns-2 c = usable-past _ _ (sym (c .before .before .before .start-reply .ensures) ∙ c .before .before .if1 .left) (c .if2 .taken)
 
 mul-t : tie.Need-mul-t
-mul-t c = omega (arith, right-level _ _ _ (sym (c .before .before .before .block-reply .ensures) ∙ c .before .before .if1 .left))
+mul-t c = omega (arith, right-level _ _ _ (sym (c .before .before .before .start-reply .ensures) ∙ c .before .before .if1 .left))
 
 parity-bits-requires : tie.Need-parity-bits-requires
-parity-bits-requires c κs = omega (arith, right-level _ _ _ (sym (c .before .before .before .block-reply .ensures) ∙ c .before .before .if1 .left))
+parity-bits-requires c κs = omega (arith, right-level _ _ _ (sym (c .before .before .before .start-reply .ensures) ∙ c .before .before .if1 .left))
 
 is-below-requires : tie.Need-is-below-requires
 is-below-requires c κs =
-    let r = c .before .before .before .before .before .block-reply .ensures in
+    let r = c .before .before .before .before .before .start-reply .ensures in
     let a = c .before .before .before .before .before .before .args in
     let l = right-level _ _ _ (sym r ∙ c .before .before .before .before .if1 .left) in
     let p = parity-bits-below (a .f) (2 * a .state .level) (omega (arith, l)) in
@@ -32,14 +32,14 @@ is-below-requires c κs =
 
 returns-3 : tie.Need-returns-3
 returns-3 c =
-    let r = c .before .before .before .before .before .before .block-reply .ensures in
+    let r = c .before .before .before .before .before .before .start-reply .ensures in
     usable-below _ _ (sym r ∙ c .before .before .before .before .before .if1 .left) (omega arith) (c .before .before .parity-bits .ensures) (c .is-below .ensures)
 
 pub is-usable-spec : {M : Type 1} → statement M
 is-usable-spec =
     tie.close
     (tie.spec
-    block-reply-requires
+    start-reply-requires
     returns
     returns-2
     mul-t

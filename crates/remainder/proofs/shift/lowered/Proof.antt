@@ -1,27 +1,23 @@
 use native.Mathlib.Omega.{arith}
 use borrow.Author.Needs.{needs}
-use Rattle.remainder.proofs.Words.{lower-fits, lower-end}
+use Rattle.remainder.proofs.Words.{lower-end, lower-whole}
 use Rattle.remainder.proofs.shift.lowered.Statement.{statement}
 use Rattle.remainder.proofs.shift.lowered.Tie as tie
 
-add-q : tie.Need-add-q
-add-q c = search needs
-
-mul-raised : tie.Need-mul-raised
-mul-raised c = search needs
-
-sub-raised : tie.Need-sub-raised
-sub-raised c = search needs
-
-raised-requires : tie.Need-raised-requires
-raised-requires c κs = lower-fits _ (c .args .k) (c .pre .1)
-
 without-words-requires : tie.Need-without-words-requires
-without-words-requires c κs = omega arith
+without-words-requires c κs = search needs
 
 returns : tie.Need-returns
-returns c = let a = c .before .before .args in lower-end _ (a .k) (c .before .raised .ensures) (c .without-words .ensures)
+returns c =
+    lower-whole _ (c .before .before .args .k) (omega arith) (c .before .without-words .ensures)
+
+without-digits-requires : tie.Need-without-digits-requires
+without-digits-requires c κs = search needs
+
+returns-2 : tie.Need-returns-2
+returns-2 c =
+    lower-end _ (c .before .before .before .args .k) (c .before .before .without-words .ensures) (c .without-digits .ensures)
 
 pub lowered-spec : {M : Type 1} → statement M
 lowered-spec =
-    tie.close (tie.spec add-q mul-raised sub-raised raised-requires without-words-requires returns)
+    tie.close (tie.spec without-words-requires returns without-digits-requires returns-2)

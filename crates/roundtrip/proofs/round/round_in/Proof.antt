@@ -40,8 +40,8 @@ flip-by-requires c κs =
     (trip-written (a .args .words .now) (a .args .plan) (a .pre) (a .args .metadata .now) (a .args .«data» .now) (a .args .mask .now) (a .args .page .now) (a .args .metadata-out .now) (a .args .data-out .now) (a .args .counts .now) (w .write .ensures) (c .before .before .before .if1 .left))
     (sym (not-false _ (c .before .if2 .left)) ∙ c .before .before .mask-allowed .ensures)
 
-read-requires : tie.Need-read-requires
-read-requires c κs = search needs
+read-back-requires : tie.Need-read-back-requires
+read-back-requires c κs = search needs
 
 same-length-3 : tie.Need-same-length-3
 same-length-3 c = search needs
@@ -64,7 +64,7 @@ returns-3 c =
     (λ i. w .before .before .before .before .before .before .before .before .shared-slice-known2 .given i .fits) (λ i. w .before .before .before .before .before .before .before .shared-slice-known3 .given i .fits)
     (trip-written (a .args .words .now) (a .args .plan) (a .pre) (a .args .metadata .now) (a .args .«data» .now) (a .args .mask .now) (a .args .page .now) (a .args .metadata-out .now) (a .args .data-out .now) (a .args .counts .now) (w .write .ensures) (t .before .before .before .before .if1 .left))
     (sym (not-false _ (t .before .before .if2 .left)) ∙ t .before .before .before .mask-allowed .ensures)
-    (t .flip-by .ensures) (c .before .before .before .before .before .before .before .read .ensures) (c .if3 .taken)
+    (t .flip-by .ensures) (c .before .before .before .before .before .before .before .read-back .ensures) (c .if3 .taken)
 
 same-length-7 : tie.Need-same-length-7
 same-length-7 c = search needs
@@ -87,7 +87,7 @@ returns-4 c =
     (λ i. w .before .before .before .before .before .before .before .before .shared-slice-known2 .given i .fits) (λ i. w .before .before .before .before .before .before .before .shared-slice-known3 .given i .fits)
     (trip-written (a .args .words .now) (a .args .plan) (a .pre) (a .args .metadata .now) (a .args .«data» .now) (a .args .mask .now) (a .args .page .now) (a .args .metadata-out .now) (a .args .data-out .now) (a .args .counts .now) (w .write .ensures) (t .before .before .before .before .if1 .left))
     (sym (not-false _ (t .before .before .if2 .left)) ∙ t .before .before .before .mask-allowed .ensures)
-    (t .flip-by .ensures) (c .before .before .before .before .before .before .before .read .ensures) (c .if3 .left)
+    (t .flip-by .ensures) (c .before .before .before .before .before .before .before .read-back .ensures) (c .if3 .left)
 
 pub round-in-spec : {M : Type 1} → statement M
 round-in-spec =
@@ -100,7 +100,7 @@ round-in-spec =
     same-length-2
     returns-2
     flip-by-requires
-    read-requires
+    read-back-requires
     same-length-3
     same-length-4
     same-length-5

@@ -3,7 +3,7 @@ use mathlib.Core.Path.{_≡_}
 use Prim.Native.Nat.{_-_, _≤_}
 use native.Mathlib.Omega.{arith}
 use borrow.Author.Needs.{needs}
-use Rattle.syndromes.proofs.Rows.{Spreading, spreading-start, spreading-next, spreading-end}
+use Rattle.syndromes.proofs.Spreading.{Spreading, spreading-start, spreading-next, spreading-end}
 use Rattle.syndromes.proofs.power_sums.spread.Statement.{statement}
 use Rattle.syndromes.proofs.power_sums.spread.Tie as tie
 

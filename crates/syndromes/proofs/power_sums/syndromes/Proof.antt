@@ -1,7 +1,7 @@
 -- `syndromes::power_sums::syndromes` meets its contract.
 use borrow.Author.Needs.{needs}
 use Rattle.syndromes.proofs.PowerSums.{syndromes-made}
-use Rattle.syndromes.proofs.Rows.{spread-elements, lanes-summed}
+use Rattle.syndromes.proofs.Spreading.{spread-elements, lanes-summed}
 use Rattle.syndromes.proofs.power_sums.syndromes.Statement.{statement}
 use Rattle.syndromes.proofs.power_sums.syndromes.Tie as tie
 

@@ -1,0 +1,189 @@
+// The options after a command.
+use crate::command;
+use crate::number;
+use crate::place;
+use text::Number;
+
+// Options that a command may take, as bits of a set: --from and --pages, --page, --quiet, --stdout, --raw.
+pub const RANGE: u8 = 1;
+
+pub const PAGE: u8 = 2;
+
+pub const QUIET: u8 = 4;
+
+pub const STDOUT: u8 = 8;
+
+pub const RAW: u8 = 16;
+
+// What the options say.
+pub struct Options {
+    // The number of the first argument after them.
+    pub at: usize,
+    // Whether pages of a dump are asked for: from which on, and at most how many.
+    pub ranged: bool,
+    pub from: u64,
+    pub pages: u64,
+    // Whether one page of a dump is asked for, and which.
+    pub paged: bool,
+    pub page: u64,
+    pub quiet: bool,
+    pub stdout: bool,
+    pub raw: bool,
+    // Whether all is right: an error was printed where not.
+    pub good: bool,
+}
+
+enum Choice {
+    From,
+    Pages,
+    Page,
+    Quiet,
+    Stdout,
+    Raw,
+    Unknown,
+}
+
+fn choice_of(name: &[u8]) -> Choice {
+    if check::same(name, b"--from") {
+        return Choice::From;
+    }
+    if check::same(name, b"--pages") {
+        return Choice::Pages;
+    }
+    if check::same(name, b"--page") {
+        return Choice::Page;
+    }
+    if check::same(name, b"--quiet") {
+        return Choice::Quiet;
+    }
+    if check::same(name, b"--stdout") {
+        return Choice::Stdout;
+    }
+    if check::same(name, b"--raw") {
+        return Choice::Raw;
+    }
+    Choice::Unknown
+}
+
+fn bit_of(choice: Choice) -> u8 {
+    match choice {
+        Choice::From => RANGE,
+        Choice::Pages => RANGE,
+        Choice::Page => PAGE,
+        Choice::Quiet => QUIET,
+        Choice::Stdout => STDOUT,
+        Choice::Raw => RAW,
+        Choice::Unknown => 0,
+    }
+}
+
+fn bad(options: Options) -> Options {
+    let mut o = options;
+    o.good = false;
+    o
+}
+
+// The options with one more, which takes `v` where it takes a number.
+fn with(options: Options, choice: Choice, v: u64) -> Options {
+    let mut o = options;
+    match choice {
+        Choice::From => {
+            o.ranged = true;
+            o.from = v;
+        }
+        Choice::Pages => {
+            o.ranged = true;
+            o.pages = v;
+        }
+        Choice::Page => {
+            o.paged = true;
+            o.page = v;
+        }
+        Choice::Quiet => {
+            o.quiet = true;
+        }
+        Choice::Stdout => {
+            o.stdout = true;
+        }
+        Choice::Raw => {
+            o.raw = true;
+        }
+        Choice::Unknown => {
+            o.good = false;
+        }
+    }
+    o
+}
+
+// An option that takes a number.
+fn with_number(out: &mut [u8; 32768], options: Options, choice: Choice, name: &[u8]) -> Options {
+    match number(out, place(options.at, 1), name) {
+        Number::Is(v) => moved(with(options, choice, v), 2),
+        Number::Bad => bad(options),
+    }
+}
+
+fn moved(options: Options, k: usize) -> Options {
+    let mut o = options;
+    o.at = place(options.at, k);
+    o
+}
+
+fn taken(out: &mut [u8; 32768], options: Options, choice: Choice, name: &[u8]) -> Options {
+    match choice {
+        Choice::From => with_number(out, options, choice, name),
+        Choice::Pages => with_number(out, options, choice, name),
+        Choice::Page => with_number(out, options, choice, name),
+        Choice::Quiet => moved(with(options, choice, 0), 1),
+        Choice::Stdout => moved(with(options, choice, 0), 1),
+        Choice::Raw => moved(with(options, choice, 0), 1),
+        Choice::Unknown => bad(options),
+    }
+}
+
+// Takes the option at the next place, which has to be among those allowed.
+fn next(out: &mut [u8; 32768], options: Options, allowed: u8) -> Options {
+    let mut given = io::buffer();
+    let n = os::arg(options.at, &mut given);
+    let choice = choice_of(&given[..n]);
+    if bit_of(choice) & allowed == 0 {
+        say::bad_argument(out, b"option", &given[..n], b"is none of this command's");
+        return bad(options);
+    }
+    taken(out, options, choice, &given[..n])
+}
+
+// Whether argument i starts with two dashes.
+fn is_option(i: usize) -> bool {
+    let mut given = io::buffer();
+    os::arg(i, &mut given);
+    check::same(text::front(&given, 2), b"--")
+}
+
+// The options between the command and its arguments, of which only those allowed may be given.
+pub fn find_options(out: &mut [u8; 32768], allowed: u8) -> Options {
+    let mut options = Options {
+        at: place(command(), 1),
+        ranged: false,
+        from: 0,
+        pages: u64::MAX,
+        paged: false,
+        page: 0,
+        quiet: false,
+        stdout: false,
+        raw: false,
+        good: true,
+    };
+    let mut turns: u64 = 16;
+    while 0 < turns {
+        if !is_option(options.at) {
+            break;
+        }
+        options = next(out, options, allowed);
+        if !options.good {
+            break;
+        }
+        turns -= 1;
+    }
+    options
+}

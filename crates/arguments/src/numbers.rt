@@ -1,0 +1,109 @@
+// Numbers among the arguments.
+use crate::place;
+use crate::whole;
+use text::Number;
+
+// The words of a layout, each of 32 bits, or none where an error was printed.
+pub enum Words {
+    Are { first: u32, second: u32 },
+    Bad,
+}
+
+// A number; an error is printed where the argument is none.
+pub fn number(out: &mut [u8; 32768], i: usize, name: &[u8]) -> Number {
+    let mut given = io::buffer();
+    let n = os::arg(i, &mut given);
+    if !whole(out, name) {
+        return Number::Bad;
+    }
+    let found = text::parse_number(&given[..n]);
+    if let Number::Bad = found {
+        say::bad_argument(
+            out,
+            name,
+            &given[..n],
+            b"is no number (decimal, or hexadecimal after 0x) of at most 64 bits",
+        );
+    }
+    found
+}
+
+// A number of at most `most`, which is that of a word or the largest of all; an error is printed where the argument is none.
+fn at_most(out: &mut [u8; 32768], i: usize, name: &[u8], most: u64) -> Number {
+    let Number::Is(v) = number(out, i, name) else {
+        return Number::Bad;
+    };
+    if most < v {
+        say::error(out, b"a word has 32 bits, at most 0xFFFFFFFF");
+        return Number::Bad;
+    }
+    Number::Is(v)
+}
+
+// The largest word of 32 bits.
+pub const WORD: u64 = 4294967295;
+
+// A word of 32 bits; an error is printed where the argument is none.
+pub fn word(out: &mut [u8; 32768], i: usize, name: &[u8]) -> Number {
+    at_most(out, i, name, WORD)
+}
+
+// The lowest 32 bits of a number.
+fn low(v: u64) -> u32 {
+    (v % 4294967296) as u32
+}
+
+// Puts a number to place `at` of the list, where there is such a place. A number of more than 32 bits is put as the largest
+// of 32.
+fn put(list: &mut [u32], at: usize, v: u64) {
+    if at < list.len() {
+        if WORD < v {
+            list[at] = 4294967295;
+        } else {
+            list[at] = low(v);
+        }
+    }
+}
+
+// Puts the arguments from `first` up to `end` to the front of the list, until one is no number of at most `most`: then an error
+// is printed. Says whether all are.
+pub fn word_list(
+    out: &mut [u8; 32768],
+    first: usize,
+    end: usize,
+    name: &[u8],
+    most: u64,
+    list: &mut [u32],
+) -> bool {
+    let mut i = first;
+    while i < end {
+        let Number::Is(v) = at_most(out, i, name, most) else {
+            return false;
+        };
+        put(list, i - first, v);
+        i += 1;
+    }
+    true
+}
+
+// An error about a remainder that cannot be read.
+pub fn bad_remainder(out: &mut [u8; 32768]) {
+    say::error(
+        out,
+        b"REMAINDER is an even number of hexadecimal digits, at most 256, highest coefficient first",
+    );
+}
+
+// The two words of a layout, at place `at` and the next.
+pub fn layout_words(out: &mut [u8; 32768], at: usize) -> Words {
+    let Number::Is(first) = word(out, at, b"WORD0") else {
+        return Words::Bad;
+    };
+    let Number::Is(second) = word(out, place(at, 1), b"WORD1") else {
+        return Words::Bad;
+    };
+    Words::Are {
+        first: low(first),
+        second: low(second),
+    }
+}

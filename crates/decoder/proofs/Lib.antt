@@ -1,0 +1,2 @@
+-- That the decoder finds it.
+pub mod Locating

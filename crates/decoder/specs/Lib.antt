@@ -1,0 +1,2 @@
+-- What the decoder is to find.
+pub mod Locating

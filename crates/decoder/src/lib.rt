@@ -1,0 +1,160 @@
+// The errors behind a remainder: syndromes, key equation, roots, and a recheck over the code. The recheck makes every answer right,
+// whatever proposed it. A fast root finder proposes first, of which nothing is known; where its proposal fails, a test tells locators
+// with too few roots apart, and the complete search answers for the others. That nothing is missed is shown in proofs/Locating.antt.
+//
+//   find_errors    the set of at most t exponents below n that leaves a remainder
+//
+// 1. Crate `syndromes` works out the values of the remainder at a, a^2, .., a^(2t).
+// 2. Crate `key_equation` finds the shortest recurrence of the syndromes, whose coefficients are those of the error locator.
+// 3. A locator that is too long is refused. Crate `root_finder` proposes the roots of the others. Where the proposal fails, crate
+//    `split_test` tells a locator that has not as many roots as its degree apart, and else crate `root_search` searches the powers of
+//    a below a^n for them.
+// 4. All roots are rechecked over the code: their power sums must be the syndromes. So neither locator nor proposal is trusted, and
+//    no exponent at or above n is reported.
+ghost use mathlib.Core.Path.{_≡_};
+ghost use Prim.Native.Nat.{_≤_};
+ghost use lib.ListN.{length, take};
+ghost use Rattle.field.specs.Field.{longest};
+ghost use Rattle.field.specs.Tables.{Tables};
+ghost use Rattle.powers.specs.Powers.{Powers};
+ghost use Rattle.code.specs.Register.{register};
+ghost use Rattle.series.specs.Series.{Elements};
+ghost use Rattle.bits.specs.Decides.{Decides};
+ghost use Rattle.syndromes.specs.PowerSums.{Agrees};
+ghost use Rattle.decoder.specs.Locating.{Locatable, Descending, Reversed, Finds};
+use field::Field;
+use key_equation::shortest;
+use remainder::Register;
+use remainder::coefficients::is_zero;
+use root_finder::find_roots;
+use root_search::locate;
+use split_test::cannot_split;
+use syndromes::power_sums::sums_agree;
+use syndromes::power_sums::syndromes;
+
+// What is found for a remainder: whether a set of exponents leaves it, its size, and the set, the highest exponent first, in the first places.
+// The other places are of no meaning, and all are where no set is located.
+pub struct Found {
+    pub located: bool,
+    pub count: usize,
+    pub exponents: [u16; 64],
+}
+
+// A finding with no exponents: the empty set, or none at all.
+fn no_exponents(located: bool) -> Found
+    ensures { λ r. ⌜ (r .located ≡ located) × (r .count ≡ 0) × (length (r .exponents) ≡ 64) ⌝ }
+{
+    Found {
+        located: located,
+        count: 0,
+        exponents: [0; 64],
+    }
+}
+
+fn place(p: u16) -> usize
+    ensures { λ r. ⌜ r ≡ p ⌝ }
+{
+    p as usize
+}
+
+// Whether the first `count` places of a list descend from below n.
+fn descend_below(places: &[u16; 64], count: usize, n: usize) -> bool
+    requires { ⌜ count ≤ 64 ⌝ }
+    ensures { λ r. ⌜ Decides r (Descending n count (now (places .entry))) ⌝ }
+{
+    let mut bound = n;
+    let mut k: usize = 0;
+    while k < count {
+        let p = place(places[k]);
+        if bound <= p {
+            return false;
+        }
+        bound = p;
+        k += 1;
+    }
+    true
+}
+
+// The first `count` places of a list, the last first.
+fn reversed(places: &[u16; 64], count: usize) -> [u16; 64]
+    requires { ⌜ count ≤ 64 ⌝ }
+    ensures { λ r. ⌜ Reversed count (now (places .entry)) r ⌝ }
+{
+    let mut v = [0; 64];
+    let mut i: usize = 0;
+    while i < count {
+        let at = count - 1 - i;
+        v[i] = places[at];
+        i += 1;
+    }
+    v
+}
+
+// Whether the first `count` places of a list descend from below n, and have the given power sums with odd j.
+fn passes(
+    f: Field,
+    powers: &[u16; 16384],
+    sums: [u16; 128],
+    t: usize,
+    n: usize,
+    places: [u16; 64],
+    count: usize,
+) -> bool
+    requires { ⌜ Powers f (now powers) ⌝ }
+    requires { ⌜ (t ≤ 62) × (Elements f sums) × (n ≤ longest f) × (count ≤ 64) ⌝ }
+    ensures { λ r. ⌜ Decides r ((Descending n count places) × (Agrees f t sums (take count places))) ⌝ }
+{
+    if descend_below(&places, count, n) {
+        return sums_agree(f, powers, sums, t, places, count);
+    }
+    false
+}
+
+// The set of at most t exponents below n whose sum of powers leaves the remainder, if there is one.
+pub fn find_errors(
+    f: Field,
+    powers: &[u16; 16384],
+    logs: &[u16; 16384],
+    state: Register,
+    t: usize,
+    n: usize,
+) -> Found
+    requires { ⌜ Tables f (now powers) (now logs) ⌝ }
+    requires { ⌜ Locatable f t n (register (state .words)) ⌝ }
+    ensures { λ r. ⌜ Finds f t n (register (state .words)) r ⌝ }
+{
+    if is_zero(state) {
+        return no_exponents(true);
+    }
+    let sums = syndromes(f, powers, logs, state, t);
+    let r = shortest(f, powers, logs, &sums, t);
+    let c = r.c;
+    let len = r.len;
+    if t < len {
+        return no_exponents(false);
+    }
+    let proposed = find_roots(f, powers, logs, &c, len);
+    if passes(f, powers, sums, t, n, proposed, len) {
+        return Found {
+            located: true,
+            count: len,
+            exponents: proposed,
+        };
+    }
+    if cannot_split(f, powers, logs, &c, len) {
+        return no_exponents(false);
+    }
+    let places = locate(f, powers, logs, &c, len, n);
+    let roots = places.exponents;
+    let count = places.count;
+    if count != len {
+        return no_exponents(false);
+    }
+    let exponents = reversed(&roots, count);
+    let located = sums_agree(f, powers, sums, t, exponents, count);
+    Found {
+        located: located,
+        count: count,
+        exponents: exponents,
+    }
+}

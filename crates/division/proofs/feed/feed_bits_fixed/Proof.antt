@@ -1,0 +1,45 @@
+use mathlib.Core.Path.{_∙_}
+use Rattle.division_table.proofs.Filling.{wide-last}
+use Rattle.division.proofs.feed.feed_bits_fixed.Statement.{statement}
+use Rattle.division.proofs.feed.feed_bits_fixed.Tie as tie
+
+feed-bits-requires : tie.Need-feed-bits-requires
+feed-bits-requires c κs =
+    let a = c .before .before .before in
+    let e = c .if1 .taken in
+    (rw e at (a .pre .0), rw e at (a .pre .1), a .pre .2)
+
+returns : tie.Need-returns
+returns c = c .feed-bits .ensures ∙ rw (c .before .if1 .taken)
+
+feed-bits-requires-2 : tie.Need-feed-bits-requires-2
+feed-bits-requires-2 c κs =
+    let a = c .before .before .before .before in
+    let e = c .if2 .taken in
+    (rw e at (a .pre .0), rw e at (a .pre .1), a .pre .2)
+
+returns-2 : tie.Need-returns-2
+returns-2 c = c .feed-bits2 .ensures ∙ rw (c .before .if2 .taken)
+
+feed-bits-requires-3 : tie.Need-feed-bits-requires-3
+feed-bits-requires-3 c κs =
+    let p = c .before .before .before .before .pre in
+    let e = wide-last (p .0 .wide) (c .before .if1 .left) (c .if2 .left) in
+    (rw e at (p .0), rw e at (p .1), p .2)
+
+returns-3 : tie.Need-returns-3
+returns-3 c =
+    let b = c .before in
+    let e = wide-last (b .before .before .before .before .pre .0 .wide) (b .before .if1 .left) (b .if2 .left) in
+    c .feed-bits3 .ensures ∙ rw e
+
+pub feed-bits-fixed-spec : {M : Type 1} → statement M
+feed-bits-fixed-spec =
+    tie.close
+    (tie.spec
+    feed-bits-requires
+    returns
+    feed-bits-requires-2
+    returns-2
+    feed-bits-requires-3
+    returns-3)

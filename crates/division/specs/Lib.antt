@@ -1,2 +1,0 @@
--- The division of a run of bits.
-pub mod Steps

@@ -1,0 +1,2 @@
+-- When each reply of exporting and importing fragments is given.
+pub mod ReplyRules

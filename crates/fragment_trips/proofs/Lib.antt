@@ -1,0 +1,2 @@
+-- Laws of one call after the other.
+pub mod Trips

@@ -1,0 +1,49 @@
+use borrow.Author.Needs.{needs}
+use Rattle.fragment_trips.proofs.Trips.{import-export-refused, import-export-done}
+use Rattle.fragment_trips.proofs.import_export.Statement.{statement}
+use Rattle.fragment_trips.proofs.import_export.Tie as tie
+
+import-fragments-requires : tie.Need-import-fragments-requires
+import-fragments-requires c κs = search needs
+
+enum-told : tie.Need-enum-told
+enum-told c = search needs
+
+export-fragments-requires : tie.Need-export-fragments-requires
+export-fragments-requires c κs = search needs
+
+enum-known-refusal : tie.Need-enum-known-refusal
+enum-known-refusal c = search needs
+
+same-length : tie.Need-same-length
+same-length c = search needs
+
+same-length-2 : tie.Need-same-length-2
+same-length-2 c = search needs
+
+returns : tie.Need-returns
+returns c =
+    let told = c .before .before .before .before .before in
+    let imported = c .before .before .before .before .before .before .before .before .before in
+    let known = c .before .before .before .before .before .before .before .before .before .before .before .before .before .shared-slice-known .given in
+    import-export-done _ _ _ _ _ (imported .import-fragments .ensures) (told .enum-told .given .1) _ _ (λ i. known i .fits) (c .before .before .export-fragments .ensures)
+
+same-length-3 : tie.Need-same-length-3
+same-length-3 c = search needs
+
+returns-2 : tie.Need-returns-2
+returns-2 c = import-export-refused _ _ _ _ _ (c .before .before .before .before .before .import-fragments .ensures) (c .before .refusal .given .1)
+
+pub import-export-spec : {M : Type 1} → statement M
+import-export-spec =
+    tie.close
+    (tie.spec
+    import-fragments-requires
+    enum-told
+    export-fragments-requires
+    enum-known-refusal
+    same-length
+    same-length-2
+    returns
+    same-length-3
+    returns-2)

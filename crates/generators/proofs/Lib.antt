@@ -1,0 +1,3 @@
+-- The laws of the table of generators.
+mod Register
+mod Chain

@@ -1,0 +1,2 @@
+-- What the stored tables are to hold.
+pub mod Rows

@@ -1,0 +1,25 @@
+-- `layout::words::fields_at` meets its contract.
+use borrow.Author.Needs.{needs}
+use Rattle.layout.specs.Record.{fieldsAt}
+use Rattle.layout.proofs.words.fields_at.Statement.{statement}
+use Rattle.layout.proofs.words.fields_at.Tie as tie
+
+block-fields-requires : tie.Need-block-fields-requires
+block-fields-requires c κs = search needs
+
+mul-t11 : tie.Need-mul-t11
+mul-t11 c = search needs
+
+add-t13 : tie.Need-add-t13
+add-t13 c = search needs
+
+block-fields-requires-2 : tie.Need-block-fields-requires-2
+block-fields-requires-2 c κs = search needs
+
+returns : tie.Need-returns
+unfolding fieldsAt
+returns c = rw (c .before .block-fields .ensures, c .block-fields2 .ensures)
+
+pub fields-at-spec : {M : Type 1} → statement M
+fields-at-spec =
+    tie.close (tie.spec block-fields-requires mul-t11 add-t13 block-fields-requires-2 returns)

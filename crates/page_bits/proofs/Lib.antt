@@ -1,0 +1,3 @@
+-- Laws of Bits.
+pub mod Placing
+pub mod Inverse

@@ -1,0 +1,39 @@
+// Where the bits of a page belong (document 01, "Bits and polynomials" and "Bits").
+//
+//   locate_bit       where does a page bit belong? Block and exponent, or the tail
+//   bit_position     where does a code bit lie? Its position in the page
+//
+// Each takes the layout record as bytes of any length and asks nothing of its caller. places.rt answers under the plan of an accepted
+// layout: the block of a position is found by one division, and positions and exponents of a block run against each other.
+mod answers;
+mod places;
+
+pub use answers::bit_reply;
+pub use answers::position_reply;
+use layout::Acceptance;
+use layout::BitAnswer;
+use layout::PositionAnswer;
+use layout::check_layout;
+use layout::plan_of;
+ghost use mathlib.Core.Path.{_≡_};
+ghost use Rattle.layout.specs.Bits.{bitAnswer, positionAnswer};
+
+// Where does the page bit at `position` belong?
+pub fn locate_bit(words: &[u8], position: u64) -> BitAnswer
+    ensures { λ r. ⌜ r ≡ bitAnswer (now (words .entry)) position ⌝ }
+{
+    match check_layout(words) {
+        Acceptance::Accepted(layout) => places::bit_in(plan_of(layout), position),
+        Acceptance::Refused(refusal) => BitAnswer::Refused(refusal),
+    }
+}
+
+// Where does the coefficient of x^exponent of a block lie?
+pub fn bit_position(words: &[u8], block: u64, exponent: u64) -> PositionAnswer
+    ensures { λ r. ⌜ r ≡ positionAnswer (now (words .entry)) block exponent ⌝ }
+{
+    match check_layout(words) {
+        Acceptance::Accepted(layout) => places::position_in(plan_of(layout), block, exponent),
+        Acceptance::Refused(refusal) => PositionAnswer::Refused(refusal),
+    }
+}

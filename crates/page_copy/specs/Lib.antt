@@ -1,0 +1,2 @@
+-- What copying messages out of a page promises.
+pub mod Copying

@@ -1,0 +1,142 @@
+// Deciding damaged blocks and keeping what repairs them.
+ghost use mathlib.Core.Path.{_≡_};
+ghost use Prim.Native.Nat.{_≤_, _<_};
+ghost use lib.ListN.{length};
+ghost use Rattle.field.specs.Tables.{Tables};
+ghost use Rattle.page_decide.specs.Deciding.{OneField};
+ghost use Rattle.page_keep.specs.Keeping.{KeptFor, BlockKept, Pending, PageDecided};
+use crate::Decision;
+use decoder::Found;
+use layout::Plan;
+use page_decide::Decided;
+use page_decide::Scan;
+use page_decide::damaged::next_damaged;
+use page_decide::decide::apart;
+use page_decide::decide::decide_alone;
+use page_decide::decide::decide_block;
+use page_decide::decide::nothing;
+use powers::fill_tables;
+
+// Keeps the first n exponents that were found for a block.
+fn keep(found: Found, n: usize, block: u16, places: &mut [u16; 16384])
+    requires { ⌜ (block < 256) × (n ≤ 64) × (length (found .exponents) ≡ 64) × (length (now places) ≡ 16384) ⌝ }
+    ensures { λ r. ⌜ KeptFor block n (found .exponents) (now (places .entry)) (now (places .exit)) ⌝ }
+{
+    let exponents = found.exponents;
+    let at = 64 * block as usize;
+    let mut i = 0;
+    while i < n {
+        let k = at + i;
+        places[k] = exponents[i];
+        i += 1;
+    }
+}
+
+// A count as a number of exponents.
+fn wide(count: u8) -> usize
+    ensures { λ r. ⌜ r ≡ count ⌝ }
+{
+    count as usize
+}
+
+// Keeps the count of a decided block, and its exponents where it has any.
+fn keep_block(decided: Decided, block: u16, places: &mut [u16; 16384], flips: &mut [u8; 256])
+    requires { ⌜ (block < 256) × (length (decided .found .exponents) ≡ 64) × (decided .count < 128 → decided .count ≤ 64) ⌝ }
+    requires { ⌜ (length (now places) ≡ 16384) × (length (now flips) ≡ 256) ⌝ }
+    ensures { λ r. ⌜ BlockKept block (decided .count) (decided .found .exponents)
+        (now (places .entry)) (now (flips .entry)) (now (places .exit)) (now (flips .exit)) ⌝ }
+{
+    let count = decided.count;
+    let found = decided.found;
+    let b = block as usize;
+    flips[b] = count;
+    if 128 <= count {
+        return;
+    }
+    keep(found, wide(count), block, places);
+}
+
+// Decides the damaged blocks from `scan` on with the tables of powers and logarithms of their field. `table` is that of the later
+// blocks' generator.
+fn keep_from(
+    plan: Plan,
+    page: &[u8],
+    scan: Scan,
+    table: &[u64],
+    powers: &[u16; 16384],
+    logs: &[u16; 16384],
+    places: &mut [u16; 16384],
+    flips: &mut [u8; 256],
+) -> Decision
+    requires { ⌜ Pending plan (now page) (now table) scan (now places) (now flips) ⌝ }
+    requires { ⌜ (OneField plan (scan .block)) × (Tables (plan .later .field) (now powers) (now logs)) ⌝ }
+    ensures { λ r. ⌜ PageDecided plan (now (page .entry)) (now (places .exit)) (now (flips .exit)) r ⌝ }
+{
+    let blocks = plan.blocks;
+    let mut at = scan;
+    let mut last = nothing();
+    while at.block < blocks {
+        let b = at.block;
+        last = decide_block(plan, page, at, last, powers, logs);
+        let n = last.count;
+        if n == 255 {
+            return Decision::Ruined(b);
+        }
+        keep_block(last, b, places, flips);
+        at = next_damaged(plan, page, table, b + 1);
+    }
+    Decision::Sound
+}
+
+// Decides the damaged blocks from `scan` on, which all have the field of the later blocks.
+fn keep_alike(
+    plan: Plan,
+    page: &[u8],
+    scan: Scan,
+    table: &[u64],
+    places: &mut [u16; 16384],
+    flips: &mut [u8; 256],
+) -> Decision
+    requires { ⌜ Pending plan (now page) (now table) scan (now places) (now flips) ⌝ }
+    requires { ⌜ OneField plan (scan .block) ⌝ }
+    ensures { λ r. ⌜ PageDecided plan (now (page .entry)) (now (places .exit)) (now (flips .exit)) r ⌝ }
+{
+    let later = plan.later;
+    let f = later.field;
+    let mut powers = [0u16; 16384];
+    let mut logs = [0u16; 16384];
+    fill_tables(f, &mut powers, &mut logs);
+    keep_from(plan, page, scan, table, &powers, &logs, places, flips)
+}
+
+// Decides the damaged blocks of a page, of which `scan` is the first, up to the first that is ruined; `table` is that of the later
+// blocks' generator. Block 0 is decided alone where it has another field than the later ones.
+pub fn keep_damaged(
+    plan: Plan,
+    page: &[u8],
+    scan: Scan,
+    table: &[u64],
+    places: &mut [u16; 16384],
+    flips: &mut [u8; 256],
+) -> Decision
+    requires { ⌜ Pending plan (now page) (now table) scan (now places) (now flips) ⌝ }
+    requires { ⌜ scan .block < plan .blocks ⌝ }
+    ensures { λ r. ⌜ PageDecided plan (now (page .entry)) (now (places .exit)) (now (flips .exit)) r ⌝ }
+{
+    let own = apart(plan, scan);
+    if !own {
+        return keep_alike(plan, page, scan, table, places, flips);
+    }
+    let decided = decide_alone(plan, page, scan);
+    let count = decided.count;
+    if count == 255 {
+        return Decision::Ruined(0);
+    }
+    keep_block(decided, 0, places, flips);
+    let next = next_damaged(plan, page, table, 1);
+    let block = next.block;
+    if block == plan.blocks {
+        return Decision::Sound;
+    }
+    keep_alike(plan, page, next, table, places, flips)
+}

@@ -1,0 +1,3 @@
+-- The answer to a look, and what its steps promise.
+pub mod Answers
+pub mod Looking

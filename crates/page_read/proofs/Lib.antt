@@ -1,2 +1,0 @@
--- The laws behind the reader.
-pub mod Ends

@@ -1,2 +1,0 @@
--- The answer of the reader.
-pub mod Answers

@@ -1,0 +1,2 @@
+-- Laws of what is carried from piece to piece.
+pub mod Carrying

@@ -1,0 +1,64 @@
+use Prim.Native.Nat.{_*_}
+use native.Mathlib.Omega.{arith}
+use Rattle.remainder.proofs.Fold.{parity-bits-below}
+use Rattle.pieces.proofs.Replies.{reply-level, reply-empty, reply-plain, reply-long, reply-right, longest-most}
+use borrow.Author.Needs.{needs}
+use Rattle.pieces.proofs.rules.start_reply.Statement.{statement}
+use Rattle.pieces.proofs.rules.start_reply.Tie as tie
+
+returns : tie.Need-returns
+returns c = reply-level _ _ _ (c .if1 .taken)
+
+returns-2 : tie.Need-returns-2
+returns-2 c = reply-empty _ _ _ (omega arith) (c .if2 .taken)
+
+returns-3 : tie.Need-returns-3
+returns-3 c = reply-plain _ _ _ (omega arith) (omega arith) (c .if3 .taken)
+
+longest-requires : tie.Need-longest-requires
+longest-requires c κs = search needs
+
+cast-longest : tie.Need-cast-longest
+cast-longest c = search needs
+
+returns-4 : tie.Need-returns-4
+returns-4 c = reply-long _ _ _ (omega arith) (omega arith) (omega arith) (omega (arith, c .before .longest .ensures))
+
+mul-t : tie.Need-mul-t
+mul-t c = search needs
+
+parity-bits-requires : tie.Need-parity-bits-requires
+parity-bits-requires c κs = search needs
+
+mul-if5 : tie.Need-mul-if5
+mul-if5 c = search needs
+
+add-if5 : tie.Need-add-if5
+add-if5 c =
+    let a = c .before .before .before .before .before .before .args in
+    let l = longest-most (a .f) in
+    let p = parity-bits-below (a .f) (2 * a .level-field) (omega arith) in
+    omega (arith, c .parity-bits .ensures, c .before .before .longest .ensures)
+
+returns-5 : tie.Need-returns-5
+returns-5 c = reply-long _ _ _ (omega arith) (omega arith) (omega arith) (omega (arith, c .before .parity-bits .ensures, c .before .before .before .longest .ensures))
+
+returns-6 : tie.Need-returns-6
+returns-6 c = reply-right _ _ _ (omega arith) (omega arith) (omega arith) (omega (arith, c .before .parity-bits .ensures, c .before .before .before .longest .ensures))
+
+pub start-reply-spec : {M : Type 1} → statement M
+start-reply-spec =
+    tie.close
+    (tie.spec
+    returns
+    returns-2
+    returns-3
+    longest-requires
+    cast-longest
+    returns-4
+    mul-t
+    parity-bits-requires
+    mul-if5
+    add-if5
+    returns-5
+    returns-6)

@@ -1,0 +1,2 @@
+-- Laws of numbers in fragments.
+pub mod Numbers

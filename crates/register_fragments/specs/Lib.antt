@@ -1,0 +1,2 @@
+-- Fragments of a number: what a reader must believe.
+pub mod Fragments

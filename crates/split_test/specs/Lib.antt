@@ -1,0 +1,2 @@
+-- What the test is to tell.
+pub mod Splitting

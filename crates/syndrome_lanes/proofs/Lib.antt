@@ -1,0 +1,2 @@
+-- Laws of the values of a remainder, side by side.
+pub mod Rows

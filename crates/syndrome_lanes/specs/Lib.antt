@@ -1,0 +1,2 @@
+-- The values of a remainder, side by side.
+pub mod Lanes

@@ -1,0 +1,165 @@
+//! The edges of the rules for erased and for ruined blocks (document 02, E1 and E6), and how often a
+//! call meets them.
+
+use crate::call::Call;
+use crate::layout::{Layout, check_layout};
+use crate::outcome::{Outcome, outcome, zeros};
+use crate::page::block_word;
+
+/// The edges: of a block, where t is above 0 if it is not said to be 0; of a page; of the lengths beside
+/// a page.
+pub const EDGES: [&str; 23] = [
+    "erased with no zero",
+    "erased with t zeros",
+    "ruined with t + 1 zeros",
+    "erased with zeros in the parity alone",
+    "erased with zeros in the message alone",
+    "ruined with t + 1 zeros, some of them in the parity",
+    "repaired though it has 1 to t zeros",
+    "repaired with more than t zeros and at most 2t",
+    "t = 0 and at most 3 zeros",
+    "block 0 erased with metadata",
+    "erased from inside a byte on",
+    "page with blocks erased and blocks written",
+    "ruined block behind an erased one",
+    "only the first of several blocks ruined",
+    "only a block between others ruined",
+    "only the last of several blocks ruined",
+    "several blocks ruined, the first not",
+    "every one of several blocks ruined",
+    "erased block behind a ruined one",
+    "block with flips behind a ruined one",
+    "block with t = 0 behind a ruined one",
+    "ruined block beside counts of a wrong length",
+    "ruined block beside metadata or data of a wrong length",
+];
+
+const OF_BLOCK: usize = 11;
+const OF_PAGE: usize = 10;
+
+/// How often a call meets each edge: looking at a page and taking it count for each of its blocks, judging
+/// a block for that block. Where another length is wrong only that edge is met, and any other call and
+/// one that is refused otherwise meets none.
+pub fn edges(call: &Call) -> [usize; EDGES.len()] {
+    let mut met = [0; EDGES.len()];
+    let Some((layout, page, judged)) = decided(call) else {
+        return met;
+    };
+    let blocks = match judged {
+        Some(block) => block..block + 1,
+        None => 0..layout.blocks(),
+    };
+    let words: Vec<Vec<bool>> = blocks
+        .clone()
+        .map(|number| block_word(&layout, page, number))
+        .collect();
+    let found: Vec<Outcome> = blocks
+        .clone()
+        .zip(&words)
+        .map(|(number, word)| outcome(layout.block(number).code(), word))
+        .collect();
+    if let Some(edge) = wrong_length(call, &layout) {
+        met[edge] = found.contains(&Outcome::Ruined) as usize;
+        return met;
+    }
+    for ((number, word), found) in blocks.zip(&words).zip(&found) {
+        let block = block_edges(&layout, number, word, found);
+        met.iter_mut()
+            .zip(block)
+            .for_each(|(count, edge)| *count += edge as usize);
+    }
+    if judged.is_none() {
+        met[OF_BLOCK..]
+            .iter_mut()
+            .zip(page_edges(&layout, &found))
+            .for_each(|(count, edge)| *count = edge as usize);
+    }
+    met
+}
+
+/// The layout and the page of a call that decides blocks, and the block if it is one alone.
+fn decided(call: &Call) -> Option<(Layout, &[u8], Option<usize>)> {
+    let (record, page, judged) = match call {
+        Call::LookPage { record, page, .. } | Call::TakePage { record, page, .. } => {
+            (record, page, None)
+        }
+        Call::JudgeBlock {
+            record,
+            page,
+            block,
+        } => (record, page, Some(*block)),
+        _ => return None,
+    };
+    let layout = check_layout(record).ok()?;
+    let inside = judged.is_none_or(|block| block < layout.blocks() as u64);
+    let fits = inside && page.len() == layout.page_length;
+    fits.then_some((layout, page, judged.map(|block| block as usize)))
+}
+
+/// The edge that a wrong length beside the page may meet.
+fn wrong_length(call: &Call, layout: &Layout) -> Option<usize> {
+    let first = OF_BLOCK + OF_PAGE;
+    match call {
+        Call::LookPage { counts, .. } if counts.len() != layout.blocks() => Some(first),
+        Call::TakePage { metadata, data, .. }
+            if metadata.len() != layout.metadata_length || data.len() != layout.data_length() =>
+        {
+            Some(first + 1)
+        }
+        _ => None,
+    }
+}
+
+/// The edges that one block meets.
+fn block_edges(layout: &Layout, number: usize, word: &[bool], found: &Outcome) -> [bool; OF_BLOCK] {
+    let block = layout.block(number);
+    let (t, all) = (block.t(), zeros(word));
+    let in_message = zeros(&word[..block.message_bits]);
+    let erased = matches!(found, Outcome::Erased { .. });
+    let ruined = *found == Outcome::Ruined;
+    let repaired = matches!(found, Outcome::Repaired { .. }) && t > 0;
+    [
+        erased && all == 0,
+        erased && all == t,
+        ruined && all == t + 1,
+        erased && all > 0 && in_message == 0,
+        erased && all > 0 && in_message == all,
+        ruined && all == t + 1 && in_message < all,
+        repaired && (1..=t).contains(&all),
+        repaired && (t + 1..=2 * t).contains(&all),
+        t == 0 && all <= 3,
+        erased && number == 0 && layout.metadata_length > 0,
+        erased && layout.start(number) % 8 != 0,
+    ]
+}
+
+/// The edges that the blocks of a page meet together.
+fn page_edges(layout: &Layout, found: &[Outcome]) -> [bool; OF_PAGE] {
+    let last = found.len() - 1;
+    let numbers = |is: &dyn Fn(usize, &Outcome) -> bool| -> Vec<usize> {
+        (0..=last).filter(|&b| is(b, &found[b])).collect()
+    };
+    let has_ecc = |b: usize| layout.block(b).t() > 0;
+    let erased = numbers(&|_, found| matches!(found, Outcome::Erased { .. }));
+    let ruined = numbers(&|_, found| *found == Outcome::Ruined);
+    let written = numbers(&|b, found| matches!(found, Outcome::Repaired { .. }) && has_ecc(b));
+    let worn = numbers(&|_, found| matches!(found, Outcome::Repaired { flips: 1.., .. }));
+    let plain = numbers(&|b, _| !has_ecc(b));
+    let before = |some: &[usize], others: &[usize]| match (some.first(), others.last()) {
+        (Some(lowest), Some(highest)) => lowest < highest,
+        _ => false,
+    };
+    let alone = |b: usize| last > 0 && ruined == [b];
+    [
+        !erased.is_empty() && !written.is_empty() && !before(&erased, &ruined),
+        before(&erased, &ruined),
+        alone(0),
+        (1..last).any(alone),
+        alone(last),
+        ruined.len() > 1 && ruined[0] > 0,
+        last > 0 && ruined.len() == found.len(),
+        before(&ruined, &erased),
+        before(&ruined, &worn),
+        before(&ruined, &plain),
+    ]
+}

@@ -1,0 +1,152 @@
+//! Damage past the level (document 02, E14): a written block with t > 0 in which e bits flipped, e
+//! more than t and at most 2t, is ruined, or erased, or read with at least 2t + 1 - e flips.
+//!
+//! `cargo test --test worn -- --nocapture` prints how often each came: the table of docs/AUDIT.md.
+
+use model::code::{Code, bch, flip_exponents};
+use model::decoder::errors_of_word;
+use model::field::FieldChoice;
+use model::layout::Block;
+use model::outcome::{Outcome, outcome};
+use model::random::Random;
+use model::samples::erased::codeword_of_ones;
+
+/// Blocks for each level and field.
+const ROUNDS: usize = 1000;
+
+/// How often a damaged block was ruined, erased and read.
+#[derive(Debug, Default)]
+struct Tally {
+    ruined: usize,
+    erased: usize,
+    read: usize,
+    /// Of the blocks read, those with exactly 2t + 1 - e flips reported.
+    fewest: usize,
+}
+
+impl Tally {
+    /// Turns over these exponents of a codeword, and holds what becomes of it to the law.
+    fn add(&mut self, code: &Code, codeword: &[bool], exponents: &[usize]) {
+        let (t, e) = (code.t, exponents.len());
+        assert!(code.is_codeword(codeword) && t < e && e <= 2 * t);
+        let mut word = codeword.to_vec();
+        flip_exponents(&mut word, exponents);
+        match outcome(code, &word) {
+            Outcome::Ruined => self.ruined += 1,
+            Outcome::Erased { .. } => self.erased += 1,
+            Outcome::Repaired { flips, .. } => {
+                assert!(
+                    2 * t + 1 - e <= flips && flips <= t,
+                    "t {t}, e {e}, flips {flips}"
+                );
+                self.read += 1;
+                self.fewest += usize::from(flips == 2 * t + 1 - e);
+            }
+        }
+    }
+
+    fn sum(&self) -> usize {
+        self.ruined + self.erased + self.read
+    }
+
+    fn print(&self, name: &str) {
+        println!(
+            "{name} | {} | {} | {} | {} |",
+            self.sum(),
+            self.ruined,
+            self.erased,
+            self.read
+        );
+    }
+}
+
+fn written(code: &Code, message: &[bool]) -> Vec<bool> {
+    [message, &code.parity(message)[..]].concat()
+}
+
+fn past_level(t: usize, random: &mut Random) -> usize {
+    random.within(t + 1, 2 * t)
+}
+
+#[test]
+fn random_damage() {
+    let mut random = Random::new(14);
+    for (t, bytes) in [(2, 512), (4, 512), (8, 128), (16, 32), (40, 16)] {
+        for choice in FieldChoice::ALL {
+            let (code, mut tally) = (bch(choice, t), Tally::default());
+            for _ in 0..ROUNDS {
+                let codeword = written(code, &random.bits(8 * bytes));
+                let e = past_level(t, &mut random);
+                let exponents = random.distinct(e, codeword.len());
+                tally.add(code, &codeword, &exponents);
+            }
+            tally.print(&format!("| m = {}, t = {t}, random flips", code.field.m));
+            assert_eq!(tally.sum(), ROUNDS);
+        }
+    }
+}
+
+/// The exponents in which two codewords at the least distance 2t + 1 differ, if a guess meets one.
+fn least_distance(code: &Code, n: usize, random: &mut Random) -> Option<Vec<usize>> {
+    let guess = random.distinct(code.t + 1, n);
+    let mut word = vec![false; n];
+    flip_exponents(&mut word, &guess);
+    let rest = errors_of_word(code, &word)?;
+    let exponents = [guess, rest].concat();
+    (exponents.len() == 2 * code.t + 1).then_some(exponents)
+}
+
+/// Flips that lead from the written codeword towards one at the least distance: what is read then is
+/// that other one, with exactly 2t + 1 - e flips. Long blocks have such neighbours often enough.
+#[test]
+fn damage_towards_another_codeword() {
+    let mut random = Random::new(15);
+    for t in [2, 4] {
+        for choice in FieldChoice::ALL {
+            let (code, mut tally) = (bch(choice, t), Tally::default());
+            let n = code.field.order() - 7;
+            let mut between = vec![];
+            while between.len() < 4 {
+                between.extend(least_distance(code, n, &mut random));
+            }
+            for round in 0..ROUNDS {
+                let codeword = written(code, &random.bits(n - code.parity_length()));
+                let mut exponents = between[round % between.len()].clone();
+                random.shuffle(&mut exponents);
+                exponents.truncate(past_level(t, &mut random));
+                tally.add(code, &codeword, &exponents);
+            }
+            tally.print(&format!(
+                "| m = {}, t = {t}, towards another codeword",
+                code.field.m
+            ));
+            assert_eq!((tally.read, tally.fewest), (ROUNDS, ROUNDS));
+        }
+    }
+}
+
+/// Codewords of four zeros and else ones: where three or four of the zeros become ones, the block is
+/// erased unless another codeword is near.
+#[test]
+fn damage_towards_ones() {
+    let mut random = Random::new(16);
+    for choice in FieldChoice::ALL {
+        let block = Block {
+            message_bits: 4096,
+            choice,
+            level_field: 1,
+        };
+        let mut tally = Tally::default();
+        while tally.sum() < ROUNDS {
+            let Some(mut zeros) = codeword_of_ones(block, &mut random) else {
+                continue;
+            };
+            let mut codeword = vec![true; block.covered_bits()];
+            flip_exponents(&mut codeword, &zeros);
+            zeros.truncate(past_level(2, &mut random));
+            tally.add(block.code(), &codeword, &zeros);
+        }
+        tally.print(&format!("| m = {}, t = 2, towards ones", choice.field().m));
+        assert!(0 < tally.erased && tally.ruined == 0);
+    }
+}
