@@ -1,8 +1,9 @@
-// The stored powers of a for m = 13 (`scripts/powers.py` prints the table). One function names the table: each naming copies it whole.
+// The stored powers of a for m = 13 (`scripts/powers.py` prints them). One function names the table: each naming builds it whole.
 ghost use mathlib.Core.Path.{_≡_};
 ghost use lib.ListN.{length};
 ghost use Rattle.field.specs.declared.Field.the-variants.{Thirteen};
-ghost use Rattle.powers.specs.Powers.{Powers};
+ghost use Rattle.stored_tables.specs.Powers.{Powers};
+use stored_tables::copy_part;
 
 // Copies the stored powers to a lent table.
 pub fn copy_powers(powers: &mut [u16; 16384])
@@ -10,20 +11,7 @@ pub fn copy_powers(powers: &mut [u16; 16384])
     ensures { λ r. ⌜ Powers Thirteen (now (powers .exit)) ⌝ }
 {
     let table = POWERS;
-    copy(&table, powers);
-}
-
-// Copies a table of powers.
-fn copy(table: &[u16; 8191], powers: &mut [u16; 16384])
-    requires { ⌜ Powers Thirteen (now table) ⌝ }
-    requires { ⌜ length (now powers) ≡ 16384 ⌝ }
-    ensures { λ r. ⌜ Powers Thirteen (now (powers .exit)) ⌝ }
-{
-    let mut k: usize = 0;
-    while k < 8191 {
-        powers[k] = table[k];
-        k += 1;
-    }
+    copy_part(&table, 0, powers);
 }
 
 const POWERS: [u16; 8191] = [
