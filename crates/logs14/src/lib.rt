@@ -10,7 +10,7 @@ use stored_tables::place_one;
 // Copies the stored logarithms to a lent table, beside a table that begins with the power 1.
 pub fn copy_logs(powers: &[u16; 16384], logs: &mut [u16; 16384])
     requires { ⌜ (getD (now powers) 0 0 ≡ 1) × (length (now logs) ≡ 16384) ⌝ }
-    ensures { λ r. ⌜ Logs Fourteen (now (logs .exit)) ⌝ }
+    ensures { λ r. ⌜ (Logs Fourteen (now (logs .exit))) × (length (now (logs .exit)) ≡ 16384) ⌝ }
 {
     let first = LOGS_0;
     let second = LOGS_2048;

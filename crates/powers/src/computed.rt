@@ -10,7 +10,7 @@ ghost use Rattle.powers.specs.Begun.{Begun, Stride};
 // Computes the table of powers for m = 14.
 pub fn compute_powers(powers: &mut [u16; 16384])
     requires { ⌜ length (now powers) ≡ 16384 ⌝ }
-    ensures { λ r. ⌜ Powers Fourteen (now (powers .exit)) ⌝ }
+    ensures { λ r. ⌜ (Powers Fourteen (now (powers .exit))) × (length (now (powers .exit)) ≡ 16384) ⌝ }
 {
     first_powers(powers);
     more_powers(1, 14, 112, powers);

@@ -12,6 +12,7 @@ mod computed;
 pub fn fill_tables(f: Field, powers: &mut [u16; 16384], logs: &mut [u16; 16384])
     requires { ⌜ (length (now powers) ≡ 16384) × (length (now logs) ≡ 16384) ⌝ }
     ensures { λ r. ⌜ Tables f (now (powers .exit)) (now (logs .exit)) ⌝ }
+    ensures { λ r. ⌜ (length (now (powers .exit)) ≡ 16384) × (length (now (logs .exit)) ≡ 16384) ⌝ }
 {
     match f {
         Field::Thirteen => {

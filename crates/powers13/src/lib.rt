@@ -8,7 +8,7 @@ use stored_tables::copy_part;
 // Copies the stored powers to a lent table.
 pub fn copy_powers(powers: &mut [u16; 16384])
     requires { ⌜ length (now powers) ≡ 16384 ⌝ }
-    ensures { λ r. ⌜ Powers Thirteen (now (powers .exit)) ⌝ }
+    ensures { λ r. ⌜ (Powers Thirteen (now (powers .exit))) × (length (now (powers .exit)) ≡ 16384) ⌝ }
 {
     let table = POWERS;
     copy_part(&table, 0, powers);

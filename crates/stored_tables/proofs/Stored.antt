@@ -5,7 +5,7 @@ use mathlib.Core.List.{List}
 use Prim.Native.Nat.{ℕ, _^_, _≤_}
 use native.Mathlib.Omega.{arith}
 use lib.Dec.{T, lit<}
-use lib.ListN.{length, set}
+use lib.ListN.{length, set, length-set}
 use lib.Seq.{set-getD}
 use lib.Pow.{pow-pos}
 use Rattle.field.specs.declared.Field.{Field}
@@ -58,3 +58,6 @@ copied-logs {f} L e C = record {
 pub placed-logs : {f : Field} {l after : List ℕ} → Logs f l → after ≡ set l 1 0 → Logs f after
 unfolding pow
 placed-logs {f} {l} {after} L e = subst (Logs f) (sym (e ∙ ap (set l 1) (sym (L .at 0 (order-positive (primitive f)))) ∙ set-getD l 1 0)) L
+
+pub placed-size : {at : ℕ} {part before between after : List ℕ} → Copied at part before between → after ≡ set between 1 0 → length after ≡ length before
+placed-size {at} {part} {before} {between} C e = ap length e ∙ length-set between 1 0 ∙ C .size

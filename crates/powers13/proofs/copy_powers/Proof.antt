@@ -1,5 +1,5 @@
 -- `powers13::copy_powers` meets its contract: the table is tested here, once.
-use mathlib.Core.Path.{refl}
+use mathlib.Core.Path.{refl, _∙_}
 use native.Mathlib.Nat.{le-refl}
 use borrow.Author.Needs.{needs}
 use Rattle.field.specs.Field.{longest}
@@ -17,7 +17,8 @@ copy-part-requires c κs = search needs
 
 returns : tie.Need-returns
 unfolding longest chain fastX reduce
-returns c = copied-powers (tested-powers tt refl) (le-refl 8191) (c .copy-part .ensures)
+returns c =
+    (copied-powers (tested-powers tt refl) (le-refl 8191) (c .copy-part .ensures), c .copy-part .ensures .size ∙ c .before .before .before .pre)
 
 pub copy-powers-spec : {M : Type 1} → statement M
 copy-powers-spec = tie.close (tie.spec slice-aggregate-copy-part copy-part-requires returns)

@@ -17,7 +17,7 @@ more-powers-requires-2 c κs = (c .before .more-powers .ensures, stride-8, omega
 
 returns : tie.Need-returns
 unfolding longest
-returns c = begun-end (c .more-powers2 .ensures) (omega arith)
+returns c = (begun-end (c .more-powers2 .ensures) (omega arith), c .more-powers2 .ensures .size)
 
 pub compute-powers-spec : {M : Type 1} → statement M
 compute-powers-spec =

@@ -1,8 +1,8 @@
--- `page_decide::decide::decide_alone` meets its contract.
+-- `page_decide::decide::decide_lent` meets its contract.
 use borrow.Author.Needs.{needs}
 use Rattle.page_decide.proofs.Deciding.{remembers-nothing}
-use Rattle.page_decide.proofs.decide.decide_alone.Statement.{statement}
-use Rattle.page_decide.proofs.decide.decide_alone.Tie as tie
+use Rattle.page_decide.proofs.decide.decide_lent.Statement.{statement}
+use Rattle.page_decide.proofs.decide.decide_lent.Tie as tie
 
 block-shape-requires : tie.Need-block-shape-requires
 block-shape-requires c κs = search needs
@@ -19,13 +19,13 @@ decide-block-requires c κs =
     let f = n .before in
     let s = f .before .before .before in
     let p = s .before .before .pre in
-    ((p .0, p .1, remembers-nothing _ _ (n .nothing .ensures)), rw (s .block-shape .ensures) at (f .fill-tables .ensures))
+    ((p .0 .0, p .0 .1, remembers-nothing _ _ (n .nothing .ensures)), rw (s .block-shape .ensures) at (f .fill-tables .ensures .0))
 
 returns : tie.Need-returns
 returns c = search needs
 
-pub decide-alone-spec : {M : Type 1} → statement M
-decide-alone-spec =
+pub decide-lent-spec : {M : Type 1} → statement M
+decide-lent-spec =
     tie.close
     (tie.spec
     block-shape-requires
