@@ -2,6 +2,7 @@
 ghost use mathlib.Core.Path.{_≡_};
 ghost use mathlib.Core.Bool.{true, false};
 ghost use Prim.Native.Nat.{_*_, _^_, _<_};
+ghost use lib.ListN.{length};
 ghost use Rattle.field.specs.Field.{degree};
 ghost use Rattle.field.specs.Tables.{Tables};
 ghost use Rattle.bits.specs.Decides.{Decides};
@@ -115,18 +116,34 @@ pub fn decide_block(
     }
 }
 
-// Decides a damaged block by itself. The tables are here, since only a damaged block needs them.
-pub fn decide_alone(plan: Plan, page: &[u8], scan: Scan) -> Decided
+// Decides a damaged block by itself, with lent tables, which are filled for its field.
+pub fn decide_lent(
+    plan: Plan,
+    page: &[u8],
+    scan: Scan,
+    powers: &mut [u16; 16384],
+    logs: &mut [u16; 16384],
+) -> Decided
     requires { ⌜ (Ready plan (now page)) × (Left plan (now page) scan) ⌝ }
+    requires { ⌜ (length (now powers) ≡ 16384) × (length (now logs) ≡ 16384) ⌝ }
     ensures { λ r. ⌜ BlockDecided plan (now (page .entry)) (scan .block) r ⌝ }
+    ensures { λ r. ⌜ (length (now (powers .exit)) ≡ 16384) × (length (now (logs .exit)) ≡ 16384) ⌝ }
 {
     let block = scan.block;
     let shape = block_shape(plan, block);
     let f = shape.field;
+    fill_tables(f, powers, logs);
+    decide_block(plan, page, scan, nothing(), powers, logs)
+}
+
+// The same with tables of its own. They are here, since only a damaged block needs them.
+pub fn decide_alone(plan: Plan, page: &[u8], scan: Scan) -> Decided
+    requires { ⌜ (Ready plan (now page)) × (Left plan (now page) scan) ⌝ }
+    ensures { λ r. ⌜ BlockDecided plan (now (page .entry)) (scan .block) r ⌝ }
+{
     let mut powers = [0u16; 16384];
     let mut logs = [0u16; 16384];
-    fill_tables(f, &mut powers, &mut logs);
-    decide_block(plan, page, scan, nothing(), &powers, &logs)
+    decide_lent(plan, page, scan, &mut powers, &mut logs)
 }
 
 // Whether a damaged block is block 0 with another field than the later ones. From any other on, one field serves.

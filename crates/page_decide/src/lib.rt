@@ -7,6 +7,7 @@
 //   outcome::block_outcome    what becomes of a block, by its remainder: the exponents that repair it, or that there are none
 //   outcome::block_count      its count: how many exponents, 128 plus the zeros of an erased block, 255 of a ruined one
 //   decide::decide_block      decides a damaged block, with the tables of its field
+//   decide::decide_lent       the same by itself, with lent tables, which it fills
 //   decide::decide_alone      the same with tables of its own
 //
 // A block's outcome depends on its shape and its remainder. So what was decided last goes on with the calls: a later block with the

@@ -12,8 +12,8 @@ use page_decide::Decided;
 use page_decide::Scan;
 use page_decide::damaged::next_damaged;
 use page_decide::decide::apart;
-use page_decide::decide::decide_alone;
 use page_decide::decide::decide_block;
+use page_decide::decide::decide_lent;
 use page_decide::decide::nothing;
 use powers::fill_tables;
 
@@ -88,29 +88,63 @@ fn keep_from(
     Decision::Sound
 }
 
-// Decides the damaged blocks from `scan` on, which all have the field of the later blocks.
+// Decides the damaged blocks from `scan` on, which all have the field of the later blocks, with lent tables, which are filled for it.
 fn keep_alike(
     plan: Plan,
     page: &[u8],
     scan: Scan,
     table: &[u64],
+    powers: &mut [u16; 16384],
+    logs: &mut [u16; 16384],
     places: &mut [u16; 16384],
     flips: &mut [u8; 256],
 ) -> Decision
     requires { ⌜ Pending plan (now page) (now table) scan (now places) (now flips) ⌝ }
-    requires { ⌜ OneField plan (scan .block) ⌝ }
+    requires { ⌜ (OneField plan (scan .block)) × (length (now powers) ≡ 16384) × (length (now logs) ≡ 16384) ⌝ }
     ensures { λ r. ⌜ PageDecided plan (now (page .entry)) (now (places .exit)) (now (flips .exit)) r ⌝ }
 {
     let later = plan.later;
     let f = later.field;
-    let mut powers = [0u16; 16384];
-    let mut logs = [0u16; 16384];
-    fill_tables(f, &mut powers, &mut logs);
-    keep_from(plan, page, scan, table, &powers, &logs, places, flips)
+    fill_tables(f, powers, logs);
+    keep_from(plan, page, scan, table, powers, logs, places, flips)
+}
+
+// Decides the damaged blocks of a page with lent tables, which are filled for block 0 and for the later blocks in turn where their fields
+// differ: block 0 is then decided alone.
+fn keep_lent(
+    plan: Plan,
+    page: &[u8],
+    scan: Scan,
+    table: &[u64],
+    powers: &mut [u16; 16384],
+    logs: &mut [u16; 16384],
+    places: &mut [u16; 16384],
+    flips: &mut [u8; 256],
+) -> Decision
+    requires { ⌜ Pending plan (now page) (now table) scan (now places) (now flips) ⌝ }
+    requires { ⌜ (scan .block < plan .blocks) × (length (now powers) ≡ 16384) × (length (now logs) ≡ 16384) ⌝ }
+    ensures { λ r. ⌜ PageDecided plan (now (page .entry)) (now (places .exit)) (now (flips .exit)) r ⌝ }
+{
+    let own = apart(plan, scan);
+    if !own {
+        return keep_alike(plan, page, scan, table, powers, logs, places, flips);
+    }
+    let decided = decide_lent(plan, page, scan, powers, logs);
+    let count = decided.count;
+    if count == 255 {
+        return Decision::Ruined(0);
+    }
+    keep_block(decided, 0, places, flips);
+    let next = next_damaged(plan, page, table, 1);
+    let block = next.block;
+    if block == plan.blocks {
+        return Decision::Sound;
+    }
+    keep_alike(plan, page, next, table, powers, logs, places, flips)
 }
 
 // Decides the damaged blocks of a page, of which `scan` is the first, up to the first that is ruined; `table` is that of the later
-// blocks' generator. Block 0 is decided alone where it has another field than the later ones.
+// blocks' generator. The tables of powers and logarithms are here, one pair for all blocks, since only a damaged page needs them.
 pub fn keep_damaged(
     plan: Plan,
     page: &[u8],
@@ -123,20 +157,16 @@ pub fn keep_damaged(
     requires { ⌜ scan .block < plan .blocks ⌝ }
     ensures { λ r. ⌜ PageDecided plan (now (page .entry)) (now (places .exit)) (now (flips .exit)) r ⌝ }
 {
-    let own = apart(plan, scan);
-    if !own {
-        return keep_alike(plan, page, scan, table, places, flips);
-    }
-    let decided = decide_alone(plan, page, scan);
-    let count = decided.count;
-    if count == 255 {
-        return Decision::Ruined(0);
-    }
-    keep_block(decided, 0, places, flips);
-    let next = next_damaged(plan, page, table, 1);
-    let block = next.block;
-    if block == plan.blocks {
-        return Decision::Sound;
-    }
-    keep_alike(plan, page, next, table, places, flips)
+    let mut powers = [0u16; 16384];
+    let mut logs = [0u16; 16384];
+    keep_lent(
+        plan,
+        page,
+        scan,
+        table,
+        &mut powers,
+        &mut logs,
+        places,
+        flips,
+    )
 }

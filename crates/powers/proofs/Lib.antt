@@ -1,4 +1,3 @@
 -- The laws of filling tables.
-pub mod Chain
 pub mod Fill
-pub mod Eight
+pub mod Strides

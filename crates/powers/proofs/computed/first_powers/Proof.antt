@@ -7,17 +7,17 @@ use native.Mathlib.Omega.{arith}
 use lib.Pow.{pow-lt}
 use Rattle.field.specs.Field.{degree}
 use Rattle.field.specs.declared.Field.the-variants.{Fourteen}
-use Rattle.powers.specs.Powers.{Begun}
-use Rattle.powers.proofs.Fill.{begun-start, begun-next}
-use Rattle.powers.proofs.Eight.{power-small}
+use Rattle.powers.specs.Begun.{Begun}
+use Rattle.powers.proofs.Fill.{begun-start, begun-next, begun-less}
+use Rattle.powers.proofs.Strides.{power-small}
 use Rattle.powers.proofs.computed.first_powers.Statement.{statement}
 use Rattle.powers.proofs.computed.first_powers.Tie as tie
 
 abbrev Inv-loop : tie.InvT-loop
-Inv-loop powers₀ x₀ k₀ powers x k = (k ≤ 8) × Begun Fourteen k powers × (x ≡ 2 ^ k)
+Inv-loop powers₀ x₀ k₀ powers x k = (k ≤ 14) × Begun Fourteen k powers × (x ≡ 2 ^ k)
 
 abbrev μ-loop : tie.MeasureT-loop
-μ-loop powers₀ x₀ k₀ powers x k = 8 - k
+μ-loop powers₀ x₀ k₀ powers x k = 14 - k
 
 loop-holds : tie.Need-loop-holds Inv-loop μ-loop
 loop-holds c = (omega arith, begun-start _ (c .pre), refl)
@@ -30,7 +30,7 @@ element-write-powers c = omega arith
 
 mul-x : tie.Need-mul-x Inv-loop μ-loop
 mul-x c =
-    let small : 2 ^ c .before .loop .k < 2 ^ 8 = pow-lt (c .loop-test .taken) in
+    let small : 2 ^ c .before .loop .k < 2 ^ 14 = pow-lt (c .loop-test .taken) in
     omega (arith, c .before .loop .inv .2)
 
 add-k : tie.Need-add-k Inv-loop μ-loop
@@ -49,9 +49,7 @@ loop-again c =
     )
 
 returns : tie.Need-returns Inv-loop μ-loop
-returns c =
-    let i = c .before .loop .inv in
-    record { size = i .1 .size; at = λ j h. i .1 .at j (omega arith) }
+returns c = begun-less (c .before .loop .inv .1) (omega arith)
 
 pub first-powers-spec : {M : Type 1} → statement M
 first-powers-spec =
