@@ -73,6 +73,7 @@ pub fn layout_for(fields: Fields) -> Layout
         used: used,
         first: first,
         later: later,
+        mark: fields.mark,
     };
     Layout { plan: plan }
 }

@@ -1,0 +1,2 @@
+-- The laws of the bit stream around the mark.
+pub mod Places
