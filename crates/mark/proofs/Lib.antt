@@ -1,2 +1,3 @@
 -- The laws of the bit stream around the mark.
 pub mod Places
+pub mod Runs
