@@ -4,6 +4,7 @@
 -- fieldOf bit             the field that a GF bit chooses
 -- blockFields high low    level field, GF and data size, from the low half of a word, whose bytes are `high` and `low`
 -- markAt b8 b9 b10        mark offset and mark length
+-- markIn record           the mark of a record of eight or twelve bytes
 -- fieldsAt b0 .. b7 k z   the fields of eight bytes, with the mark k and the zero bits z
 -- fieldsIn record         the fields of a record of eight or twelve bytes
 -- layoutOf record         the layout of a record of eight or twelve bytes
@@ -49,11 +50,14 @@ fieldsAt b0 b1 b2 b3 b4 b5 b6 b7 k z = record {
 }
 
 -- bytes 8 to 11 are the third word; a byte that is not there counts as 0
+unfoldable pub markIn : List ℕ → Mark
+markIn rec = markAt (getD rec 8 0) (getD rec 9 0) (getD rec 10 0)
+
 unfoldable pub fieldsIn : List ℕ → Fields
 fieldsIn rec =
     fieldsAt (getD rec 0 0) (getD rec 1 0) (getD rec 2 0) (getD rec 3 0)
     (getD rec 4 0) (getD rec 5 0) (getD rec 6 0) (getD rec 7 0)
-    (markAt (getD rec 8 0) (getD rec 9 0) (getD rec 10 0)) (getD rec 11 0)
+    (markIn rec) (getD rec 11 0)
 
 unfoldable pub layoutOf : List ℕ → Layout
 layoutOf rec = layoutFor (fieldsIn rec)

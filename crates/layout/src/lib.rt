@@ -2,7 +2,7 @@
 //
 //   check_layout     is this layout acceptable? The layout, or the reason why not
 //   plan_of          the plan of a page under an accepted layout
-//   fields_of        the fields of a record of eight or twelve bytes, accepted or not
+//   fields_of        the fields of a record in twelve bytes, accepted or not
 //
 // check_layout takes the layout record as bytes of any length and asks nothing of its caller. The steps:
 // 1. words.rt takes the eight or twelve bytes apart into the fields of document 01 and the mark of document 02 (`Fields`).

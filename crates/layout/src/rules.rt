@@ -7,6 +7,7 @@ use crate::Plan;
 use crate::Reason;
 use crate::Rule;
 use crate::Shape;
+use crate::sums::page_room;
 ghost use mathlib.Core.Path.{_≡_};
 ghost use Rattle.layout.specs.Acceptance.{test, ofBlocks, levelRule, messageRule, lengthRule, markRule, roomRule, findingOf};
 ghost use Rattle.layout.specs.declared.Kind.the-variants.{First, Later};
@@ -101,14 +102,12 @@ pub fn mark_rule(fields: Fields) -> Finding
     )
 }
 
-// Reply 4, blocks that need more bits than the page has beside the mark. It is looked at after reply 11, so the mark is not longer.
+// Reply 4, blocks that need more bits than the page has beside the mark.
 pub fn room_rule(plan: Plan) -> Finding
     ensures { λ r. ⌜ r ≡ roomRule plan ⌝ }
 {
     let found = plan.used as u64;
-    let size = plan.size as u64;
-    let mark = plan.mark.length as u64;
-    let limit = if mark < size { 8 * (size - mark) } else { 0 };
+    let limit = page_room(plan);
     test(
         limit < found,
         Reason {

@@ -4,9 +4,10 @@ use crate::Fields;
 use field::Field;
 use mark::Mark;
 ghost use mathlib.Core.Path.{_≡_};
+ghost use Prim.Native.Nat.{_≤_};
 ghost use lib.ListN.{length, getD};
 ghost use mathlib.Core.Bool.{true};
-ghost use Rattle.layout.specs.Record.{fieldOf, blockFields, markAt, fieldsAt, fieldsIn};
+ghost use Rattle.layout.specs.Record.{fieldOf, blockFields, markAt, markIn, fieldsAt, fieldsIn};
 ghost use Rattle.layout.specs.Acceptance.{recordLength};
 
 // The field that a bit of a layout word chooses.
@@ -38,16 +39,6 @@ pub fn record_length(n: usize) -> bool
         return true;
     }
     n == 12
-}
-
-// A byte of a record; 0 where it ends before it.
-pub fn byte_or_zero(words: &[u8], i: usize) -> u8
-    ensures { λ r. ⌜ r ≡ getD (now (words .entry)) i 0 ⌝ }
-{
-    if i < words.len() {
-        return words[i];
-    }
-    0
 }
 
 // Mark offset and mark length.
@@ -86,16 +77,39 @@ pub fn fields_at(
     }
 }
 
+// The mark in a record of eight or twelve bytes.
+pub fn mark_in(words: &[u8]) -> Mark
+    requires { ⌜ recordLength (length (now words)) ≡ true ⌝ }
+    ensures { λ r. ⌜ r ≡ markIn (now (words .entry)) ⌝ }
+{
+    if words.len() == 8 {
+        return Mark {
+            offset: 0,
+            length: 0,
+        };
+    }
+    mark_at(words[8], words[9], words[10])
+}
+
+// The bits after the mark in a record of eight or twelve bytes.
+pub fn zeros_in(words: &[u8]) -> u8
+    requires { ⌜ recordLength (length (now words)) ≡ true ⌝ }
+    ensures { λ r. ⌜ r ≡ getD (now (words .entry)) 11 0 ⌝ }
+{
+    if words.len() == 8 {
+        return 0;
+    }
+    words[11]
+}
+
 // The fields in a record of eight or twelve bytes.
 pub fn fields_in(words: &[u8]) -> Fields
-    requires { ⌜ recordLength (length (now words)) ≡ true ⌝ }
+    requires right { ⌜ recordLength (length (now words)) ≡ true ⌝ }
+    requires long { ⌜ 8 ≤ length (now words) ⌝ }
     ensures { λ r. ⌜ r ≡ fieldsIn (now (words .entry)) ⌝ }
 {
-    let mark = mark_at(
-        byte_or_zero(words, 8),
-        byte_or_zero(words, 9),
-        byte_or_zero(words, 10),
-    );
+    let mark = mark_in(words);
+    let zeros = zeros_in(words);
     fields_at(
         words[0],
         words[1],
@@ -106,12 +120,12 @@ pub fn fields_in(words: &[u8]) -> Fields
         words[6],
         words[7],
         mark,
-        byte_or_zero(words, 11),
+        zeros,
     )
 }
 
-// The fields in eight bytes.
-pub fn fields_of(words: &[u8; 8]) -> Fields
+// The fields in twelve bytes: a record of three words, or of two and four zero bytes.
+pub fn fields_of(words: &[u8; 12]) -> Fields
     ensures { λ r. ⌜ r ≡ fieldsIn (now (words .entry)) ⌝ }
 {
     fields_in(words)
