@@ -47,8 +47,8 @@ fn put_stored(line: &mut [u8], at: usize, stored: Fields) -> usize {
     put_fields(line, page_at, later)
 }
 
-// The eight bytes of an accepted record.
-fn eight_bytes(words: &[u8]) -> [u8; 8] {
+// An accepted record in twelve bytes: a third word that is not there is 0.
+fn twelve_bytes(words: &[u8]) -> [u8; 12] {
     [
         vector_io::byte(words, 0, 0),
         vector_io::byte(words, 1, 0),
@@ -58,11 +58,15 @@ fn eight_bytes(words: &[u8]) -> [u8; 8] {
         vector_io::byte(words, 5, 0),
         vector_io::byte(words, 6, 0),
         vector_io::byte(words, 7, 0),
+        vector_io::byte(words, 8, 0),
+        vector_io::byte(words, 9, 0),
+        vector_io::byte(words, 10, 0),
+        vector_io::byte(words, 11, 0),
     ]
 }
 
 fn put_accepted(line: &mut [u8], at: usize, words: &[u8], layout: Layout) -> usize {
-    let stored_at = put_stored(line, at, layout::fields_of(&eight_bytes(words)));
+    let stored_at = put_stored(line, at, layout::fields_of(&twelve_bytes(words)));
     put_sums(line, stored_at, layout)
 }
 
@@ -95,6 +99,12 @@ fn layout_line(words: &[u8], line: &mut [u8]) -> usize {
     }
 }
 
+// A page bit in the mark shows 2 and 0.
+fn put_mark(line: &mut [u8], at: usize) -> usize {
+    let kind_at = vector_io::put_number(line, at, 2);
+    vector_io::put_number(line, kind_at, 0)
+}
+
 // A page bit in a block shows 1, its block and its exponent; one in the tail shows 0.
 fn put_bit(line: &mut [u8], at: usize, block: u64, exponent: u64) -> usize {
     let kind_at = vector_io::put_number(line, at, 1);
@@ -108,6 +118,7 @@ fn bit_line(words: &[u8], position: u64, line: &mut [u8]) -> usize {
     match answer {
         BitAnswer::InBlock { block, exponent } => put_bit(line, at, block, exponent),
         BitAnswer::Tail => vector_io::put_number(line, at, 0),
+        BitAnswer::Mark => put_mark(line, at),
         BitAnswer::Refused(_) => at,
     }
 }
