@@ -8,6 +8,7 @@ use native.Mathlib.Omega.{arith}
 use lib.ListN.{length, replicate, length-replicate}
 use Rattle.bits.specs.Bits.{bitOf}
 use Rattle.bits.proofs.Runs.{run-ext}
+use Rattle.mark.specs.Mark.{place, streamBit}
 use Rattle.layout.specs.declared.Plan.{Plan}
 use Rattle.layout.specs.Plan.{covered, start}
 use Rattle.code.specs.Word.{zeros}
@@ -17,6 +18,7 @@ use Rattle.page_theory.specs.Page.{blockWord}
 use Rattle.page_theory.specs.Reading.{RefusedAt, outcome}
 use Rattle.page_theory.specs.Damage.{Accepts}
 use Rattle.page_theory.specs.Calls.{lookOf, takeOf, judgeBy, judgeOf, Judged}
+use Rattle.page_theory.proofs.Blocks.{place-room}
 use Rattle.page_theory.proofs.Accepted.{accepts-valid, judge-accepted}
 use Rattle.page_theory.proofs.Zeros.{replicate-at}
 use Rattle.page_theory.proofs.Reading.{ruined-outcome}
@@ -26,12 +28,14 @@ use Rattle.page_theory.proofs.Demand3.{look-refused-only, look-otherwis
 module _ (rec : List ℕ) (q : Plan) (accepted : Accepts rec q) (page : List ℕ) (size : length page ≡ q .size)
     (blank : (p : ℕ) → p < 8 * q .size → bitOf page p ≡ true) where
   blank-zeros : (b : ℕ) → b < q .blocks → zeros (blockWord q page b) ≡ 0
-  unfolding blockWord
+  unfolding blockWord streamBit
   blank-zeros b l = ap zeros word ∙ zeros-none (covered q b)
     where
       word : blockWord q page b ≡ replicate (covered q b) true
-      word = run-ext (bitOf page) (start q b) (replicate (covered q b) true) (covered q b) true (length-replicate (covered q b) true)
-          (λ j k. blank (start q b + j) (omega (arith, accepts-valid rec q accepted .ends b l)) ∙ sym (replicate-at (covered q b) j true))
+      word = let v = accepts-valid rec q accepted in
+          run-ext (streamBit (q .mark) page) (start q b) (replicate (covered q b) true) (covered q b) true (length-replicate (covered q b) true)
+          (λ j k. blank (place (q .mark) (start q b + j)) (place-room q v (start q b + j) (omega (arith, v .ends b l)))
+          ∙ sym (replicate-at (covered q b) j true))
 
   blank-sound : (b : ℕ) → b < q .blocks → RefusedAt q page b → ⊥
   blank-sound b l h = omega (arith, h .many, blank-zeros b l)
