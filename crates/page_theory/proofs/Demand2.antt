@@ -1,9 +1,8 @@
 -- Demand 2. "A written page is the one that the layout words and the BCH definition in document 01 give, tail bits included.
 -- A page that is read gives, block by block, the message of a codeword at most t bit flips away, and the reported flips are
--- exactly that distance." Document 02, E7, leaves the mark out of the stream, and the written
--- page has there what was lent. Document 02, E1, adds the erased block: there is no such codeword, the covered bits hold at most t zeros,
+-- exactly that distance." Document 02, E1, adds the erased block: there is no such codeword, the covered bits hold at most t zeros,
 -- the message is all ones, and the count is 128 plus the zeros. Document 02, E6, parts reading: looking gives the counts, 255 for a ruined
--- block, and taking gives the messages.
+-- block, and taking gives the messages. Document 02, E7, leaves the mark out: a written page has there what the lent page held.
 use mathlib.Core.Path.{_≡_, refl, sym, ap, _∙_, subst}
 use mathlib.Core.Bool.{true, false}
 use mathlib.Core.List.{List, _++_}

@@ -1,12 +1,14 @@
--- The mark is left alone (document 02, E7): "Writing never touches them: the written page has there what the lent page held." And of a lent page of
--- the right length nothing but the mark goes into the written one.
+-- The mark is left alone (document 02, E7): "writing never touches them, so demand 2's page has there what the lent page held, and no answer
+-- depends on them". Of a lent page of the right length nothing but the mark goes into the written one, and nothing but the length into the reply.
+-- That the other calls do not depend on the mark is in Tail.
 use mathlib.Core.Path.{_≡_, refl, sym, ap, _∙_}
-use mathlib.Core.Bool.{Bool, true, false, true≢false}
+use mathlib.Core.Bool.{Bool, true, false, cond, true≢false}
 use mathlib.Core.List.{List, _++_}
 use Prim.Native.Nat.{ℕ, _+_, _*_, _/_, _≤_, _<_}
 use native.Mathlib.Omega.{arith}
 use native.Mathlib.Decide.{decLt}
 use lib.ListN.{length}
+use lib.Dec.{eqb}
 use Rattle.bits.specs.Bits.{bitAt, bitOf, number, Bytes}
 use Rattle.bits.proofs.Runs.{run-cong}
 use Rattle.bits.proofs.Pages.{byte-number, bytes-bytes, bytes-cong}
@@ -14,9 +16,13 @@ use Rattle.mark.specs.declared.Mark.{Mark}
 use Rattle.mark.specs.Mark.{marked}
 use Rattle.mark.proofs.Places.{marked-before, marked-after, marked-within}
 use Rattle.layout.specs.declared.Plan.{Plan}
+use Rattle.layout.specs.declared.Acceptance.{Acceptance}
+use Rattle.layout.specs.declared.Acceptance.the-variants.{Accepted, Refused}
+use Rattle.layout.specs.Plan.{planOf}
+use Rattle.layout.specs.Acceptance.{acceptance}
 use Rattle.page_theory.specs.Page.{pageBit, pageOf}
 use Rattle.page_theory.specs.Damage.{Accepts, Payload}
-use Rattle.page_theory.specs.Calls.{writeEnded, writeOf}
+use Rattle.page_theory.specs.Calls.{Written, writeEnded, writeReply, writeIn, writeFor, writeOf}
 use Rattle.page_theory.specs.Alike.{SameMark}
 use Rattle.page_theory.proofs.Blocks.{page-mark}
 use Rattle.page_theory.proofs.Accepted.{accepts-valid}
@@ -65,3 +71,26 @@ module _ (rec : List ℕ) (q : Plan) (accepted : Accepts rec q) (m d : List ℕ)
   write-alike lent other h k same =
       write-done rec q accepted m d lent payload h ∙ ap (writeEnded 0 0) (page-alike q (m ++ d) lent other same)
       ∙ sym (write-done rec q accepted m d other payload k)
+
+-- Under any record, and whatever is lent: the reply to writing has of the lent page only its length.
+module _ (m d lent other : List ℕ) (size : length lent ≡ length other) where
+  in-replied : (q : Plan) → (writeIn q m d lent .reply ≡ writeIn q m d other .reply) × (writeIn q m d lent .block ≡ writeIn q m d other .block)
+  unfolding writeIn
+  in-replied q = rw size (go (eqb (writeReply q (length m) (length d) (length other)) 0) (writeReply q (length m) (length d) (length other)))
+    where
+      after : (x : Bool) (r : ℕ) (written kept : List ℕ) → Written
+      after x r written kept = cond x (writeEnded 0 0 written) (writeEnded r 0 kept)
+
+      go : (x : Bool) (r : ℕ)
+          → (after x r (pageOf q lent (m ++ d)) lent .reply ≡ after x r (pageOf q other (m ++ d)) other .reply)
+          × (after x r (pageOf q lent (m ++ d)) lent .block ≡ after x r (pageOf q other (m ++ d)) other .block)
+      go true r = (refl, refl)
+      go false r = (refl, refl)
+
+  pub write-replied : (rec : List ℕ) → (writeOf rec m d lent .reply ≡ writeOf rec m d other .reply) × (writeOf rec m d lent .block ≡ writeOf rec m d other .block)
+  unfolding writeOf writeFor
+  write-replied rec = go (acceptance rec)
+    where
+      go : (a : Acceptance) → (writeFor a m d lent .reply ≡ writeFor a m d other .reply) × (writeFor a m d lent .block ≡ writeFor a m d other .block)
+      go (Accepted l) = in-replied (planOf l)
+      go (Refused r) = (refl, refl)
