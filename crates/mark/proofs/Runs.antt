@@ -58,6 +58,13 @@ module _ (k : Mark) (s n : ℕ) where
     | across h e ↦ place-after k (s + j) (omega arith)
   ]
 
+  -- where the second run starts, as code finds it
+  pub near-less : {a : ℕ} → a ≡ near k s n → (a ≡ n → ⊥) → a < n
+  near-less e ne = let l = near-le in omega arith
+
+  pub near-place : {a q : ℕ} → a ≡ near k s n → (a ≡ n → ⊥) → q ≡ place k (s + a) → q ≡ s + a + 8 * k .length
+  near-place {a} e ne eq = eq ∙ near-second a (omega arith) (near-less e ne)
+
   module _ (page : List ℕ) where
     -- two runs of page bits
     pub run-split : {a : ℕ} → a ≡ near k s n
