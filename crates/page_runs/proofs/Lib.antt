@@ -1,3 +1,4 @@
 -- The laws of what is done with the two runs of page bits of a run of the stream.
 pub mod Parts
 pub mod Division
+pub mod Zeros
