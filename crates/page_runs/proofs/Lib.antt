@@ -2,3 +2,4 @@
 pub mod Parts
 pub mod Division
 pub mod Zeros
+pub mod Copies
