@@ -1,9 +1,8 @@
 -- `page_runs::divide::parity_in` meets its contract.
 use native.Mathlib.Omega.{arith}
 use borrow.Author.Needs.{needs}
-use Rattle.code.proofs.Remainder.{remainder-below}
 use Rattle.mark.proofs.Runs.{near-less, near-place}
-use Rattle.page_runs.proofs.Division.{parity-before, parity-none, parity-after, parity-parts}
+use Rattle.page_runs.proofs.Division.{parity-before, parity-none, parity-below, parity-after, parity-parts}
 use Rattle.page_runs.proofs.divide.parity_in.Statement.{statement}
 use Rattle.page_runs.proofs.divide.parity_in.Tie as tie
 
@@ -65,7 +64,9 @@ parity-more-requires c κs =
     let a = x .before .before .before .before in
     let l = near-less _ _ _ (x .before .near .ensures) (x .if1 .left) in
     let i = near-place _ _ _ (x .before .near .ensures) (x .if1 .left) (c .before .before .before .place .ensures) in
-    (a .pre .0, omega arith, rw (c .before .parity-of3 .ensures) (remainder-below (a .args .f) (a .args .t) _ (a .pre .0 .level)), omega arith)
+    let b = parity-below (a .args .f) (a .args .t) (a .args .mark) (a .args .page .now) (a .args .at) (a .args .n) (x .before .near .ensures)
+    (a .pre .0 .level) (c .before .parity-of3 .ensures) in
+    (a .pre .0, omega arith, b, omega arith)
 
 returns-4 : tie.Need-returns-4
 returns-4 c =
