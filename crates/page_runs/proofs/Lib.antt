@@ -3,3 +3,4 @@ pub mod Parts
 pub mod Division
 pub mod Zeros
 pub mod Copies
+pub mod Puts
