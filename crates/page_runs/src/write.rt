@@ -3,10 +3,11 @@ ghost use mathlib.Core.Path.{_≡_};
 ghost use mathlib.Core.List.{_++_};
 ghost use Prim.Native.Nat.{_≤_, _<_};
 ghost use lib.ListN.{length};
-ghost use Rattle.bits.specs.Bits.{bitOf, run, digits, Inside};
+ghost use Rattle.bits.specs.Bits.{bitOf, run, ones, digits, Inside};
 ghost use Rattle.mark.specs.Mark.{put, InStream};
 ghost use Rattle.code.specs.Register.{register};
 use bit_writing::copy::copy_bits;
+use bit_writing::fill;
 use mark::Mark;
 use mark::near;
 use mark::place;
@@ -65,4 +66,19 @@ pub fn put_parity(state: Register, degree: usize, mark: Mark, page: &mut [u8], p
     let mut word = [0u8; 112];
     place_parity(state, degree, &mut word, 0);
     put_word(&word, mark, page, position, degree);
+}
+
+// Writes n ones from a position of the stream on.
+pub fn fill_ones(mark: Mark, page: &mut [u8], position: usize, n: usize)
+    requires { ⌜ InStream mark (now page) position n ⌝ }
+    ensures { λ r. ⌜ now (page .exit) ≡ put mark (now (page .entry)) position (ones n) ⌝ }
+{
+    let first = near(mark, position, n);
+    if first == n {
+        fill::fill_ones(page, position, n);
+        return;
+    }
+    let beyond = place(mark, position + first);
+    fill::fill_ones(page, position, first);
+    fill::fill_ones(page, beyond, n - first);
 }
