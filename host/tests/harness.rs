@@ -1,7 +1,7 @@
 //! The comparison finds nothing against the model itself, provokes every reply, meets every edge of the
-//! rules for erased and ruined blocks, and finds faulty libraries out.
+//! rules for erased and ruined blocks and for marks, and finds faulty libraries out.
 
-use model::bits::{bit, flip};
+use model::bits::put;
 use model::call::POSSIBLE;
 use model::check_layout;
 use model::compare::Comparison;
@@ -124,11 +124,9 @@ fn without_ruined(record: &[u8], page: &[u8]) -> Vec<u8> {
     let layout = check_layout(record).unwrap();
     let mut page = page.to_vec();
     for (block, count) in counts_of(record, &page).into_iter().enumerate() {
-        let positions = layout.start(block)..layout.start(block + 1);
+        let positions = layout.block_places(block).into_iter();
         for position in positions.filter(|_| count == RUINED) {
-            if bit(&page, position) {
-                flip(&mut page, position);
-            }
+            put(&mut page, position, false);
         }
     }
     page
@@ -159,8 +157,8 @@ impl Library for Faulty {
         match self.fault {
             Fault::NothingWritten => page.copy_from_slice(&held),
             Fault::TailOfZeros if answer == 0 => {
-                let used = check_layout(record).unwrap().used_bits();
-                (used..8 * page.len()).for_each(|position| flip(page, position));
+                let tail = check_layout(record).unwrap().tail_places();
+                tail.for_each(|position| put(page, position, false));
             }
             _ => (),
         }
@@ -327,11 +325,13 @@ impl Library for Faulty {
     }
 }
 
-/// The faults of a list that a comparison of one kind of calls does not find.
+/// The faults of a list that three rounds of a comparison of one kind of calls do not find.
 fn not_found(faults: &[Fault], compare: fn(&mut Comparison) -> bool) -> Vec<Fault> {
     let found_out = |fault: Fault| {
         let looked = Cell::new(0);
-        compare(&mut Comparison::new(&Faulty { fault, looked }, 12))
+        let faulty = Faulty { fault, looked };
+        let mut comparison = Comparison::new(&faulty, 12);
+        (0..3).any(|_| compare(&mut comparison))
     };
     let faults = faults.iter().copied();
     faults.filter(|&fault| !found_out(fault)).collect()

@@ -1,7 +1,7 @@
 //! Vectors of layouts and page bits: kinds `L`, `P` and `B`.
 
 use crate::{Answer, Vectors};
-use model::layout::{Layout, LayoutWords};
+use model::layout::{Layout, LayoutRecord};
 use model::random::Random;
 use model::samples::layouts::{CASE_A, CASE_E, HUGE, code_bits, positions, records};
 use model::{BitPlace, Reply, bit_position, check_layout, locate_bit};
@@ -46,11 +46,11 @@ fn head(kind: u8, record: &[u8], first: u64, second: u64) -> Vec<u8> {
 }
 
 fn layout_answer(record: &[u8]) -> Answer {
-    let Ok(eight) = record.try_into() else {
+    let Some(record) = LayoutRecord::unpack(record) else {
         return Reply::BufferLength.into();
     };
-    let words = LayoutWords::unpack(eight);
-    let layout = Layout::from(words);
+    let words = record.words;
+    let layout = Layout::from(record);
     if let Some(reason) = layout.reason() {
         return Answer::from(reason.reply)
             .with(reason.part as u8)
@@ -71,6 +71,8 @@ fn layout_answer(record: &[u8]) -> Answer {
         .with(layout.later.map_or(0, |later| later.covered_bits()))
         .with(layout.used_bits())
         .with(layout.data_length())
+        .with(layout.mark.offset)
+        .with(layout.mark.length)
 }
 
 fn add_position(vectors: &mut Vectors, record: &[u8], position: u64) {
@@ -79,6 +81,7 @@ fn add_position(vectors: &mut Vectors, record: &[u8], position: u64) {
             Answer::done().with(1).with(block).with(exponent)
         }
         Ok(BitPlace::Tail) => Answer::done().with(0),
+        Ok(BitPlace::Mark) => Answer::done().with(2),
         Err(refusal) => refusal.into(),
     };
     vectors.add(&head(b'P', record, position, 0), answer);
