@@ -9,7 +9,8 @@ use model::{BitPlace, Reply, bit_position, check_layout, locate_bit};
 pub fn vectors() -> Vectors {
     let mut vectors = Vectors::default();
     let mut random = Random::new(0x1A40);
-    let records = records(&mut random);
+    let mut records = records(&mut random);
+    records.retain(|record| record.len() <= RECORD_PLACES);
     for record in &records {
         vectors.add(&head(b'L', record, 0, 0), layout_answer(record));
     }
@@ -23,7 +24,10 @@ pub fn vectors() -> Vectors {
         add_code_bit(&mut vectors, record, first, second);
     }
     let some = (0..60).map(|i| accepted[i * accepted.len() / 60].clone());
-    for record in some.chain([CASE_A.pack().to_vec(), CASE_E.pack().to_vec()]) {
+    let marked = accepted.iter().filter(|record| record.len() == 12);
+    let marked: Vec<Vec<u8>> = marked.step_by(4).cloned().collect();
+    let cases = [CASE_A.pack().to_vec(), CASE_E.pack().to_vec()];
+    for record in some.chain(marked).chain(cases) {
         let layout = check_layout(&record).unwrap();
         for position in positions(&layout, &mut random) {
             add_position(&mut vectors, &record, position);
@@ -34,6 +38,9 @@ pub fn vectors() -> Vectors {
     }
     vectors
 }
+
+/// The places for a record in the head of a vector.
+const RECORD_PLACES: usize = 12;
 
 /// The head of a vector: kind, record and two numbers.
 fn head(kind: u8, record: &[u8], first: u64, second: u64) -> Vec<u8> {
