@@ -57,7 +57,7 @@ impl<'a> Comparison<'a> {
         self.keeping = true;
     }
 
-    /// One round of calls of every kind, some 18,000.
+    /// One round of calls of every kind, some 19,000.
     pub fn round(&mut self) -> Result<(), Box<Difference>> {
         self.layouts()?;
         self.remainders()?;

@@ -17,9 +17,23 @@ pub enum Reply {
 }
 
 /// How many numbers there are, 0 included.
-pub const NUMBERS: usize = 12;
+pub const NUMBERS: usize = Reply::ALL.len() + 1;
 
 impl Reply {
+    pub const ALL: [Reply; 11] = [
+        Reply::LevelTooHigh,
+        Reply::EmptyMessage,
+        Reply::BlockTooLong,
+        Reply::PageTooSmall,
+        Reply::PageLength,
+        Reply::BufferLength,
+        Reply::OutOfRange,
+        Reply::RemainderTooWide,
+        Reply::Uncorrectable,
+        Reply::ClaimWrong,
+        Reply::MarkOutside,
+    ];
+
     /// Of two replies that apply the one with the smaller precedence is given: the smaller number, but that
     /// 11 is looked at after 3 and before 4.
     pub fn precedence(self) -> u8 {
