@@ -153,27 +153,16 @@ fn a_page_of_mark_and_tail_is_refused() {
 /// 1, 2 and 3 are looked at before 11, and 11 before 4; whatever else is wrong comes after.
 #[test]
 fn precedence_of_marks() {
-    let outside = |words| reply(&record(words, 0xFFFF, 255, 0xFF));
-    let level = LayoutWords {
-        eccn: 0x15,
-        ..CASE_E
+    let refused_by = |word0: u32, word1: u32, third: u32| {
+        let words = [word0, word1, third];
+        reply(&words.map(u32::to_be_bytes).concat())
     };
-    let empty = LayoutWords {
-        data0_size: 0,
-        ..CASE_E
-    };
-    let long = LayoutWords {
-        datan_size: 1023,
-        ..CASE_E
-    };
-    let small = LayoutWords {
-        page_size: 0,
-        ..CASE_E
-    };
-    assert_eq!([level, empty, long, small].map(outside), [1, 2, 3, 11]);
-    assert_eq!(reply(&small.pack()), 4);
-    assert_eq!(reply(&record(small, 0, 0, 1)), 11);
-    assert_eq!(reply(&record(small, 0, 0, 0)), 4);
+    assert_eq!(refused_by(0x0100_0801, 0x000F_A801, !0), 1);
+    assert_eq!(refused_by(0x0100_0800, 0x000F_0801, !0), 2);
+    assert_eq!(refused_by(0x0100_0801, 0x000F_0BFF, !0), 3);
+    assert_eq!(refused_by(0x0100_0801, 0x0000_0801, !0), 11);
+    assert_eq!(refused_by(0x0100_0801, 0x0000_0801, 1), 11);
+    assert_eq!(refused_by(0x0100_0801, 0x0000_0801, 0), 4);
 
     let wrong = record(CASE_E, 16, 0, 0);
     let refused = Refusal::from(Reply::MarkOutside);
