@@ -223,14 +223,14 @@ impl Layout {
         first..first + 8 * self.mark.length as usize
     }
 
-    /// The page positions of the bit stream in order: the page without the mark's bytes. Where the mark lies
-    /// in the page.
+    /// The page positions of the bit stream in order: the page without the mark's bytes. It is asked for only
+    /// where the mark lies in the page.
     pub fn stream(&self) -> impl Iterator<Item = usize> + use<> {
         let mark = self.mark_places();
         (0..mark.start).chain(mark.end..8 * self.page_length)
     }
 
-    /// How many bits the stream has.
+    /// How many bits the stream has; none where the mark is longer than the page.
     pub fn stream_bits(&self) -> usize {
         8 * self.page_length.saturating_sub(self.mark.length as usize)
     }

@@ -46,7 +46,7 @@ fn byte_of_stream(layout: &Layout, random: &mut Random) -> usize {
 }
 
 /// A third word that is refused: a mark that ends just outside the page or far from it, or zero bits that are not
-/// zero.
+/// zero. On the largest page one of length 0 has no place outside, and is accepted.
 pub fn outside(page_size: u16, random: &mut Random) -> MarkWord {
     let length = random.pick(&[0, 1, 2, 255]);
     let after = page_size.saturating_sub(length as u16).saturating_add(1);
@@ -62,8 +62,8 @@ pub fn outside(page_size: u16, random: &mut Random) -> MarkWord {
     }
 }
 
-/// Records with a third word: accepted ones with marks at every edge; such as need a page as large as the mark
-/// is long; marks just inside a page and just outside; and words from the edges with marks that are refused.
+/// Records with a third word: accepted words with marks at every edge, and with marks for which the page has no
+/// room; words of these with a mark of length 0 at PAGE_SIZE, or with one that is refused.
 pub fn records(words: &[LayoutWords], random: &mut Random) -> Vec<Vec<u8>> {
     let mut records = Vec::new();
     for _ in 0..60 {
