@@ -1,9 +1,7 @@
 -- `page_write::write::write_parity` meets its contract.
-use Prim.Native.Nat.{_+_, _*_}
-use mathlib.Core.Path.{_≡_, refl, _∙_, ap}
+use mathlib.Core.Path.{refl, _∙_, ap}
 use native.Mathlib.Omega.{arith}
 use Rattle.mark.specs.Mark.{put}
-use Rattle.field.specs.Field.{degree}
 use Rattle.remainder.proofs.Fold.{parity-bits-below, parity-digits}
 use Rattle.page_write.proofs.Writing.{parity-none}
 use borrow.Author.Needs.{needs}

@@ -1,5 +1,5 @@
 -- `roundtrip::mask::ones_at` meets its contract. The loop's invariant: the count is that of the bits passed.
-use Prim.Native.Nat.{_+_, _-_, _≤_}
+use Prim.Native.Nat.{_-_, _≤_}
 use mathlib.Core.Path.{_≡_}
 use native.Mathlib.Omega.{arith}
 use borrow.Author.Needs.{needs}
