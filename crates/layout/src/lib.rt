@@ -24,6 +24,7 @@ use mark::Mark;
 pub use sums::block_covered;
 pub use sums::block_shape;
 pub use sums::block_start;
+pub use sums::page_room;
 pub use sums::plan_of;
 pub use words::fields_of;
 ghost use mathlib.Core.Path.{_≡_};
