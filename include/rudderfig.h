@@ -14,14 +14,15 @@
  *
  * Every call returns one uint64_t:
  *
- *     bits 0 to 7      the reply: 0 done, 1 to 10 the reason of a refusal (enum rudderfig_reply_number)
+ *     bits 0 to 7      the reply: 0 done, 1 to 11 the reason of a refusal (enum rudderfig_reply_number)
  *     bits 8 to 23     the block that the reply is about: 0 except in reply 9 about a page
- *     bits 24 to 31    the kind of an answer: 0, except for a page bit in the tail
+ *     bits 24 to 31    the kind of an answer: 0, except for a page bit in the tail or in the mark
  *     bits 32 to 63    the value of an answer
  *
  * On a refusal kind and value are 0, and every lent buffer is byte for byte as it was, but for the counts of rudderfig_look_page that replies 9:
- * document 02, E6, has amended document 01 so in this one case. Of several reasons the smallest number is given; only a field choice that is not
- * offered (7) comes before everything else, and the length of a layout record (6) before what the record says.
+ * document 02, E6, has amended document 01 so in this one case. Of several reasons the smallest number is given, but 11 is looked at after 3 and
+ * before 4; only a field choice that is not offered (7) comes before everything else, and the length of a layout record (6) before what the record
+ * says.
  *
  *
  * What is lent
@@ -32,9 +33,12 @@
  * calls: there are no variables outside the stack and no heap, so calls may run at the same time on different buffers.
  * Numbers are taken at 64 bits and never cut: a block number of 2^32 is out of range.
  *
- * A layout record is two 32-bit words in eight bytes, word 0 first, each most significant byte first.
+ * A layout record is two 32-bit words in eight bytes, or three in twelve, word 0 first, each most significant byte first. The third word tells where
+ * the factory's bad-block mark stands in the page: its offset (16 bits) and its length (8 bits), both in bytes, and eight zero bits. Eight bytes mean
+ * offset 0 and length 0, no mark. The blocks and the tail run through the page without the mark's bytes, which no call writes and no answer depends on.
  * A page has PAGE_SIZE bytes, metadata META_SIZE, data 4 * (DATA0_SIZE + NBLOCKS * DATAN_SIZE), counts NBLOCKS + 1.
- * Position p of a page is byte p / 8, bit 7 - p % 8. A block of n bits has the coefficient of x^(n-1) first; exponents run from n - 1 down to 0.
+ * Position p of a page, the mark's bytes counted too, is byte p / 8, bit 7 - p % 8. A block of n bits has the coefficient of x^(n-1) first; exponents
+ * run from n - 1 down to 0.
  *
  *
  * What an archive needs
@@ -78,13 +82,14 @@ enum rudderfig_reply_number {
     RUDDERFIG_LEVEL_TOO_HIGH = 1,      /* a level field above 0x14; for fragments, one that the locator does not have */
     RUDDERFIG_EMPTY_MESSAGE = 2,       /* a block with an empty message; a remainder of a code with no message */
     RUDDERFIG_BLOCK_TOO_LONG = 3,      /* a block with t > 0 longer than 2^m - 1 bits */
-    RUDDERFIG_PAGE_TOO_SMALL = 4,      /* the blocks need more than 8 * PAGE_SIZE bits */
+    RUDDERFIG_PAGE_TOO_SMALL = 4,      /* the blocks need more than 8 * (PAGE_SIZE - mark length) bits */
     RUDDERFIG_PAGE_LENGTH = 5,         /* the lent page has another length than PAGE_SIZE */
     RUDDERFIG_BUFFER_LENGTH = 6,       /* another lent buffer has a wrong length */
     RUDDERFIG_OUT_OF_RANGE = 7,        /* a block number, page bit, exponent or field choice outside its range */
     RUDDERFIG_REMAINDER_TOO_WIDE = 8,  /* a remainder, or fragments, with a one above bit mt - 1 */
     RUDDERFIG_UNCORRECTABLE = 9,       /* no codeword within t flips, and not erased; for a page the lowest such block is named */
-    RUDDERFIG_CLAIM_WRONG = 10         /* the claimed locations are wrong */
+    RUDDERFIG_CLAIM_WRONG = 10,        /* the claimed locations are wrong */
+    RUDDERFIG_MARK_OUTSIDE = 11        /* mark offset plus mark length beyond PAGE_SIZE, or the record's zero bits not zero */
 };
 
 /*
@@ -116,8 +121,9 @@ static inline unsigned rudderfig_block(uint64_t answer) { return RUDDERFIG_CAST(
 static inline unsigned rudderfig_kind(uint64_t answer) { return RUDDERFIG_CAST(unsigned, answer >> 24 & 0xFF); }
 static inline uint32_t rudderfig_value(uint64_t answer) { return RUDDERFIG_CAST(uint32_t, answer >> 32); }
 
-/* What rudderfig_locate_bit answers of a page bit: in the tail, or else its block and its exponent there. */
+/* What rudderfig_locate_bit answers of a page bit: in the tail, in the mark, or else its block and its exponent there. */
 static inline int rudderfig_in_tail(uint64_t answer) { return rudderfig_kind(answer) == 1; }
+static inline int rudderfig_in_mark(uint64_t answer) { return rudderfig_kind(answer) == 2; }
 static inline unsigned rudderfig_located_block(uint64_t answer) { return rudderfig_value(answer) >> 16; }
 static inline unsigned rudderfig_located_exponent(uint64_t answer) { return rudderfig_value(answer) & 0xFFFF; }
 
@@ -135,27 +141,28 @@ static inline int rudderfig_is_erased(uint32_t count) { return count >= 128 && c
 static inline unsigned rudderfig_zeros(uint32_t count) { return rudderfig_is_erased(count) ? count - 128 : 0; }
 
 /*
- * Is this layout acceptable? Reads the record. Replies 0 to 4 and 6; no value.
+ * Is this layout acceptable? Reads the record. Replies 0 to 4, 6 and 11; no value.
  */
 uint64_t rudderfig_check_layout(const uint8_t *record, rudderfig_length record_len);
 
 /*
  * Where does the page bit at `position` belong? Reads the record.
- * Kind 0: a covered bit, the value is located block << 16 | exponent. Kind 1: in the tail after the last block, the value is 0.
- * Replies 0 to 4, 6, and 7 for a position of 8 * PAGE_SIZE or more.
+ * Kind 0: a covered bit, the value is located block << 16 | exponent. Kind 1: in the tail after the last block, the value is 0. Kind 2: in the mark,
+ * the value is 0. Replies 0 to 4, 6, 11, and 7 for a position of 8 * PAGE_SIZE or more.
  */
 uint64_t rudderfig_locate_bit(const uint8_t *record, rudderfig_length record_len, uint64_t position);
 
 /*
- * Where does the coefficient of x^exponent of a block lie? Reads the record. The value is the position.
- * Replies 0 to 4, 6, and 7 for a block that the layout does not have or an exponent of the block's length or more.
+ * Where does the coefficient of x^exponent of a block lie? Reads the record. The value is the position in the page.
+ * Replies 0 to 4, 6, 11, and 7 for a block that the layout does not have or an exponent of the block's length or more.
  */
 uint64_t rudderfig_bit_position(const uint8_t *record, rudderfig_length record_len,
                                 uint64_t block, uint64_t exponent);
 
 /*
- * Writes a page: every block with its parity, the tail bits as ones. Reads record, metadata and data; writes all of `page`, and only on reply 0.
- * Replies 0 to 6; no value.
+ * Writes a page: every block with its parity, the tail bits as ones. Reads record, metadata and data; writes all of `page` but the mark's bytes, and
+ * only on reply 0. The mark's bytes keep what they held: to leave the factory's mark in flash as it is, lend a page that has it there, as read from
+ * the chip, or bytes of 0xFF, which program nothing. Replies 0 to 6 and 11; no value.
  */
 uint64_t rudderfig_write_page(const uint8_t *record, rudderfig_length record_len,
                               const uint8_t *metadata, rudderfig_length metadata_len,
@@ -165,8 +172,8 @@ uint64_t rudderfig_write_page(const uint8_t *record, rudderfig_length record_len
 /*
  * Looks at a page: one count a block, before anything is taken. Reads record and page; writes all of `counts`, on reply 0 and on reply 9. counts[b] is
  * the number of covered bits, data or parity, in which block b and the codeword within t flips of it differ; 128 plus its zeros where the block is
- * erased; 255 where it is ruined. Replies 0 to 6, and 9 with the lowest ruined block: the one refusal of this header that writes, the counts of all
- * blocks, those behind a ruined one too. 1 to 6 write nothing. A page of all ones is never refused. No value.
+ * erased; 255 where it is ruined. Replies 0 to 6, 11, and 9 with the lowest ruined block: the one refusal of this header that writes, the counts of
+ * all blocks, those behind a ruined one too. 1 to 6 and 11 write nothing. A page of all ones is never refused. No value.
  */
 uint64_t rudderfig_look_page(const uint8_t *record, rudderfig_length record_len,
                              const uint8_t *page, rudderfig_length page_len,
@@ -174,8 +181,8 @@ uint64_t rudderfig_look_page(const uint8_t *record, rudderfig_length record_len,
 
 /*
  * Takes metadata and data out of a page: of each block the message of the codeword within t flips of it, or bytes of 0xFF where it is erased. Reads
- * record and page; writes all of `metadata` and `data`, and only on reply 0, once every block is decided. Replies 0 to 6, and 9 with the lowest ruined
- * block, as looking at the same page does; no value. A look need not come before it.
+ * record and page; writes all of `metadata` and `data`, and only on reply 0, once every block is decided. Replies 0 to 6, 11, and 9 with the lowest
+ * ruined block, as looking at the same page does; no value. A look need not come before it.
  */
 uint64_t rudderfig_take_page(const uint8_t *record, rudderfig_length record_len,
                              const uint8_t *page, rudderfig_length page_len,
@@ -184,7 +191,7 @@ uint64_t rudderfig_take_page(const uint8_t *record, rudderfig_length record_len,
 
 /*
  * Judges one block of a page. Reads record and page, of the page no other bits than the block's; writes nothing. The value is the count that looking
- * at the page gives for it: its flips, or 128 plus its zeros. Replies 0 to 6, 7 for a block that the layout does not have, and 9, with that block and
+ * at the page gives for it: its flips, or 128 plus its zeros. Replies 0 to 6, 11, 7 for a block that the layout does not have, and 9, with that block and
  * no value, where it is ruined.
  */
 uint64_t rudderfig_judge_block(const uint8_t *record, rudderfig_length record_len,
@@ -205,7 +212,7 @@ uint64_t rudderfig_locate_errors(uint64_t level_field, uint64_t field_choice, ui
 /*
  * Are these error locations of a block right? Accepted if they are distinct, each below the block's length, at most t, and flipping them gives a
  * codeword; they may stand in any order. So no claim on an erased block is right. Reads record, page and claims; writes nothing.
- * Replies 0 to 6, 7 for a block that the layout does not have, and 10; no value.
+ * Replies 0 to 6, 11, 7 for a block that the layout does not have, and 10; no value.
  */
 uint64_t rudderfig_check_claim(const uint8_t *record, rudderfig_length record_len,
                                const uint8_t *page, rudderfig_length page_len,

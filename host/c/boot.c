@@ -1,7 +1,8 @@
 /*
  * The library as a boot loader has it: freestanding, with no C library, on a stack of its own that is as large as the header says, on x86-64, AArch64,
  * ARMv7-A and RISC-V. Writes a page of two blocks (case E of document 01), damages it, looks at it and takes it, then ruins it, takes a message in
- * pieces, and reads an erased page. The exit status is 0 where every byte is as it should be, and else the number of the first step that was not.
+ * pieces, reads an erased page, and writes and reads one around a factory's mark. The exit status is 0 where every byte is as it should be, and else
+ * the number of the first step that was not.
  */
 #include "rudderfig.h"
 
@@ -130,6 +131,28 @@ static int erased_is_not_ruined(void)
     return refused(page, 1, 128, RUDDERFIG_RUINED);
 }
 
+/* The page with a mark of two bytes where block 0 ends and block 1 starts: the writer leaves it alone, and the reader does not mind what it holds. */
+static int mark_is_left_alone(void)
+{
+    static const uint8_t marked[12] = {0x01, 0x00, 0x08, 0x01, 0x00, 0x11, 0x08, 0x01, 0x00, 0x07, 0x02, 0x00};
+    uint8_t page[17], data[8], counts[2];
+
+    memset(page, 0x3C, sizeof page);
+    if (rudderfig_write_page(marked, sizeof marked, NULL, 0, payload, sizeof payload, page, sizeof page) != RUDDERFIG_DONE)
+        return 0;
+    if (!same(page, written, 7) || page[7] != 0x3C || page[8] != 0x3C || !same(page + 9, written + 7, 8))
+        return 0;
+    if (!rudderfig_in_mark(rudderfig_locate_bit(marked, sizeof marked, 71)) || rudderfig_in_mark(rudderfig_locate_bit(marked, sizeof marked, 72)))
+        return 0;
+    page[7] = 0x00;
+    page[9] ^= 0x10;
+    if (rudderfig_look_page(marked, sizeof marked, page, sizeof page, counts, 2) != RUDDERFIG_DONE || counts[0] != 0 || counts[1] != 1)
+        return 0;
+    if (rudderfig_take_page(marked, sizeof marked, page, sizeof page, NULL, 0, data, sizeof data) != RUDDERFIG_DONE)
+        return 0;
+    return same(data, payload, sizeof data);
+}
+
 static int boot(void)
 {
     uint8_t page[15], data[8], counts[2];
@@ -167,7 +190,9 @@ static int boot(void)
         return 9;
     if (!pieces_finish())
         return 10;
-    return erased_is_not_ruined() ? 0 : 11;
+    if (!erased_is_not_ruined())
+        return 11;
+    return mark_is_left_alone() ? 0 : 12;
 }
 
 /* A stack of the size that the header names and what this program itself uses, between two filled areas that the calls must leave alone. */
@@ -278,5 +303,5 @@ int start(void)
     step = boot_on_own_stack(stack + sizeof stack - AROUND);
     if (step != 0)
         return step;
-    return untouched(stack) && untouched(stack + sizeof stack - AROUND) ? 0 : 12;
+    return untouched(stack) && untouched(stack + sizeof stack - AROUND) ? 0 : 13;
 }

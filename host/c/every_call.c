@@ -1,8 +1,8 @@
 /*
  * Every call of rudderfig.h, with answers that another order of its arguments would change. A page of two blocks, each corrected up to 2 flips, is
- * written from 2 bytes of metadata and 8 of data, worn, looked at, taken, judged, claimed and ruined; an erased page is looked at, taken and judged; a
- * remainder is located and handed to a hardware locator; a message is taken in one piece. The program is C99 and C++. The exit status is 0 where every answer and every byte is as it
- * should be; else the first line that was not is printed.
+ * written from 2 bytes of metadata and 8 of data, worn, looked at, taken, judged, claimed and ruined; an erased page is looked at, taken and judged;
+ * each call about a page is made around a factory's mark; a remainder is located and handed to a hardware locator; a message is taken in one piece.
+ * The program is C99 and C++. The exit status is 0 where every answer and every byte is as it should be; else the first line that was not is printed.
  */
 #include <stdio.h>
 #include <string.h>
@@ -32,7 +32,7 @@ static int layouts(void)
     CHECK(rudderfig_check_layout(record, RECORD - 1) == RUDDERFIG_BUFFER_LENGTH);
 
     answer = rudderfig_locate_bit(record, RECORD, 75);
-    CHECK(rudderfig_reply(answer) == RUDDERFIG_DONE && !rudderfig_in_tail(answer));
+    CHECK(rudderfig_reply(answer) == RUDDERFIG_DONE && !rudderfig_in_tail(answer) && !rudderfig_in_mark(answer));
     CHECK(rudderfig_located_block(answer) == 1 && rudderfig_located_exponent(answer) == 56);
     CHECK(rudderfig_in_tail(rudderfig_locate_bit(record, RECORD, 132)));
 
@@ -114,6 +114,64 @@ static int erased(void)
     return 0;
 }
 
+/* The same layout with a mark of two bytes behind the first byte of the metadata. */
+enum { MARKED_RECORD = 12, MARK = 2, MARKED_PAGE = PAGE + MARK };
+
+static const uint8_t marked_record[MARKED_RECORD] = {0x01, 0x02, 0x08, 0x01, 0x00, MARKED_PAGE, 0x08, 0x01, 0x00, 0x01, MARK, 0x00};
+
+/* The bits around the mark, and records that are refused: of another length, too small a page beside the mark, a mark outside, zero bits not zero. */
+static int marked_layouts(void)
+{
+    uint8_t wrong[MARKED_RECORD];
+    uint64_t answer;
+
+    CHECK(rudderfig_check_layout(marked_record, MARKED_RECORD) == RUDDERFIG_DONE);
+    CHECK(rudderfig_check_layout(marked_record, MARKED_RECORD - 1) == RUDDERFIG_BUFFER_LENGTH);
+    memcpy(wrong, marked_record, MARKED_RECORD);
+    wrong[5] = PAGE;
+    CHECK(rudderfig_check_layout(wrong, MARKED_RECORD) == RUDDERFIG_PAGE_TOO_SMALL);
+    wrong[9] = PAGE;
+    CHECK(rudderfig_check_layout(wrong, MARKED_RECORD) == RUDDERFIG_MARK_OUTSIDE);
+    memcpy(wrong, marked_record, MARKED_RECORD);
+    wrong[11] = 0x01;
+    CHECK(rudderfig_check_layout(wrong, MARKED_RECORD) == RUDDERFIG_MARK_OUTSIDE);
+
+    answer = rudderfig_locate_bit(marked_record, MARKED_RECORD, 8);
+    CHECK(rudderfig_reply(answer) == RUDDERFIG_DONE && rudderfig_in_mark(answer) && !rudderfig_in_tail(answer) && rudderfig_value(answer) == 0);
+    CHECK(rudderfig_in_mark(rudderfig_locate_bit(marked_record, MARKED_RECORD, 23)));
+    answer = rudderfig_locate_bit(marked_record, MARKED_RECORD, 91);
+    CHECK(rudderfig_kind(answer) == 0 && rudderfig_located_block(answer) == 1 && rudderfig_located_exponent(answer) == 56);
+    CHECK(rudderfig_value(rudderfig_bit_position(marked_record, MARKED_RECORD, 1, 56)) == 91);
+    answer = rudderfig_locate_bit(marked_record, MARKED_RECORD, 148);
+    CHECK(rudderfig_in_tail(answer) && !rudderfig_in_mark(answer));
+    return 0;
+}
+
+/* Around the mark the page is the one without it. The mark keeps what was lent, and whatever it holds afterwards, the page is read alike. */
+static int marked_pages(void)
+{
+    static const uint16_t right[1] = {72};
+    uint8_t plain[PAGE], page[MARKED_PAGE], metadata_taken[METADATA] = {0, 0}, data_taken[DATA] = {0}, counts[COUNTS] = {9, 9};
+    uint64_t answer;
+
+    memset(plain, 0, PAGE);
+    memset(page, 0x77, MARKED_PAGE);
+    CHECK(rudderfig_write_page(record, RECORD, metadata, METADATA, data, DATA, plain, PAGE) == RUDDERFIG_DONE);
+    CHECK(rudderfig_write_page(marked_record, MARKED_RECORD, metadata, METADATA, data, DATA, page, MARKED_PAGE) == RUDDERFIG_DONE);
+    CHECK(page[0] == plain[0] && page[1] == 0x77 && page[2] == 0x77 && memcmp(page + 1 + MARK, plain + 1, PAGE - 1) == 0);
+
+    page[0] = page[0] ^ 0x40;
+    page[1] = 0x00;
+    page[2] = 0xFF;
+    CHECK(rudderfig_look_page(marked_record, MARKED_RECORD, page, MARKED_PAGE, counts, COUNTS) == RUDDERFIG_DONE);
+    CHECK(counts[0] == 1 && counts[1] == 0);
+    answer = rudderfig_take_page(marked_record, MARKED_RECORD, page, MARKED_PAGE, metadata_taken, METADATA, data_taken, DATA);
+    CHECK(answer == RUDDERFIG_DONE && memcmp(metadata_taken, metadata, METADATA) == 0 && memcmp(data_taken, data, DATA) == 0);
+    CHECK(rudderfig_value(rudderfig_judge_block(marked_record, MARKED_RECORD, page, MARKED_PAGE, 0)) == 1);
+    CHECK(rudderfig_check_claim(marked_record, MARKED_RECORD, page, MARKED_PAGE, 0, right, 1) == RUDDERFIG_DONE);
+    return 0;
+}
+
 /* x^9 + x^3 with t = 4 and m = 14; for the hardware locator x^33 + x^3 with t = 8. */
 static int remainders(void)
 {
@@ -162,7 +220,7 @@ static int pieces(void)
 
 int main(void)
 {
-    if (layouts() || pages() || erased() || remainders() || pieces())
+    if (layouts() || pages() || erased() || marked_layouts() || marked_pages() || remainders() || pieces())
         return 1;
     printf("every call of version %s answers as it should\n", RUDDERFIG_VERSION);
     return 0;

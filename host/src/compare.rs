@@ -3,12 +3,14 @@
 use crate::call::{Call, KINDS};
 use crate::field::FieldChoice;
 use crate::guarded::GuardBroken;
-use crate::layout::{LayoutWords, check_layout};
+use crate::layout::{LayoutRecord, check_layout};
 use crate::library::{Library, Model};
 use crate::random::Random;
+use crate::reply::NUMBERS;
 use crate::samples::erased::edge_layouts;
 use crate::samples::fragments::{round_trips, spoilt as spoilt_fragments};
 use crate::samples::layouts::{CASE_A, accepted_words, code_bits, positions, records};
+use crate::samples::marks::marked;
 use crate::samples::pages::{WrittenPage, damage_tail, spoil};
 use crate::samples::pieces::{Message, random_state, spoilt as spoilt_pieces};
 use crate::samples::remainders::{document_cases, random_remainder, spoilt, sums};
@@ -21,7 +23,7 @@ pub struct Comparison<'a> {
     /// The calls before and after with their answers, if they are kept.
     pub seen: Vec<Seen>,
     /// How many calls of each kind got each reply, in the order of the kinds of [`Call`].
-    pub replies: [[usize; 11]; KINDS],
+    pub replies: [[usize; NUMBERS]; KINDS],
 }
 
 /// A call, its answer, and the call with what it left in its buffers.
@@ -44,7 +46,7 @@ impl<'a> Comparison<'a> {
         Comparison {
             library,
             random: Random::new(seed),
-            replies: [[0; 11]; KINDS],
+            replies: [[0; NUMBERS]; KINDS],
             seen: Vec::new(),
             keeping: false,
         }
@@ -55,7 +57,7 @@ impl<'a> Comparison<'a> {
         self.keeping = true;
     }
 
-    /// One round of calls of every kind, some 18,000.
+    /// One round of calls of every kind, some 19,000.
     pub fn round(&mut self) -> Result<(), Box<Difference>> {
         self.layouts()?;
         self.remainders()?;
@@ -186,12 +188,12 @@ impl<'a> Comparison<'a> {
     /// Pages of many layouts, most of them small.
     pub fn pages(&mut self) -> Result<(), Box<Difference>> {
         let layouts = page_layouts(&mut self.random);
-        layouts.into_iter().try_for_each(|words| self.page(words))
+        layouts.into_iter().try_for_each(|record| self.page(record))
     }
 
     /// Calls about one page: each by itself, some spoilt, then several on the same buffers.
-    fn page(&mut self, words: LayoutWords) -> Result<(), Box<Difference>> {
-        let written = WrittenPage::new(words, &mut self.random);
+    fn page(&mut self, record: LayoutRecord) -> Result<(), Box<Difference>> {
+        let written = WrittenPage::new(record, &mut self.random);
         for call in written.calls(&mut self.random) {
             let mut spoilt = call.clone();
             self.perform_filled(call)?;
@@ -235,26 +237,30 @@ impl<'a> Comparison<'a> {
     }
 }
 
-/// The layouts of one round's pages.
-fn page_layouts(random: &mut Random) -> Vec<LayoutWords> {
-    let mut layouts = Vec::new();
+/// The layouts of one round's pages, one in four with a mark.
+fn page_layouts(random: &mut Random) -> Vec<LayoutRecord> {
+    let mut plain = Vec::new();
     for most_page_bytes in [20, 40, 70, 120, 250, 600] {
-        layouts.extend((0..20).map(|_| accepted_words(random, most_page_bytes)));
+        plain.extend((0..20).map(|_| accepted_words(random, most_page_bytes)));
     }
-    layouts.extend([edge_layouts(); 5].concat());
-    layouts.push(accepted_words(random, 5000));
-    layouts.push(CASE_A);
-    layouts.push(edge_words(random));
+    plain.extend([edge_layouts(); 5].concat());
+    plain.push(accepted_words(random, 5000));
+    plain.push(CASE_A);
+    let mut layouts: Vec<LayoutRecord> = plain.iter().map(|&words| words.into()).collect();
+    for &words in plain.iter().skip(2).step_by(3) {
+        layouts.push(marked(words, random));
+    }
+    layouts.push(edge_record(random));
     layouts
 }
 
-/// Accepted words from the edges: the longest blocks, the most blocks, the largest pages.
-fn edge_words(random: &mut Random) -> LayoutWords {
+/// An accepted record from the edges: the longest blocks, the most blocks, the largest pages.
+fn edge_record(random: &mut Random) -> LayoutRecord {
     let records = records(random);
     loop {
         let record = &records[random.below(records.len())];
         if check_layout(record).is_ok() {
-            return LayoutWords::unpack(record.as_slice().try_into().unwrap());
+            return LayoutRecord::unpack(record).unwrap();
         }
     }
 }

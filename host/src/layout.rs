@@ -1,8 +1,10 @@
-//! Layout words, the lengths and places of blocks, and Bits in both directions (document 01).
+//! Layout records, the lengths and places of blocks, and Bits in both directions (document 01; document 02,
+//! E7).
 
 use crate::code::{Code, bch};
 use crate::field::FieldChoice;
 use crate::reply::{Refusal, Reply, refuse_by};
+use std::ops::Range;
 
 /// The highest level field; t is twice the field.
 pub const HIGHEST_LEVEL_FIELD: u64 = 0x14;
@@ -46,6 +48,62 @@ impl LayoutWords {
             | block(self.ecc0, self.gf0, self.data0_size);
         let word1 = (self.page_size as u32) << 16 | block(self.eccn, self.gfn, self.datan_size);
         ((word0 as u64) << 32 | word1 as u64).to_be_bytes()
+    }
+}
+
+/// The third word of a record of twelve bytes: where the factory's bad-block mark stands, in bytes, and
+/// eight bits that are to be zero.
+#[derive(Clone, Copy, Debug, Default, PartialEq, Eq)]
+pub struct MarkWord {
+    pub offset: u16,
+    pub length: u8,
+    pub zero_bits: u8,
+}
+
+impl MarkWord {
+    fn unpack([high, low, length, zero_bits]: [u8; 4]) -> MarkWord {
+        MarkWord {
+            offset: u16::from_be_bytes([high, low]),
+            length,
+            zero_bits,
+        }
+    }
+
+    fn pack(&self) -> [u8; 4] {
+        let word = (self.offset as u32) << 16 | (self.length as u32) << 8 | self.zero_bits as u32;
+        word.to_be_bytes()
+    }
+}
+
+/// A layout record: the two words in eight bytes, or three in twelve.
+#[derive(Clone, Copy, Debug, PartialEq, Eq)]
+pub struct LayoutRecord {
+    pub words: LayoutWords,
+    pub mark: Option<MarkWord>,
+}
+
+impl LayoutRecord {
+    /// Takes a record apart; none of another length.
+    pub fn unpack(record: &[u8]) -> Option<LayoutRecord> {
+        let (words, third) = record.split_first_chunk()?;
+        let mark = match third {
+            [] => None,
+            third => Some(MarkWord::unpack(third.try_into().ok()?)),
+        };
+        let words = LayoutWords::unpack(words);
+        Some(LayoutRecord { words, mark })
+    }
+
+    pub fn pack(&self) -> Vec<u8> {
+        let mut record = self.words.pack().to_vec();
+        record.extend(self.mark.iter().flat_map(MarkWord::pack));
+        record
+    }
+}
+
+impl From<LayoutWords> for LayoutRecord {
+    fn from(words: LayoutWords) -> LayoutRecord {
+        LayoutRecord { words, mark: None }
     }
 }
 
@@ -95,7 +153,8 @@ impl Block {
     }
 }
 
-/// The blocks of a page. `later` is none where NBLOCKS is 0.
+/// The blocks of a page. `later` is none where NBLOCKS is 0. Where the record has no third word the mark
+/// has offset 0 and length 0.
 #[derive(Clone, Copy, Debug)]
 pub struct Layout {
     pub later_blocks: usize,
@@ -103,10 +162,11 @@ pub struct Layout {
     pub page_length: usize,
     pub block0: Block,
     pub later: Option<Block>,
+    pub mark: MarkWord,
 }
 
-impl From<LayoutWords> for Layout {
-    fn from(words: LayoutWords) -> Layout {
+impl From<LayoutRecord> for Layout {
+    fn from(LayoutRecord { words, mark }: LayoutRecord) -> Layout {
         let metadata_length = words.meta_size as usize;
         let message0 = metadata_length + 4 * words.data0_size as usize;
         let later = Block::new(4 * words.datan_size as usize, words.gfn, words.eccn);
@@ -116,7 +176,14 @@ impl From<LayoutWords> for Layout {
             page_length: words.page_size as usize,
             block0: Block::new(message0, words.gf0, words.ecc0),
             later: (words.nblocks > 0).then_some(later),
+            mark: mark.unwrap_or_default(),
         }
+    }
+}
+
+impl From<LayoutWords> for Layout {
+    fn from(words: LayoutWords) -> Layout {
+        LayoutRecord::from(words).into()
     }
 }
 
@@ -150,19 +217,66 @@ impl Layout {
         message_bits / 8 - self.metadata_length
     }
 
-    /// The rule that refuses the layout, if one does: the smallest reply, and block 0 first.
+    /// The page positions of the mark's bits.
+    pub fn mark_places(&self) -> Range<usize> {
+        let first = 8 * self.mark.offset as usize;
+        first..first + 8 * self.mark.length as usize
+    }
+
+    /// The page positions of the bit stream in order: the page without the mark's bytes. It is asked for only
+    /// where the mark lies in the page.
+    pub fn stream(&self) -> impl Iterator<Item = usize> + use<> {
+        let mark = self.mark_places();
+        (0..mark.start).chain(mark.end..8 * self.page_length)
+    }
+
+    /// How many bits the stream has; none where the mark is longer than the page.
+    pub fn stream_bits(&self) -> usize {
+        8 * self.page_length.saturating_sub(self.mark.length as usize)
+    }
+
+    /// The page positions of a block's covered bits, the highest exponent first.
+    pub fn block_places(&self, number: usize) -> Vec<usize> {
+        let n = self.block(number).covered_bits();
+        self.stream().skip(self.start(number)).take(n).collect()
+    }
+
+    /// The page position of a block's coefficient of x^exponent.
+    pub fn code_place(&self, number: usize, exponent: usize) -> usize {
+        let position = self.start(number + 1) - 1 - exponent;
+        self.stream().nth(position).unwrap()
+    }
+
+    /// The page positions after the last block, the mark left out.
+    pub fn tail_places(&self) -> impl Iterator<Item = usize> + use<> {
+        self.stream().skip(self.used_bits())
+    }
+
+    /// The rules about the mark, each with whether it is broken.
+    fn mark_rules(&self) -> [(bool, Reason); 2] {
+        let sum = self.mark.offset as usize + self.mark.length as usize;
+        let zero_bits = self.mark.zero_bits as usize;
+        let outside = |found, limit| Reason::new(Reply::MarkOutside, Part::Page, found, limit);
+        [
+            (sum > self.page_length, outside(sum, self.page_length)),
+            (zero_bits != 0, outside(zero_bits, 0)),
+        ]
+    }
+
+    /// The rule that refuses the layout, if one does: the reply that is looked at first, and block 0 first.
     pub fn reason(&self) -> Option<Reason> {
         let mut rules = self.block0.rules(Part::Block0).to_vec();
         if let Some(later) = self.later {
             rules.extend(later.rules(Part::LaterBlock));
         }
-        let (needed, allowed) = (self.used_bits(), 8 * self.page_length);
+        rules.extend(self.mark_rules());
+        let (needed, allowed) = (self.used_bits(), self.stream_bits());
         let too_small = Reason::new(Reply::PageTooSmall, Part::Page, needed, allowed);
         rules.push((needed > allowed, too_small));
         rules
             .into_iter()
             .filter_map(|(broken, reason)| broken.then_some(reason))
-            .min_by_key(|reason| reason.reply)
+            .min_by_key(|reason| reason.reply.precedence())
     }
 }
 
@@ -194,21 +308,23 @@ impl Reason {
     }
 }
 
-/// Is this layout acceptable? The record is the two layout words, most significant byte first.
+/// Is this layout acceptable? The record is the two layout words, and the mark's where there is a third, most
+/// significant byte first.
 pub fn check_layout(record: &[u8]) -> Result<Layout, Refusal> {
-    let record: &[u8; 8] = record.try_into().map_err(|_| Reply::BufferLength)?;
-    let layout = Layout::from(LayoutWords::unpack(record));
+    let record = LayoutRecord::unpack(record).ok_or(Reply::BufferLength)?;
+    let layout = Layout::from(record);
     match layout.reason() {
         Some(reason) => Err(reason.reply.into()),
         None => Ok(layout),
     }
 }
 
-/// What a page bit is: a block's coefficient of x^exponent, or of the tail.
+/// What a page bit is: a block's coefficient of x^exponent, or of the tail, or of the mark.
 #[derive(Clone, Copy, Debug, PartialEq, Eq)]
 pub enum BitPlace {
     Covered { block: usize, exponent: usize },
     Tail,
+    Mark,
 }
 
 /// Where does a page bit belong?
@@ -216,12 +332,17 @@ pub fn locate_bit(record: &[u8], position: u64) -> Result<BitPlace, Refusal> {
     let layout = check_layout(record)?;
     refuse_by(&[(Reply::OutOfRange, position >= 8 * layout.page_length as u64)])?;
     let position = position as usize;
-    let covering = (0..layout.blocks()).find(|&b| position < layout.start(b + 1));
+    let mark = layout.mark_places();
+    if mark.contains(&position) {
+        return Ok(BitPlace::Mark);
+    }
+    let in_stream = position - mark.filter(|&marked| marked < position).count();
+    let covering = (0..layout.blocks()).find(|&b| in_stream < layout.start(b + 1));
     Ok(match covering {
         None => BitPlace::Tail,
         Some(block) => BitPlace::Covered {
             block,
-            exponent: layout.start(block + 1) - 1 - position,
+            exponent: layout.start(block + 1) - 1 - in_stream,
         },
     })
 }
@@ -233,5 +354,5 @@ pub fn bit_position(record: &[u8], block: u64, exponent: u64) -> Result<usize, R
     let block = block as usize;
     let n = layout.block(block).covered_bits();
     refuse_by(&[(Reply::OutOfRange, exponent >= n as u64)])?;
-    Ok(layout.start(block) + n - 1 - exponent as usize)
+    Ok(layout.code_place(block, exponent as usize))
 }

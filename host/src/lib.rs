@@ -1,11 +1,12 @@
-//! A model of document 01 in plain Rust: layout words, page bits, the BCH codes over GF(2^13) and
+//! A model of document 01 in plain Rust: layout records, page bits, the BCH codes over GF(2^13) and
 //! GF(2^14), writing pages and reading them, locating from a remainder and checking claims.
 //!
 //! The model is the yardstick of the tests, so it follows the paper's definitions and is not fast.
 //! A word is a vector of bits, highest power first. The calls of document 01 are
 //!
 //! - [`check_layout`]: is this layout acceptable?
-//! - [`locate_bit`], [`bit_position`]: page bit to block and exponent, and back;
+//! - [`locate_bit`], [`bit_position`]: page bit to block and exponent, tail or mark, and back (document 02, E7,
+//!   has the bit stream leave the factory's mark out);
 //! - [`write_page`]: payload to page;
 //! - [`look_page`], [`take_page`]: page to one count a block, and page to payload (document 02, E6, makes
 //!   two calls of reading);

@@ -13,7 +13,7 @@ use crate::reply::Refusal;
 pub trait Library {
     fn check_layout(&self, record: &[u8]) -> u64;
 
-    /// Kind 0 is a covered bit, with the block times 2^16 plus the exponent; kind 1 is the tail.
+    /// Kind 0 is a covered bit, with the block times 2^16 plus the exponent; kind 1 is the tail, kind 2 the mark.
     fn locate_bit(&self, record: &[u8], position: u64) -> u64;
 
     /// The value is the position.
@@ -71,6 +71,7 @@ impl Library for Model {
         answer(locate_bit(record, position).map(|place| match place {
             BitPlace::Covered { block, exponent } => (0, block << 16 | exponent),
             BitPlace::Tail => (1, 0),
+            BitPlace::Mark => (2, 0),
         }))
     }
 

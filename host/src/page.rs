@@ -1,13 +1,14 @@
 //! Writing pages, looking at them, taking their payload, judging blocks and checking claims (document 01;
-//! document 02, E1 and E6).
+//! document 02, E1, E6 and E7).
 
-use crate::bits::{bit, bits_of, bytes_of};
+use crate::bits::{bit, bits_of, bytes_of, put};
 use crate::code::flip_exponents;
 use crate::layout::{Layout, check_layout};
 use crate::outcome::{Outcome, outcome};
 use crate::reply::{Refusal, Reply, refuse_by};
 
-/// Writes the page of a payload: each block's message and parity, then a tail of ones.
+/// Writes the page of a payload: each block's message and parity, then a tail of ones. The mark keeps what the
+/// page held.
 pub fn write_page(
     record: &[u8],
     metadata: &[u8],
@@ -26,8 +27,10 @@ pub fn write_page(
         stream.extend(block.code().parity(message));
         messages = rest;
     }
-    stream.resize(8 * layout.page_length, true);
-    page.copy_from_slice(&bytes_of(&stream));
+    stream.resize(layout.stream_bits(), true);
+    for (position, value) in layout.stream().zip(stream) {
+        put(page, position, value);
+    }
     Ok(())
 }
 
@@ -140,7 +143,6 @@ pub fn check_claim(record: &[u8], page: &[u8], block: u64, claims: &[u16]) -> Re
 
 /// The covered bits of a block, as a word.
 pub fn block_word(layout: &Layout, page: &[u8], number: usize) -> Vec<bool> {
-    (layout.start(number)..layout.start(number + 1))
-        .map(|position| bit(page, position))
-        .collect()
+    let places = layout.block_places(number).into_iter();
+    places.map(|position| bit(page, position)).collect()
 }

@@ -1,7 +1,7 @@
-//! The replies of document 01 and their precedence.
+//! The replies of document 01, and of document 02, E7, and their precedence.
 
 /// The replies that refuse a call. Reply 0, done, is `Ok`.
-#[derive(Clone, Copy, Debug, PartialEq, Eq, PartialOrd, Ord)]
+#[derive(Clone, Copy, Debug, PartialEq, Eq)]
 pub enum Reply {
     LevelTooHigh = 1,
     EmptyMessage = 2,
@@ -13,6 +13,35 @@ pub enum Reply {
     RemainderTooWide = 8,
     Uncorrectable = 9,
     ClaimWrong = 10,
+    MarkOutside = 11,
+}
+
+/// How many numbers there are, 0 included.
+pub const NUMBERS: usize = Reply::ALL.len() + 1;
+
+impl Reply {
+    pub const ALL: [Reply; 11] = [
+        Reply::LevelTooHigh,
+        Reply::EmptyMessage,
+        Reply::BlockTooLong,
+        Reply::PageTooSmall,
+        Reply::PageLength,
+        Reply::BufferLength,
+        Reply::OutOfRange,
+        Reply::RemainderTooWide,
+        Reply::Uncorrectable,
+        Reply::ClaimWrong,
+        Reply::MarkOutside,
+    ];
+
+    /// Of two replies that apply the one with the smaller precedence is given: the smaller number, but that
+    /// 11 is looked at after 3 and before 4.
+    pub fn precedence(self) -> u8 {
+        match self {
+            Reply::MarkOutside => 2 * Reply::BlockTooLong as u8 + 1,
+            other => 2 * other as u8,
+        }
+    }
 }
 
 /// A refused call: the reply and the block that goes with it.

@@ -34,7 +34,7 @@ impl Page {
     /// Makes the bits at these exponents of a block zeros.
     fn zeros(mut self, block: usize, exponents: impl IntoIterator<Item = usize>) -> Page {
         for exponent in exponents {
-            let position = self.layout.start(block + 1) - 1 - exponent;
+            let position = self.layout.code_place(block, exponent);
             assert!(bit(&self.bytes, position));
             flip(&mut self.bytes, position);
         }

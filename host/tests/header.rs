@@ -1,6 +1,7 @@
 //! The header, the declarations of these tests and the exported functions of the library say the same of
 //! every call, and a C program that includes the header gets the right answers.
 
+use model::Reply;
 use model::header::{header_calls, library_calls, test_calls};
 use std::fs;
 use std::path::PathBuf;
@@ -51,6 +52,24 @@ fn header_and_archive_show_the_version() {
         .unwrap();
     let object = format!("rudderfig-{}.o\n", version.trim());
     assert_eq!(String::from_utf8_lossy(&listed.stdout), object);
+}
+
+/// Each reply of the model has its name and number in the header.
+#[test]
+fn the_header_names_every_reply() {
+    let header = read("include/rudderfig.h");
+    for reply in Reply::ALL {
+        let mut name = String::from("RUDDERFIG");
+        for letter in format!("{reply:?}").chars() {
+            if letter.is_uppercase() {
+                name.push('_');
+            }
+            name.extend(letter.to_uppercase());
+        }
+        let entry = format!(" {name} = {}", reply as u8);
+        let ends = [",", " "].map(|end| header.matches(&format!("{entry}{end}")).count());
+        assert_eq!(ends.iter().sum::<usize>(), 1, "{entry}");
+    }
 }
 
 /// The README's table of stack has every call of the header, with the header's figure.
@@ -165,6 +184,9 @@ fn every_call_finds_a_spoiled_header_out() {
     );
     assert_ne!(numbers, header);
     assert!(every_call("numbers", &C, &numbers).is_err());
+    let kinds = header.replace("rudderfig_kind(answer) == 2", "rudderfig_kind(answer) == 1");
+    assert_ne!(kinds, header);
+    assert!(every_call("kinds", &C, &kinds).is_err());
 }
 
 /// The words of an answer are put together for one order of bytes.

@@ -1,19 +1,23 @@
 // The options after a command.
 use crate::command;
 use crate::number;
+use crate::numbers::low;
 use crate::place;
+use crate::word;
 use text::Number;
 
-// Options that a command may take, as bits of a set: --from and --pages, --page, --quiet, --stdout, --raw.
-pub const RANGE: u8 = 1;
+// Options that a command may take, as bits of a set: --from and --pages, --page, --quiet, --stdout, --raw, --mark.
+pub const RANGE: u8 = 3;
 
-pub const PAGE: u8 = 2;
+pub const PAGE: u8 = 4;
 
-pub const QUIET: u8 = 4;
+pub const QUIET: u8 = 8;
 
-pub const STDOUT: u8 = 8;
+pub const STDOUT: u8 = 16;
 
-pub const RAW: u8 = 16;
+pub const RAW: u8 = 32;
+
+pub const MARK: u8 = 64;
 
 // What the options say.
 pub struct Options {
@@ -29,6 +33,10 @@ pub struct Options {
     pub quiet: bool,
     pub stdout: bool,
     pub raw: bool,
+    // The third layout word.
+    pub mark: u32,
+    // The options that were given, as bits.
+    pub given: u8,
     // Whether all is right: an error was printed where not.
     pub good: bool,
 }
@@ -40,6 +48,7 @@ enum Choice {
     Quiet,
     Stdout,
     Raw,
+    Mark,
     Unknown,
 }
 
@@ -62,17 +71,21 @@ fn choice_of(name: &[u8]) -> Choice {
     if check::same(name, b"--raw") {
         return Choice::Raw;
     }
+    if check::same(name, b"--mark") {
+        return Choice::Mark;
+    }
     Choice::Unknown
 }
 
 fn bit_of(choice: Choice) -> u8 {
     match choice {
-        Choice::From => RANGE,
-        Choice::Pages => RANGE,
+        Choice::From => 1,
+        Choice::Pages => 2,
         Choice::Page => PAGE,
         Choice::Quiet => QUIET,
         Choice::Stdout => STDOUT,
         Choice::Raw => RAW,
+        Choice::Mark => MARK,
         Choice::Unknown => 0,
     }
 }
@@ -86,6 +99,7 @@ fn bad(options: Options) -> Options {
 // The options with one more, which takes `v` where it takes a number.
 fn with(options: Options, choice: Choice, v: u64) -> Options {
     let mut o = options;
+    o.given = options.given | bit_of(choice);
     match choice {
         Choice::From => {
             o.ranged = true;
@@ -108,6 +122,9 @@ fn with(options: Options, choice: Choice, v: u64) -> Options {
         Choice::Raw => {
             o.raw = true;
         }
+        Choice::Mark => {
+            o.mark = low(v);
+        }
         Choice::Unknown => {
             o.good = false;
         }
@@ -118,6 +135,14 @@ fn with(options: Options, choice: Choice, v: u64) -> Options {
 // An option that takes a number.
 fn with_number(out: &mut [u8; 32768], options: Options, choice: Choice, name: &[u8]) -> Options {
     match number(out, place(options.at, 1), name) {
+        Number::Is(v) => moved(with(options, choice, v), 2),
+        Number::Bad => bad(options),
+    }
+}
+
+// An option that takes a word of 32 bits.
+fn with_word(out: &mut [u8; 32768], options: Options, choice: Choice, name: &[u8]) -> Options {
+    match word(out, place(options.at, 1), name) {
         Number::Is(v) => moved(with(options, choice, v), 2),
         Number::Bad => bad(options),
     }
@@ -137,17 +162,22 @@ fn taken(out: &mut [u8; 32768], options: Options, choice: Choice, name: &[u8]) -
         Choice::Quiet => moved(with(options, choice, 0), 1),
         Choice::Stdout => moved(with(options, choice, 0), 1),
         Choice::Raw => moved(with(options, choice, 0), 1),
+        Choice::Mark => with_word(out, options, choice, name),
         Choice::Unknown => bad(options),
     }
 }
 
-// Takes the option at the next place, which has to be among those allowed.
+// Takes the option at the next place, which has to be among those allowed and not be given before.
 fn next(out: &mut [u8; 32768], options: Options, allowed: u8) -> Options {
     let mut given = io::buffer();
     let n = os::arg(options.at, &mut given);
     let choice = choice_of(&given[..n]);
     if bit_of(choice) & allowed == 0 {
         say::bad_argument(out, b"option", &given[..n], b"is none of this command's");
+        return bad(options);
+    }
+    if bit_of(choice) & options.given != 0 {
+        say::bad_argument(out, b"option", &given[..n], b"is given twice");
         return bad(options);
     }
     taken(out, options, choice, &given[..n])
@@ -172,6 +202,8 @@ pub fn find_options(out: &mut [u8; 32768], allowed: u8) -> Options {
         quiet: false,
         stdout: false,
         raw: false,
+        mark: 0,
+        given: 0,
         good: true,
     };
     let mut turns: u64 = 16;

@@ -5,11 +5,12 @@
 //   find_options                the options after the command
 //   are, whole                  whether there are so many arguments; whether one is not cut short
 //   number, word, word_list     numbers
-//   layout_words                the two words of a layout
+//   layout_words, record_of     the three words of a layout, and their record
 //   bad_remainder               the error about a remainder that cannot be read
 mod choices;
 mod numbers;
 
+pub use choices::MARK;
 pub use choices::Options;
 pub use choices::PAGE;
 pub use choices::QUIET;
@@ -18,11 +19,13 @@ pub use choices::RAW;
 pub use choices::STDOUT;
 pub use choices::find_options;
 use libc::ENAMETOOLONG;
+pub use numbers::LayoutWords;
 pub use numbers::WORD;
 pub use numbers::Words;
 pub use numbers::bad_remainder;
 pub use numbers::layout_words;
 pub use numbers::number;
+pub use numbers::record_of;
 pub use numbers::word;
 pub use numbers::word_list;
 use text::Number;

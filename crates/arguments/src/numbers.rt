@@ -1,12 +1,25 @@
 // Numbers among the arguments.
+use crate::choices::Options;
 use crate::place;
 use crate::whole;
 use text::Number;
 
-// The words of a layout, each of 32 bits, or none where an error was printed.
+// The words of a layout, each of 32 bits. The third has the mark; where it is 0 there is none.
+pub struct LayoutWords {
+    pub first: u32,
+    pub second: u32,
+    pub third: u32,
+}
+
+// The words of a layout, or none where an error was printed.
 pub enum Words {
-    Are { first: u32, second: u32 },
+    Are(LayoutWords),
     Bad,
+}
+
+// The layout record of these words.
+pub fn record_of(words: LayoutWords) -> [u8; 12] {
+    text::layout_record(words.first, words.second, words.third)
 }
 
 // A number; an error is printed where the argument is none.
@@ -49,7 +62,7 @@ pub fn word(out: &mut [u8; 32768], i: usize, name: &[u8]) -> Number {
 }
 
 // The lowest 32 bits of a number.
-fn low(v: u64) -> u32 {
+pub fn low(v: u64) -> u32 {
     (v % 4294967296) as u32
 }
 
@@ -94,16 +107,17 @@ pub fn bad_remainder(out: &mut [u8; 32768]) {
     );
 }
 
-// The two words of a layout, at place `at` and the next.
-pub fn layout_words(out: &mut [u8; 32768], at: usize) -> Words {
-    let Number::Is(first) = word(out, at, b"WORD0") else {
+// The words of a layout: the two arguments after the options, and the third by the option --mark.
+pub fn layout_words(out: &mut [u8; 32768], options: Options) -> Words {
+    let Number::Is(first) = word(out, options.at, b"WORD0") else {
         return Words::Bad;
     };
-    let Number::Is(second) = word(out, place(at, 1), b"WORD1") else {
+    let Number::Is(second) = word(out, place(options.at, 1), b"WORD1") else {
         return Words::Bad;
     };
-    Words::Are {
+    Words::Are(LayoutWords {
         first: low(first),
         second: low(second),
-    }
+        third: options.mark,
+    })
 }

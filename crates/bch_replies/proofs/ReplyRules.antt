@@ -9,7 +9,7 @@ use lib.Dec.{eqb, ltb, leb}
 use borrow.Author.Tests.{lt-ltb}
 use Rattle.replies.specs.declared.Refusal.the-variants.{LevelTooHigh, EmptyMessage, BlockTooLong, BufferLength, RemainderTooWide, Uncorrectable}
 use Rattle.replies.specs.Replies.{number, block, verdictNumber, verdictBlock, among, unless, unequal, rule, verdict, reply, replyBlock}
-use Rattle.replies.specs.Given.{Follows, Exactly, atMost, ascending}
+use Rattle.replies.specs.Given.{Follows, Exactly, turn, atMost, ascending}
 use Rattle.replies.proofs.Tests.{leb-not, ltb-not, zero-not}
 use Rattle.replies.proofs.Given.{follows-next, follows-here, exactly}
 use Rattle.field.specs.declared.Field.{Field}
@@ -102,9 +102,9 @@ module _ (field n : ℕ) (remainder places : List ℕ) where
     pub locate-exactly : Exactly (locateRules field choice n remainder places) (locateOf field choice n remainder places .reply) (locateOf field choice n remainder places .block)
     locate-exactly = exactly (locateRules field choice n remainder places) (locate-replies choice)
 
-    -- After the field choice, which is looked at first, the numbers never fall: the smallest of those that apply wins.
+    -- After the field choice, which is looked at first, the turns never fall: the smallest of those that apply wins.
     pub locate-ascending : ascending (drop 1 (locateRules field choice n remainder places)) ≡ true
-    unfolding locateRules rulesIn ascending atMost number
+    unfolding locateRules rulesIn ascending atMost turn number
     locate-ascending = refl
 
     pub locate-ends : LocateEnds places (locateOf field choice n remainder places)

@@ -8,7 +8,7 @@ use lib.Dec.{eqb, ltb}
 use Rattle.replies.specs.declared.Refusal.the-variants.{LevelTooHigh, BufferLength, RemainderTooWide}
 use Rattle.replies.specs.Replies.{number, block, verdictNumber, verdictBlock, among, unequal, rule, verdict, replyBlock}
 use Rattle.replies.specs.Replies as table
-use Rattle.replies.specs.Given.{Follows, Exactly, atMost, ascending}
+use Rattle.replies.specs.Given.{Follows, Exactly, turn, atMost, ascending}
 use Rattle.replies.proofs.Tests.{leb-not}
 use Rattle.replies.proofs.Given.{exactly}
 use Rattle.remainder.specs.Remainder.{bytesFor, numberOf}
@@ -44,7 +44,7 @@ module _ (field bytes count x : ℕ) where
 
   -- where several rules apply the smallest number wins
   pub request-ascending : ascending (requestRules field bytes count x) ≡ true
-  unfolding requestRules ascending atMost number
+  unfolding requestRules ascending atMost turn number
   request-ascending = refl
 
 module _ (field : ℕ) (remainder fragments : List ℕ) where

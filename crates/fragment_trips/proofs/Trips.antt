@@ -10,19 +10,8 @@ use Rattle.bits.specs.Bits.{Bytes}
 use Rattle.remainder.specs.Remainder.{numberOf}
 use Rattle.remainder.proofs.Bytes.{bytesOf-length}
 use Rattle.replies.specs.declared.Refusal.{Refusal}
-use Rattle.replies.specs.declared.Refusal.the-variants.{
-  LevelTooHigh,
-  EmptyMessage,
-  BlockTooLong,
-  PageTooSmall,
-  PageLength,
-  BufferLength,
-  OutOfRange,
-  RemainderTooWide,
-  Uncorrectable,
-  ClaimWrong,
-}
 use Rattle.replies.specs.Replies.{number, block}
+use Rattle.replies.proofs.Given.{number-positive}
 use Rattle.fragments.specs.declared.FragmentsAnswer.{FragmentsAnswer}
 use Rattle.fragments.specs.declared.FragmentsAnswer.the-variants.{Done, Refused}
 use Rattle.register_fragments.specs.Fragments.{joined, Fragments}
@@ -47,17 +36,7 @@ unfolding ended
 refused-block w lent e h = simp (sym h, e)
 
 refusal-some : (x : Refusal) → ¬ (number x ≡ 0)
-unfolding number
-refusal-some LevelTooHigh e = omega arith
-refusal-some EmptyMessage e = omega arith
-refusal-some BlockTooLong e = omega arith
-refusal-some PageTooSmall e = omega arith
-refusal-some PageLength e = omega arith
-refusal-some BufferLength e = omega arith
-refusal-some OutOfRange e = omega arith
-refusal-some RemainderTooWide e = omega arith
-refusal-some (Uncorrectable b) e = omega arith
-refusal-some ClaimWrong e = omega arith
+refusal-some x e = omega (arith, number-positive x)
 
 -- what the first call leaves, and how both calls end
 trip : Ended → List ℕ → Trip

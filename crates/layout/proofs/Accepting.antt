@@ -9,7 +9,6 @@ use native.Mathlib.Omega.{arith}
 use native.Mathlib.Nat.{eq-zero-or-pos, zero-mul, mul-zero, lt-of-not-le}
 use lib.Dec.{eqb}
 use lib.ListN.{length}
-use borrow.Author.Tests.{eqb-true}
 use Rattle.field.specs.Field.{degree, longest}
 use Rattle.field.specs.declared.Field.the-variants.{Thirteen}
 use Rattle.layout.specs.declared.Fields.{Fields}
@@ -20,10 +19,10 @@ use Rattle.layout.specs.declared.Finding.the-variants.{Kept, Broken}
 use Rattle.layout.specs.declared.Acceptance.the-variants as answer
 use Rattle.layout.specs.declared.Refusal.the-variants as refusal
 use Rattle.layout.specs.Record.{fieldsIn, layoutOf}
-use Rattle.layout.specs.Plan.{shapeWith, shapeOf, laterShape, dataBytes, planFor, layoutFor, planOf, Sums, shape, bits, field, level, covered, start, used, from, payload, Summed, Valid}
-use Rattle.layout.specs.Acceptance.{findingOf, judged, acceptance}
+use Rattle.layout.specs.Plan.{shapeWith, shapeOf, laterShape, dataBytes, planFor, layoutFor, planOf, Sums, shape, bits, field, level, covered, start, used, room, from, payload, Summed, Valid}
+use Rattle.layout.specs.Acceptance.{findingOf, judged, recordLength, acceptance}
 use Rattle.layout.proofs.Plans.{later-none, later-some, start-next, start-order, start-up, start-later, from-later}
-use Rattle.layout.proofs.Reasons.{level-first, level-later, message-first, message-later, length-first, length-later, page-room, kept-free}
+use Rattle.layout.proofs.Reasons.{level-first, level-later, message-first, message-later, length-first, length-later, mark-outside, zeros-set, page-room, kept-free}
 
 -- the rules, of a layout that keeps them
 pub record Keeps (f : Fields) (q : Plan) : Type 0 where
@@ -33,7 +32,9 @@ pub record Keeps (f : Fields) (q : Plan) : Type 0 where
   pub messages-later : 0 < f .nblocks → 0 < q .later .message
   pub lengths : 0 < q .first .level → q .first .covered ≤ longest (q .first .field)
   pub lengths-later : 0 < f .nblocks → 0 < q .later .level → q .later .covered ≤ longest (q .later .field)
-  pub fits : used q ≤ 8 * q .size
+  pub inside : f .mark .offset + f .mark .length ≤ f .page
+  pub zeros : f .zeros ≡ 0
+  pub fits : used q ≤ room q
 
 not-less : (a b : ℕ) → (a < b → ⊥) → b ≤ a
 not-less a b h = let k = lt-of-not-le {n = suc a} {m = b} h in omega arith
@@ -41,6 +42,7 @@ not-less a b h = let k = lt-of-not-le {n = suc a} {m = b} h in omega arith
 pub keeps : (f : Fields) (q : Plan) → findingOf f q ≡ Kept → Keeps f q
 keeps f q e =
     let free = kept-free f q e in
+    let inside = not-less _ _ (λ x. free _ (mark-outside x)) in
     record {
       levels = not-less _ _ (λ x. free _ (level-first x));
       levels-later = λ n. not-less _ _ (λ x. free _ (level-later n x));
@@ -48,6 +50,8 @@ keeps f q e =
       messages-later = λ n. not-less _ _ (λ x. free _ (message-later n x));
       lengths = λ t. not-less _ _ (λ x. free _ (length-first t x));
       lengths-later = λ n t. not-less _ _ (λ x. free _ (length-later n t x));
+      inside = inside;
+      zeros = let z = not-less 0 (f .zeros) (λ x. free _ (zeros-set inside x)) in omega arith;
       fits = not-less _ _ (λ x. free _ (page-room x));
     }
 
@@ -100,7 +104,7 @@ module _ (f : Fields) (k : Keeps f (planFor f)) where
   unfolding planFor
   some-later b h = omega arith
 
-  ends : (b : ℕ) → b < planFor f .blocks → start (planFor f) b + covered (planFor f) b ≤ 8 * planFor f .size
+  ends : (b : ℕ) → b < planFor f .blocks → start (planFor f) b + covered (planFor f) b ≤ room (planFor f)
   ends b h = omega (arith, start-next (planFor f) b, start-up (planFor f) (suc b) (planFor f .blocks) h, plan-total f, k .fits)
 
   short : (b : ℕ) → b < planFor f .blocks → 0 < level (planFor f) b → covered (planFor f) b ≤ longest (field (planFor f) b)
@@ -123,6 +127,7 @@ module _ (f : Fields) (k : Keeps f (planFor f)) where
   keeps-valid = record {
     order = λ b c h x. start-order (planFor f) b c h;
     ends = ends;
+    inside = k .inside;
     short = short;
     strong = strong;
     filled = filled;
@@ -137,19 +142,19 @@ plan-valid f e = keeps-valid f (keeps f (planFor f) e)
 
 -- ---- accepted records
 
--- an accepted record is of eight bytes, and its layout breaks no rule
+-- an accepted record is of eight or twelve bytes, and its layout breaks no rule
 pub record Taken (rec : List ℕ) (l : Layout) : Type 0 where
-  pub eight : length rec ≡ 8
+  pub right : recordLength (length rec) ≡ true
   pub layout : l ≡ layoutOf rec
   pub kept : findingOf (fieldsIn rec) (planOf l) ≡ Kept
 
 pub accepted-taken : (rec : List ℕ) (l : Layout) → acceptance rec ≡ answer.Accepted l → Taken rec l
 unfolding acceptance judged
-accepted-taken rec l h = go (eqb (length rec) 8) (findingOf (fieldsIn rec) (planOf (layoutOf rec))) refl refl h
+accepted-taken rec l h = go (recordLength (length rec)) (findingOf (fieldsIn rec) (planOf (layoutOf rec))) refl refl h
   where
-    go : (t : Bool) (f : Finding) → eqb (length rec) 8 ≡ t → findingOf (fieldsIn rec) (planOf (layoutOf rec)) ≡ f →
+    go : (t : Bool) (f : Finding) → recordLength (length rec) ≡ t → findingOf (fieldsIn rec) (planOf (layoutOf rec)) ≡ f →
         cond t (judged (layoutOf rec) f) (answer.Refused refusal.RecordLength) ≡ answer.Accepted l → Taken rec l
-    go true Kept e k x = let y : l ≡ layoutOf rec = cc x in record { eight = eqb-true _ _ e; layout = y; kept = rw y k }
+    go true Kept e k x = let y : l ≡ layoutOf rec = cc x in record { right = e; layout = y; kept = rw y k }
     go true (Broken r) e k x = let z : _≡_ {A = ℕ} 0 1 = cc x in absurd (omega arith)
     go false f e k x = let z : _≡_ {A = ℕ} 0 1 = cc x in absurd (omega arith)
 

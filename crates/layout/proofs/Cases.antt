@@ -1,25 +1,30 @@
--- Document 01's cases about layouts, "Both sides of each edge": A to E, I and K, of the definitions.
+-- Document 01's cases about layouts, "Both sides of each edge": A to E, I and K, and the edges of document 02, E7, of the definitions.
 use mathlib.Core.Path.{_≡_, refl}
-use mathlib.Core.List.{List, [], _∷_}
+use mathlib.Core.List.{List, [], _∷_, _++_}
 use mathlib.Core.Bool.{Bool, true, false, cond}
 use Prim.Native.Nat.{ℕ, suc, _+_, _-_, _*_, _/_, _%_, _≤_}
 use native.Mathlib.Omega.{arith}
+use lib.ListN.{length}
 use borrow.Author.Tests.{le-ltb}
 use Rattle.field.specs.declared.Field.{Field}
 use Rattle.field.specs.declared.Field.the-variants.{Thirteen, Fourteen}
 use Rattle.field.specs.Field.{degree, longest}
+use Rattle.mark.specs.declared.Mark.{Mark}
+use Rattle.mark.specs.Mark.{place, marked, streamed}
 use Rattle.layout.specs.declared.BlockFields.{BlockFields}
 use Rattle.layout.specs.declared.Fields.{Fields}
 use Rattle.layout.specs.declared.Layout.{Layout}
+use Rattle.layout.specs.declared.Acceptance.{Acceptance}
 use Rattle.layout.specs.declared.Finding.{Finding}
 use Rattle.layout.specs.declared.Finding.the-variants.{Kept, Broken}
-use Rattle.layout.specs.declared.Rule.the-variants.{Level, Message, Length, Room}
+use Rattle.layout.specs.declared.Rule.the-variants.{Level, Message, Length, Outside, Room}
 use Rattle.layout.specs.declared.Kind.the-variants.{First, Page}
-use Rattle.layout.specs.Record.{fieldOf, blockFields, fieldsAt, fieldsIn, layoutOf}
-use Rattle.layout.specs.Plan.{shapeWith, shapeOf, laterShape, dataBytes, planFor, layoutFor, planOf, shape, bits, level, covered, start, used}
-use Rattle.layout.specs.Acceptance.{test, levelRule, messageRule, lengthRule, roomRule, either, ofBlocks, findingOf, judged, acceptance}
+use Rattle.layout.specs.Record.{fieldOf, blockFields, markAt, markIn, fieldsAt, fieldsIn, layoutOf}
+use Rattle.layout.specs.Plan.{shapeWith, shapeOf, laterShape, dataBytes, planFor, layoutFor, planOf, shape, bits, level, covered, start, used, room}
+use Rattle.layout.specs.Acceptance.{test, levelRule, messageRule, lengthRule, markRule, roomRule, either, ofBlocks, findingOf, judged, recordLength, acceptance}
 use Rattle.layout.specs.Bits.{within, blockBelow, blockOf, exponentAt, positionAt, located, bitIn, bitFor, bitAnswer, positionIn, positionFor, positionAnswer}
 use Rattle.layout.proofs.Plans.{degree-small, product-le}
+use Rattle.layout.proofs.Records.{noMark, acceptance-padded}
 use Rattle.layout.proofs.Reasons.{level-first, level-later, length-first, length-later}
 use Rattle.layout.specs.declared.Acceptance.the-variants as answer
 use Rattle.layout.specs.declared.BitAnswer.the-variants as bit
@@ -32,6 +37,10 @@ words v w =
     v / 0x1000000 ∷ v / 0x10000 % 256 ∷ v / 256 % 256 ∷ v % 256
     ∷ w / 0x1000000 ∷ w / 0x10000 % 256 ∷ w / 256 % 256 ∷ w % 256 ∷ []
 
+-- a record of three words
+unfoldable pub threeWords : ℕ → ℕ → ℕ → List ℕ
+threeWords v w x = words v w ++ (x / 0x1000000 ∷ x / 0x10000 % 256 ∷ x / 256 % 256 ∷ x % 256 ∷ [])
+
 unfoldable pub layoutA : Layout
 layoutA = layoutFor (record {
   nblocks = 7;
@@ -39,6 +48,8 @@ layoutA = layoutFor (record {
   first = record { ecc = 8; gf = Thirteen; units = 128 };
   page = 4314;
   later = record { ecc = 8; gf = Thirteen; units = 128 };
+  mark = record { offset = 0; length = 0 };
+  zeros = 0;
 })
 
 -- A: the reset state in document 000
@@ -67,6 +78,8 @@ oneBlock metadata ecc gf units later = record {
   first = record { ecc = ecc; gf = gf; units = units };
   page = 2048;
   later = later;
+  mark = record { offset = 0; length = 0 };
+  zeros = 0;
 }
 
 -- what the rules find of these fields
@@ -85,14 +98,20 @@ pub record CaseD (later : BlockFields) : Type 0 where
   pub accepted : finding (oneBlock 1 20 Fourteen 494 later) ≡ Kept
   pub refused : finding (oneBlock 2 20 Fourteen 494 later) ≡ Broken (record { rule = Length; kind = First; found = 16384; limit = 16383 })
 
-unfoldable pub layoutE : Layout
-layoutE = layoutFor (record {
+-- two blocks of 58 bits, so many bytes of page, a mark
+unfoldable pub twoBlocks : ℕ → Mark → Layout
+twoBlocks page mark = layoutFor (record {
   nblocks = 1;
   metadata = 0;
   first = record { ecc = 1; gf = Thirteen; units = 1 };
-  page = 15;
+  page = page;
   later = record { ecc = 1; gf = Thirteen; units = 1 };
+  mark = mark;
+  zeros = 0;
 })
+
+unfoldable pub layoutE : Layout
+layoutE = twoBlocks 15 (record { offset = 0; length = 0 })
 
 -- E: two blocks of 58 bits, t = 2; block 1 starts in byte 7 at bit 5; four tail bits
 pub record CaseE : Type 0 where
@@ -125,6 +144,36 @@ pub record CaseK (ecc : ℕ) (gf : Field) (later : BlockFields) : Type 0 where
   pub accepted : finding (oneBlock 1 ecc gf 0 later) ≡ Kept
   pub message : bits (planFor (oneBlock 1 ecc gf 0 later)) 0 ≡ 8
 
+-- a layout refused with 11, and with 4
+unfoldable pub markRefused : ℕ → ℕ → Acceptance
+markRefused found limit = answer.Refused (refusal.Rule (record { rule = Outside; kind = Page; found = found; limit = limit }))
+
+unfoldable pub roomRefused : ℕ → ℕ → Acceptance
+roomRefused found limit = answer.Refused (refusal.Rule (record { rule = Room; kind = Page; found = found; limit = limit }))
+
+-- E7: as E with a third word; in a page of 16 bytes a mark of one byte, the one in which block 1 would start
+pub record CaseMark : Type 0 where
+  pub none : (rec : List ℕ) → length rec ≡ 8 → acceptance (rec ++ noMark) ≡ acceptance rec
+  pub other-length : acceptance (words 0x01000801 0x000F0801 ++ (0 ∷ [])) ≡ answer.Refused refusal.RecordLength
+  pub at-end : acceptance (threeWords 0x01000801 0x000F0801 0x000F0000) ≡ answer.Accepted (twoBlocks 15 (record { offset = 15; length = 0 }))
+  pub past-end : acceptance (threeWords 0x01000801 0x000F0801 0x00100000) ≡ markRefused 16 15
+  pub sum-past : acceptance (threeWords 0x01000801 0x000F0801 0x000E0200) ≡ markRefused 16 15
+  pub zeros : acceptance (threeWords 0x01000801 0x000F0801 0x000F0001) ≡ markRefused 1 0
+  pub sum-first : acceptance (threeWords 0x01000801 0x000F0801 0x00100001) ≡ markRefused 16 15
+  pub less-room : acceptance (threeWords 0x01000801 0x000F0801 0x00000100) ≡ roomRefused 116 112
+  pub before-room : acceptance (threeWords 0x01000801 0x000E0801 0x000E0100) ≡ markRefused 15 14
+  pub room-alone : acceptance (threeWords 0x01000801 0x000E0801 0x000E0000) ≡ roomRefused 116 112
+  pub after-length : acceptance (threeWords 0x0003A0EF 0x08000000 0x08000101)
+      ≡ answer.Refused (refusal.Rule (record { rule = Length; kind = First; found = 8192; limit = 8191 }))
+  pub accepted : acceptance (threeWords 0x01000801 0x00100801 0x00070100) ≡ answer.Accepted (twoBlocks 16 (record { offset = 7; length = 1 }))
+  pub before-mark : bitAnswer (threeWords 0x01000801 0x00100801 0x00070100) 55 ≡ bit.InBlock 0 2
+  pub first-marked : bitAnswer (threeWords 0x01000801 0x00100801 0x00070100) 56 ≡ bit.Mark
+  pub last-marked : bitAnswer (threeWords 0x01000801 0x00100801 0x00070100) 63 ≡ bit.Mark
+  pub after-mark : bitAnswer (threeWords 0x01000801 0x00100801 0x00070100) 64 ≡ bit.InBlock 0 1
+  pub at-start : bitAnswer (threeWords 0x01000801 0x00100801 0x00070100) 66 ≡ bit.InBlock 1 57
+  pub first-tail : bitAnswer (threeWords 0x01000801 0x00100801 0x00070100) 124 ≡ bit.Tail
+  pub start-position : positionAnswer (threeWords 0x01000801 0x00100801 0x00070100) 1 57 ≡ position.Position 66
+
 -- the table
 pub record LayoutCases : Type 0 where
   pub a : CaseA
@@ -134,6 +183,7 @@ pub record LayoutCases : Type 0 where
   pub e : CaseE
   pub i : CaseI
   pub k : (ecc : ℕ) (gf : Field) (later : BlockFields) → ecc ≤ 20 → CaseK ecc gf later
+  pub mark : CaseMark
 
 cond-same : (t : Bool) → cond t false false ≡ false
 cond-same true = refl
@@ -152,7 +202,7 @@ module _ (ecc : ℕ) (gf : Field) (later : BlockFields) (allowed : ecc ≤ 20) w
       go Fourteen = omega arith
 
   case-k : CaseK ecc gf later
-  unfolding oneBlock finding shapeWith shapeOf laterShape planFor shape test levelRule messageRule lengthRule roomRule either ofBlocks findingOf
+  unfolding oneBlock finding shapeWith shapeOf laterShape planFor room shape test levelRule messageRule lengthRule markRule roomRule either ofBlocks findingOf
   case-k =
       let low = le-ltb 20 ecc allowed in
       let short = le-ltb (longest gf) (8 + degree gf * (2 * ecc)) (omega (arith, parity-small, longest-large)) in
@@ -160,10 +210,10 @@ module _ (ecc : ℕ) (gf : Field) (later : BlockFields) (allowed : ecc ≤ 20) w
       record { refused = simp low; accepted = simp (low, short, cond-same, fits); message = refl }
 
 pub layout-cases : LayoutCases
-unfolding CaseB CaseI words layoutA layoutE oneBlock finding fieldOf blockFields fieldsAt fieldsIn layoutOf
-    shapeWith shapeOf laterShape dataBytes planFor layoutFor planOf shape start degree longest
-    test levelRule messageRule lengthRule roomRule either ofBlocks findingOf judged acceptance
-    within blockBelow blockOf exponentAt positionAt located bitIn bitFor bitAnswer positionIn positionFor positionAnswer
+unfolding CaseB CaseI words threeWords layoutA twoBlocks layoutE markRefused roomRefused oneBlock finding fieldOf blockFields markAt markIn fieldsAt fieldsIn layoutOf
+    shapeWith shapeOf laterShape dataBytes planFor layoutFor planOf shape start room degree longest
+    test levelRule messageRule lengthRule markRule roomRule either ofBlocks findingOf judged recordLength acceptance
+    within blockBelow blockOf exponentAt positionAt located bitIn bitFor bitAnswer positionIn positionFor positionAnswer place marked streamed
 layout-cases = record {
   a = record {
     accepted = refl;
@@ -200,4 +250,25 @@ layout-cases = record {
   };
   i = λ gf later. refl;
   k = case-k;
+  mark = record {
+    none = acceptance-padded;
+    other-length = refl;
+    at-end = refl;
+    past-end = refl;
+    sum-past = refl;
+    zeros = refl;
+    sum-first = refl;
+    less-room = refl;
+    before-room = refl;
+    room-alone = refl;
+    after-length = refl;
+    accepted = refl;
+    before-mark = refl;
+    first-marked = refl;
+    last-marked = refl;
+    after-mark = refl;
+    at-start = refl;
+    first-tail = refl;
+    start-position = refl;
+  };
 }

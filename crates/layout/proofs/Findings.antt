@@ -14,7 +14,7 @@ use Rattle.layout.specs.declared.Refusal.the-variants as refusal
 use Rattle.layout.specs.declared.Acceptance.the-variants.{Accepted, Refused}
 use Rattle.layout.specs.Record.{fieldsIn, layoutOf}
 use Rattle.layout.specs.Plan.{planOf}
-use Rattle.layout.specs.Acceptance.{either, ofBlocks, findingOf, judged, acceptance}
+use Rattle.layout.specs.Acceptance.{either, ofBlocks, findingOf, judged, recordLength, acceptance}
 
 -- of block 0 and of the n later blocks
 module _ (n : ℕ) {x f : Finding} (first : x ≡ f) where
@@ -44,11 +44,11 @@ unfolding either
 kept-found {g = g} e k h = h ∙ sym (ap (λ (f : Finding). either f g) (sym e ∙ k))
 
 -- of a record
-module _ (rec : List ℕ) (eight : length rec ≡ 8) {x : Finding} (found : x ≡ findingOf (fieldsIn rec) (planOf (layoutOf rec))) where
+module _ (rec : List ℕ) (right : recordLength (length rec) ≡ true) {x : Finding} (found : x ≡ findingOf (fieldsIn rec) (planOf (layoutOf rec))) where
   pub kept-accepted : {l : Layout} → l ≡ layoutOf rec → x ≡ Kept → Accepted l ≡ acceptance rec
   unfolding acceptance judged
-  kept-accepted e k = rw (eq-eqb (length rec) 8 eight, sym found ∙ k, e)
+  kept-accepted e k = rw (right, sym found ∙ k, e)
 
   pub broken-refused : {r : Reason} → x ≡ Broken r → Refused (refusal.Rule r) ≡ acceptance rec
   unfolding acceptance judged
-  broken-refused k = rw (eq-eqb (length rec) 8 eight, sym found ∙ k)
+  broken-refused k = rw (right, sym found ∙ k)

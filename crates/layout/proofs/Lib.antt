@@ -2,6 +2,7 @@
 pub mod Plans
 pub mod Numbers
 mod Findings
+pub mod Records
 pub mod Reasons
 pub mod Accepting
 pub mod Cases

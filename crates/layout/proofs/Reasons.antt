@@ -1,27 +1,29 @@
--- A refused layout is refused for a true reason, and for the first one: smallest reply, block 0 before the later blocks.
+-- A refused layout is refused for a true reason, and for the first one: smallest reply, but 11 after 3, block 0 before the later blocks.
 -- An accepted layout gives no reason.
 use mathlib.Core.Path.{_≡_, refl, sym, ap, _∙_}
 use mathlib.Core.Logic.{_⊎_, inl, inr, ⊎-elim}
-use mathlib.Core.Bool.{Bool, true, false, cond}
+use mathlib.Core.Bool.{Bool, true, false, cond, true≢false}
 use Prim.Native.Nat.{ℕ, suc, _+_, _*_, _≤_, _<_}
 use native.Mathlib.Omega.{arith}
+use native.Mathlib.Decide.{decLt}
 use native.Mathlib.Nat.{eq-zero-or-pos, le-of-eq}
 use lib.Dec.{eqb, ltb}
-use borrow.Author.Tests.{ltb-true, lt-ltb, eq-eqb, ne-eqb}
+use borrow.Author.Tests.{ltb-true, lt-ltb, le-ltb, eq-eqb, ne-eqb}
 use Rattle.field.specs.Field.{longest}
 use Rattle.replies.specs.Replies.{number}
+use Rattle.replies.specs.Given.{turn}
 use Rattle.layout.specs.declared.BlockFields.{BlockFields}
 use Rattle.layout.specs.declared.Fields.{Fields}
 use Rattle.layout.specs.declared.Plan.{Plan}
 use Rattle.layout.specs.declared.Shape.{Shape}
-use Rattle.layout.specs.declared.Rule.the-variants.{Level, Message, Length, Room}
+use Rattle.layout.specs.declared.Rule.the-variants.{Level, Message, Length, Outside, Room}
 use Rattle.layout.specs.declared.Kind.{Kind}
 use Rattle.layout.specs.declared.Kind.the-variants.{First, Later, Page}
 use Rattle.layout.specs.declared.Reason.{Reason}
 use Rattle.layout.specs.declared.Finding.{Finding}
 use Rattle.layout.specs.declared.Finding.the-variants.{Kept, Broken}
-use Rattle.layout.specs.Plan.{used}
-use Rattle.layout.specs.Acceptance.{test, levelRule, messageRule, lengthRule, roomRule, either, ofBlocks, findingOf, ruleRefusal, ruleNumber}
+use Rattle.layout.specs.Plan.{used, room}
+use Rattle.layout.specs.Acceptance.{test, levelRule, messageRule, lengthRule, markRule, roomRule, either, ofBlocks, findingOf, ruleRefusal, ruleNumber}
 
 -- the reasons, with the two numbers compared
 unfoldable pub levelReason : Kind → BlockFields → Reason
@@ -33,8 +35,14 @@ messageReason kind s = record { rule = Message; kind = kind; found = s .message;
 unfoldable pub lengthReason : Kind → Shape → Reason
 lengthReason kind s = record { rule = Length; kind = kind; found = s .covered; limit = longest (s .field) }
 
+unfoldable pub markReason : Fields → Reason
+markReason f = record { rule = Outside; kind = Page; found = f .mark .offset + f .mark .length; limit = f .page }
+
+unfoldable pub zerosReason : Fields → Reason
+zerosReason f = record { rule = Outside; kind = Page; found = f .zeros; limit = 0 }
+
 unfoldable pub roomReason : Plan → Reason
-roomReason q = record { rule = Room; kind = Page; found = used q; limit = 8 * q .size }
+roomReason q = record { rule = Room; kind = Page; found = used q; limit = room q }
 
 -- r is a reason to refuse a layout of the fields f and the plan q: what it names breaks its rule
 pub data Breaks (f : Fields) (q : Plan) : Reason → Type 0 where
@@ -46,16 +54,18 @@ pub data Breaks (f : Fields) (q : Plan) : Reason → Type 0 where
       Breaks f q (lengthReason First (q .first))
   length-later : 0 < f .nblocks → 0 < q .later .level → longest (q .later .field) < q .later .covered →
       Breaks f q (lengthReason Later (q .later))
-  page-room : 8 * q .size < used q → Breaks f q (roomReason q)
+  mark-outside : f .page < f .mark .offset + f .mark .length → Breaks f q (markReason f)
+  zeros-set : f .mark .offset + f .mark .length ≤ f .page → 0 < f .zeros → Breaks f q (zerosReason f)
+  page-room : room q < used q → Breaks f q (roomReason q)
 
--- the order of reasons: smallest reply first, block 0 before the later blocks
+-- the order of reasons: by the turns of the replies, block 0 before the later blocks
 unfoldable pub kindRank : Kind → ℕ
 kindRank First = 0
 kindRank Later = 1
 kindRank Page = 0
 
 unfoldable pub rank : Reason → ℕ
-rank r = 2 * ruleNumber (r .rule) + kindRank (r .kind)
+rank r = 2 * turn (ruleNumber (r .rule)) + kindRank (r .kind)
 
 kind-small : (k : Kind) → kindRank k ≤ 1
 unfolding kindRank
@@ -88,7 +98,26 @@ decide-test false r e to from = record {
   least = none (λ s h. let z : _≡_ {A = ℕ} 0 1 = cc (from (h .0)) in omega arith);
 }
 
-module _ {a b c : ℕ} {P Q : Reason → Type 0} (order : a ≤ b) (order' : b ≤ c) where
+-- the first of two reasons of one rank, the second where the first does not hold
+decide-two : (b c : Bool) (r s : Reason) {n : ℕ} {B N C : Type 0} → rank r ≡ n → rank s ≡ n → (b ≡ true → B) → (B → b ≡ true) →
+    (b ≡ false → N) → (N → b ≡ false) → (c ≡ true → C) → (C → c ≡ true) →
+    Decides n (suc n) (λ x. (B × (x ≡ r)) ⊎ (N × (C × (x ≡ s)))) (either (test b r) (test c s))
+unfolding test either
+decide-two b c r s {n} {B} {N} {C} e e' to from no-to no-from to' from' = record {
+  low = λ x h. ⊎-elim (λ (y : B × (x ≡ r)). rw (y .1) (omega arith)) (λ (y : N × (C × (x ≡ s))). rw (y .1 .1) (omega arith)) h;
+  high = λ x h. ⊎-elim (λ (y : B × (x ≡ r)). rw (y .1) (omega arith)) (λ (y : N × (C × (x ≡ s))). rw (y .1 .1) (omega arith)) h;
+  least = go b c refl refl;
+}
+  where
+    go : (b' c' : Bool) → b ≡ b' → c ≡ c' → Least (λ x. (B × (x ≡ r)) ⊎ (N × (C × (x ≡ s)))) (either (test b' r) (test c' s))
+    go true c' p q = some (inl (to p, refl)) (λ x h.
+        ⊎-elim (λ (y : B × (x ≡ r)). inl (y .1)) (λ (y : N × (C × (x ≡ s))). absurd (true≢false (sym p ∙ no-from (y .0)))) h)
+    go false true p q = some (inr (no-to p, (to' q, refl))) (λ x h.
+        ⊎-elim (λ (y : B × (x ≡ r)). absurd (true≢false (sym (from (y .0)) ∙ p))) (λ (y : N × (C × (x ≡ s))). inl (y .1 .1)) h)
+    go false false p q = none (λ x h.
+        ⊎-elim (λ (y : B × (x ≡ r)). true≢false (sym (from (y .0)) ∙ p)) (λ (y : N × (C × (x ≡ s))). true≢false (sym (from' (y .1 .0)) ∙ q)) h)
+
+module _ {a b c d : ℕ} {P Q : Reason → Type 0} (order : a ≤ b) (order' : b ≤ c) (order'' : c ≤ d) where
   either-least : {f g : Finding} → ((r s : Reason) → P r → Q s → rank r < rank s) → Least P f → Least Q g →
       Least (λ r. P r ⊎ Q r) (either f g)
   unfolding either
@@ -96,7 +125,7 @@ module _ {a b c : ℕ} {P Q : Reason → Type 0} (order : a ≤ b) (order' : b �
   either-least o (none p) (some h q) = some (inr h) (λ s x. ⊎-elim (λ (y : P s). absurd (p s y)) (q s) x)
   either-least o (some {r} h p) q = some (inl h) (λ s x. ⊎-elim (p s) (λ (y : Q s). inr (o r s h y)) x)
 
-  decide-either : {f g : Finding} → Decides a b P f → Decides b c Q g → Decides a c (λ r. P r ⊎ Q r) (either f g)
+  decide-either : {f g : Finding} → Decides a b P f → Decides c d Q g → Decides a d (λ r. P r ⊎ Q r) (either f g)
   decide-either p q = record {
     low = λ r h. ⊎-elim (λ (x : P r). p .low r x) (λ (y : Q r). omega (arith, q .low r y)) h;
     high = λ r h. ⊎-elim (λ (x : P r). omega (arith, p .high r x)) (λ (y : Q r). q .high r y) h;
@@ -130,17 +159,17 @@ decide-blocks {P = P} {Q = Q} n x y p q =
     (decide-map
     (λ r k. ⊎-elim (λ (z : P r). inl z) (λ (z : Q r). inr (h, z)) k)
     (λ r k. ⊎-elim (λ (z : P r). inl z) (λ (z : (0 < n) × Q r). inr (z .1)) k)
-    (decide-either x y p q)))
+    (decide-either x (omega arith) y p q)))
     (eq-zero-or-pos n)
 
-decide-level : (kind : Kind) (fields : BlockFields) (n : ℕ) → 2 + kindRank kind ≡ n →
+decide-level : (kind : Kind) (fields : BlockFields) (n : ℕ) → 4 + kindRank kind ≡ n →
     Decides n (suc n) (λ r. (20 < fields .ecc) × (r ≡ levelReason kind fields)) (levelRule kind fields)
-unfolding levelRule levelReason rank ruleNumber ruleRefusal number
+unfolding levelRule levelReason rank turn ruleNumber ruleRefusal number
 decide-level kind fields n e = decide-test _ _ e (λ h. ltb-true _ _ h) (λ h. lt-ltb _ _ h)
 
-decide-message : (kind : Kind) (s : Shape) (n : ℕ) → 4 + kindRank kind ≡ n →
+decide-message : (kind : Kind) (s : Shape) (n : ℕ) → 8 + kindRank kind ≡ n →
     Decides n (suc n) (λ r. (s .message < 1) × (r ≡ messageReason kind s)) (messageRule kind s)
-unfolding messageRule messageReason rank ruleNumber ruleRefusal number
+unfolding messageRule messageReason rank turn ruleNumber ruleRefusal number
 decide-message kind s n e = decide-test _ _ e (λ h. ltb-true _ _ h) (λ h. lt-ltb _ _ h)
 
 long-true : (t n m : ℕ) → cond (eqb t 0) false (ltb m n) ≡ true → (0 < t) × (m < n)
@@ -153,13 +182,27 @@ long-true t n m h =
 true-long : (t n m : ℕ) → (0 < t) × (m < n) → cond (eqb t 0) false (ltb m n) ≡ true
 true-long t n m h = simp (ne-eqb t 0 (λ e. omega (arith, h .0)), lt-ltb m n (h .1))
 
-decide-length : (kind : Kind) (s : Shape) (n : ℕ) → 6 + kindRank kind ≡ n →
+decide-length : (kind : Kind) (s : Shape) (n : ℕ) → 12 + kindRank kind ≡ n →
     Decides n (suc n) (λ r. ((0 < s .level) × (longest (s .field) < s .covered)) × (r ≡ lengthReason kind s)) (lengthRule kind s)
-unfolding lengthRule lengthReason rank ruleNumber ruleRefusal number
+unfolding lengthRule lengthReason rank turn ruleNumber ruleRefusal number
 decide-length kind s n e = decide-test _ _ e (long-true _ _ _) (true-long _ _ _)
 
-decide-room : (q : Plan) → Decides 8 9 (λ r. (8 * q .size < used q) × (r ≡ roomReason q)) (roomRule q)
-unfolding roomRule roomReason rank ruleNumber ruleRefusal number kindRank
+-- an allowed sum
+sum-allowed : (m n : ℕ) → ltb m n ≡ false → n ≤ m
+sum-allowed m n h = elim (decLt m n) [
+  | yes k ↦ absurd (true≢false (sym (lt-ltb m n k) ∙ h))
+  | no k ↦ omega arith
+]
+
+decide-mark : (f : Fields) → Decides 14 15
+    (λ r. ((f .page < f .mark .offset + f .mark .length) × (r ≡ markReason f))
+    ⊎ ((f .mark .offset + f .mark .length ≤ f .page) × ((0 < f .zeros) × (r ≡ zerosReason f)))) (markRule f)
+unfolding markRule markReason zerosReason rank turn ruleNumber ruleRefusal number kindRank
+decide-mark f =
+    decide-two _ _ _ _ refl refl (λ h. ltb-true _ _ h) (λ h. lt-ltb _ _ h) (λ h. sum-allowed _ _ h) (λ h. le-ltb _ _ h) (λ h. ltb-true _ _ h) (λ h. lt-ltb _ _ h)
+
+decide-room : (q : Plan) → Decides 16 17 (λ r. (room q < used q) × (r ≡ roomReason q)) (roomRule q)
+unfolding roomRule roomReason rank turn ruleNumber ruleRefusal number kindRank
 decide-room q = decide-test _ _ refl (λ h. ltb-true _ _ h) (λ h. lt-ltb _ _ h)
 
 module _ (f : Fields) (q : Plan) where
@@ -179,42 +222,51 @@ module _ (f : Fields) (q : Plan) where
       ⊎ ((0 < f .nblocks)
       × (((0 < q .later .level) × (longest (q .later .field) < q .later .covered)) × (r ≡ lengthReason Later (q .later))))
 
-  RoomBroken : Reason → Type 0
-  RoomBroken r = (8 * q .size < used q) × (r ≡ roomReason q)
+  MarkBroken : Reason → Type 0
+  MarkBroken r =
+      ((f .page < f .mark .offset + f .mark .length) × (r ≡ markReason f))
+      ⊎ ((f .mark .offset + f .mark .length ≤ f .page) × ((0 < f .zeros) × (r ≡ zerosReason f)))
 
-  decide-finding : Decides 2 9 (λ r. LevelBroken r ⊎ (MessageBroken r ⊎ (LengthBroken r ⊎ RoomBroken r))) (findingOf f q)
-  unfolding findingOf LevelBroken MessageBroken LengthBroken RoomBroken kindRank
+  RoomBroken : Reason → Type 0
+  RoomBroken r = (room q < used q) × (r ≡ roomReason q)
+
+  decide-finding : Decides 4 17 (λ r. LevelBroken r ⊎ (MessageBroken r ⊎ (LengthBroken r ⊎ (MarkBroken r ⊎ RoomBroken r)))) (findingOf f q)
+  unfolding findingOf LevelBroken MessageBroken LengthBroken MarkBroken RoomBroken kindRank
   decide-finding =
-      decide-either (omega arith) (omega arith)
-      (decide-blocks (f .nblocks) (omega arith) (omega arith) (decide-level First (f .first) 2 refl) (decide-level Later (f .later) 3 refl))
-      (decide-either (omega arith) (omega arith)
-      (decide-blocks (f .nblocks) (omega arith) (omega arith) (decide-message First (q .first) 4 refl) (decide-message Later (q .later) 5 refl))
-      (decide-either (omega arith) (omega arith)
-      (decide-blocks (f .nblocks) (omega arith) (omega arith) (decide-length First (q .first) 6 refl) (decide-length Later (q .later) 7 refl))
-      (decide-room q)))
+      decide-either (omega arith) (omega arith) (omega arith)
+      (decide-blocks (f .nblocks) (omega arith) (omega arith) (decide-level First (f .first) 4 refl) (decide-level Later (f .later) 5 refl))
+      (decide-either (omega arith) (omega arith) (omega arith)
+      (decide-blocks (f .nblocks) (omega arith) (omega arith) (decide-message First (q .first) 8 refl) (decide-message Later (q .later) 9 refl))
+      (decide-either (omega arith) (omega arith) (omega arith)
+      (decide-blocks (f .nblocks) (omega arith) (omega arith) (decide-length First (q .first) 12 refl) (decide-length Later (q .later) 13 refl))
+      (decide-either (omega arith) (omega arith) (omega arith) (decide-mark f) (decide-room q))))
 
   All : Reason → Type 0
-  All r = LevelBroken r ⊎ (MessageBroken r ⊎ (LengthBroken r ⊎ RoomBroken r))
+  All r = LevelBroken r ⊎ (MessageBroken r ⊎ (LengthBroken r ⊎ (MarkBroken r ⊎ RoomBroken r)))
 
   all-breaks : (r : Reason) → All r → Breaks f q r
-  unfolding All LevelBroken MessageBroken LengthBroken RoomBroken
+  unfolding All LevelBroken MessageBroken LengthBroken MarkBroken RoomBroken
   all-breaks r (inl (inl h)) = rw (h .1) (level-first (h .0))
   all-breaks r (inl (inr h)) = rw (h .1 .1) (level-later (h .0) (h .1 .0))
   all-breaks r (inr (inl (inl h))) = rw (h .1) (message-first (h .0))
   all-breaks r (inr (inl (inr h))) = rw (h .1 .1) (message-later (h .0) (h .1 .0))
   all-breaks r (inr (inr (inl (inl h)))) = rw (h .1) (length-first (h .0 .0) (h .0 .1))
   all-breaks r (inr (inr (inl (inr h)))) = rw (h .1 .1) (length-later (h .0) (h .1 .0 .0) (h .1 .0 .1))
-  all-breaks r (inr (inr (inr h))) = rw (h .1) (page-room (h .0))
+  all-breaks r (inr (inr (inr (inl (inl h))))) = rw (h .1) (mark-outside (h .0))
+  all-breaks r (inr (inr (inr (inl (inr h))))) = rw (h .1 .1) (zeros-set (h .0) (h .1 .0))
+  all-breaks r (inr (inr (inr (inr h)))) = rw (h .1) (page-room (h .0))
 
   breaks-all : (r : Reason) → Breaks f q r → All r
-  unfolding All LevelBroken MessageBroken LengthBroken RoomBroken
+  unfolding All LevelBroken MessageBroken LengthBroken MarkBroken RoomBroken
   breaks-all r (level-first h) = inl (inl (h, refl))
   breaks-all r (level-later n h) = inl (inr (n, (h, refl)))
   breaks-all r (message-first h) = inr (inl (inl (h, refl)))
   breaks-all r (message-later n h) = inr (inl (inr (n, (h, refl))))
   breaks-all r (length-first t h) = inr (inr (inl (inl ((t, h), refl))))
   breaks-all r (length-later n t h) = inr (inr (inl (inr (n, ((t, h), refl)))))
-  breaks-all r (page-room h) = inr (inr (inr (h, refl)))
+  breaks-all r (mark-outside h) = inr (inr (inr (inl (inl (h, refl)))))
+  breaks-all r (zeros-set a h) = inr (inr (inr (inl (inr (a, (h, refl))))))
+  breaks-all r (page-room h) = inr (inr (inr (inr (h, refl))))
 
   -- The finding is the first of the reasons to refuse the layout.
   pub finding-least : Least (Breaks f q) (findingOf f q)
@@ -269,7 +321,7 @@ module _ (f : Fields) (q : Plan) where
   pub free-kept : ((r : Reason) → Breaks f q r → ⊥) → findingOf f q ≡ Kept
   free-kept h = kept-least (finding-least f q) h
 
-  -- so the smallest reply wins
-  pub reply-smallest : (r s : Reason) → findingOf f q ≡ Broken r → Breaks f q s → ruleNumber (r .rule) ≤ ruleNumber (s .rule)
+  -- so the first turn wins, which is the smallest reply but that 11 comes after 3 (replies/Given `turn`)
+  pub reply-smallest : (r s : Reason) → findingOf f q ≡ Broken r → Breaks f q s → turn (ruleNumber (r .rule)) ≤ turn (ruleNumber (s .rule))
   unfolding rank
   reply-smallest r s e h = let o = reason-first r s e h in omega (arith, kind-small (r .kind), kind-small (s .kind))

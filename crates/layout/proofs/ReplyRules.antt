@@ -1,6 +1,6 @@
 -- Each call about a layout record replies as its list of rules says, so each reply is given exactly if its rule applies and none before it does.
 use mathlib.Core.Path.{_≡_, refl, sym, ap, _∙_}
-use mathlib.Core.Bool.{Bool, true, false, cond}
+use mathlib.Core.Bool.{Bool, true, false, not, cond}
 use mathlib.Core.List.{List, [], _∷_, _++_}
 use Prim.Native.Nat.{ℕ, zero, suc, _*_}
 use native.Mathlib.Omega.{arith}
@@ -13,14 +13,15 @@ use Rattle.replies.specs.declared.Refusal.the-variants.{OutOfRange}
 use Rattle.replies.specs.declared.Verdict.{Verdict}
 use Rattle.replies.specs.declared.Verdict.the-variants as verdict
 use Rattle.replies.specs.Replies as replies
-use Rattle.replies.specs.Replies.{number, block, verdictNumber, verdictBlock, unequal, rule, verdict, reply, replyBlock}
-use Rattle.replies.specs.Given.{None, Follows, Exactly, atMost, ascending}
+use Rattle.replies.specs.Replies.{number, block, verdictNumber, verdictBlock, rule, verdict, reply, replyBlock}
+use Rattle.replies.specs.Given.{None, Follows, Exactly, turn, atMost, ascending}
 use Rattle.replies.proofs.Given.{follows-done, follows-next, follows-here, none-verdict, verdict-none, append-kept, append-refused, exactly}
+use Rattle.mark.specs.Mark.{marked, streamed}
 use Rattle.layout.specs.declared.Fields.{Fields}
 use Rattle.layout.specs.declared.Plan.{Plan}
 use Rattle.layout.specs.declared.Reason.{Reason}
 use Rattle.layout.specs.declared.Rule.{Rule}
-use Rattle.layout.specs.declared.Rule.the-variants.{Level, Message, Length, Room}
+use Rattle.layout.specs.declared.Rule.the-variants.{Level, Message, Length, Outside, Room}
 use Rattle.layout.specs.declared.Finding.{Finding}
 use Rattle.layout.specs.declared.Finding.the-variants.{Kept, Broken}
 use Rattle.layout.specs.declared.Refusal.{Refusal}
@@ -29,7 +30,7 @@ use Rattle.layout.specs.declared.Acceptance.{Acceptance}
 use Rattle.layout.specs.declared.Acceptance.the-variants.{Accepted, Refused}
 use Rattle.layout.specs.Record.{fieldsIn, layoutOf}
 use Rattle.layout.specs.Plan.{planOf, covered}
-use Rattle.layout.specs.Acceptance.{test, levelRule, messageRule, lengthRule, roomRule, either, ofBlocks, findingOf, judged, acceptance, ruleRefusal, refusalOf, refusalReply}
+use Rattle.layout.specs.Acceptance.{test, levelRule, messageRule, lengthRule, markRule, roomRule, either, ofBlocks, findingOf, judged, recordLength, acceptance, ruleRefusal, refusalOf, refusalReply}
 use Rattle.layout.specs.Answers as numbers
 use Rattle.layout.specs.Answers.{acceptanceNumbers, bitNumbers, positionNumbers}
 use Rattle.layout.specs.declared.BitAnswer.the-variants as bit
@@ -75,16 +76,18 @@ empty-test zero = refl
 empty-test (suc n) = rw (eqb·suc-zero n, le-ltb (suc n) 1 (omega arith))
 
 says-fields : (f : Fields) (q : Plan) → Says (fieldRules f q) (findingOf f q)
-unfolding fieldRules findingOf levelRule messageRule lengthRule roomRule tooLong ruleRefusal
+unfolding fieldRules findingOf levelRule messageRule lengthRule markRule roomRule tooLong ruleRefusal
 says-fields f q = rw (empty-test (q .first .message), empty-test (q .later .message))
     (says-either _ (says-blocks f (ltb 20 (f .first .ecc)) (ltb 20 (f .later .ecc)) _ _ refl)
     (says-either _ (says-blocks f (ltb (q .first .message) 1) (ltb (q .later .message) 1) _ _ refl)
     (says-either _ (says-blocks f (tooLong (q .first)) (tooLong (q .later)) _ _ refl)
-    (says-test _ _))))
+    (says-either _ (says-either _ (says-test _ _) (says-test _ _))
+    (says-test _ _)))))
 
 -- ---- the answer to a record
 
-refusal-block : (r : Refusal) → block (refusalOf r) ≡ 0
+-- no refusal of this crate names a block
+pub refusal-block : (r : Refusal) → block (refusalOf r) ≡ 0
 unfolding refusalOf ruleRefusal block
 refusal-block refusal.RecordLength = refl
 refusal-block (refusal.Rule r) = go (r .rule)
@@ -93,6 +96,7 @@ refusal-block (refusal.Rule r) = go (r .rule)
     go Level = refl
     go Message = refl
     go Length = refl
+    go Outside = refl
     go Room = refl
 refusal-block refusal.Range = refl
 
@@ -101,19 +105,19 @@ pub data Accepting (rec : List ℕ) : Acceptance → Type 0 where
   accepts : None (layoutRules rec) → Accepting rec (Accepted (layoutOf rec))
   refuses : (r : Refusal) → verdict (layoutRules rec) ≡ verdict.Refused (refusalOf r) → Accepting rec (Refused r)
 
-record-right : (rec : List ℕ) → eqb (length rec) 8 ≡ true → verdict (layoutRules rec) ≡ found (findingOf (fieldsIn rec) (planOf (layoutOf rec)))
-unfolding layoutRules unequal verdict
+record-right : (rec : List ℕ) → recordLength (length rec) ≡ true → verdict (layoutRules rec) ≡ found (findingOf (fieldsIn rec) (planOf (layoutOf rec)))
+unfolding layoutRules verdict
 record-right rec e = rw e (says-fields (fieldsIn rec) (planOf (layoutOf rec)) .same)
 
-record-wrong : (rec : List ℕ) → eqb (length rec) 8 ≡ false → verdict (layoutRules rec) ≡ verdict.Refused row.BufferLength
-unfolding layoutRules unequal verdict
+record-wrong : (rec : List ℕ) → recordLength (length rec) ≡ false → verdict (layoutRules rec) ≡ verdict.Refused row.BufferLength
+unfolding layoutRules verdict
 record-wrong rec e = rw e
 
 pub accepting : (rec : List ℕ) → Accepting rec (acceptance rec)
 unfolding acceptance judged found refusalOf
-accepting rec = go (eqb (length rec) 8) refl (findingOf (fieldsIn rec) (planOf (layoutOf rec))) refl
+accepting rec = go (recordLength (length rec)) refl (findingOf (fieldsIn rec) (planOf (layoutOf rec))) refl
   where
-    go : (b : Bool) → eqb (length rec) 8 ≡ b → (f : Finding) → findingOf (fieldsIn rec) (planOf (layoutOf rec)) ≡ f
+    go : (b : Bool) → recordLength (length rec) ≡ b → (f : Finding) → findingOf (fieldsIn rec) (planOf (layoutOf rec)) ≡ f
         → Accepting rec (cond b (judged (layoutOf rec) f) (Refused refusal.RecordLength))
     go true e Kept g = accepts (verdict-none _ (record-right rec e ∙ ap found g))
     go true e (Broken r) g = refuses (refusal.Rule r) (record-right rec e ∙ ap found g)
@@ -157,10 +161,21 @@ module _ (q : Plan) where
       go true e = follows-done
       go false e = follows-done
 
+  -- a position of the page, in the mark or not
+  unmarked-done : (p : ℕ) → Follows [] (bitNumbers (cond (marked (q .mark) p) bit.Mark (located q (streamed (q .mark) p))) .reply)
+      (bitNumbers (cond (marked (q .mark) p) bit.Mark (located q (streamed (q .mark) p))) .block)
+  unfolding bitNumbers numbers.done
+  unmarked-done p = go (marked (q .mark) p)
+    where
+      go : (c : Bool) → Follows [] (bitNumbers (cond c bit.Mark (located q (streamed (q .mark) p))) .reply)
+          (bitNumbers (cond c bit.Mark (located q (streamed (q .mark) p))) .block)
+      go true = follows-done
+      go false = located-done (streamed (q .mark) p)
+
   bit-in : (p : ℕ) → Follows (rule (leb (8 * q .size) p) OutOfRange ∷ []) (bitNumbers (bitIn q p) .reply) (bitNumbers (bitIn q p) .block)
   unfolding bitIn bitNumbers numbers.refused refusalReply refusalOf number block
   bit-in p = elim (decLt p (8 * q .size)) [
-    | yes h ↦ rw (lt-ltb p (8 * q .size) h) (follows-next _ (lt-leb (8 * q .size) p h) (located-done p))
+    | yes h ↦ rw (lt-ltb p (8 * q .size) h) (follows-next _ (lt-leb (8 * q .size) p h) (unmarked-done p))
     | no h ↦ rw (le-ltb p (8 * q .size) (omega arith)) (follows-here _ (le-leb (8 * q .size) p (omega arith)))
   ]
 
@@ -204,16 +219,16 @@ module _ (rec : List ℕ) (b e : ℕ) where
   pub position-exactly : Exactly (positionRules rec b e) (positionNumbers (positionAnswer rec b e) .reply) (positionNumbers (positionAnswer rec b e) .block)
   position-exactly = exactly (positionRules rec b e) position-replies
 
--- After the record's length, which is looked at first, the numbers never fall: where several rules apply the smallest number wins (replies/Given `smallest`).
+-- After the record's length, which is looked at first, the turns never fall: where several rules apply the first turn wins (replies/Given `smallest`).
 module _ (rec : List ℕ) where
   pub layout-ascending : ascending (drop 1 (layoutRules rec)) ≡ true
-  unfolding layoutRules fieldRules ascending atMost number
+  unfolding layoutRules fieldRules ascending atMost turn number
   layout-ascending = refl
 
   pub bit-ascending : (p : ℕ) → ascending (drop 1 (bitRules rec p)) ≡ true
-  unfolding bitRules layoutRules fieldRules ascending atMost number
+  unfolding bitRules layoutRules fieldRules ascending atMost turn number
   bit-ascending p = refl
 
   pub position-ascending : (b e : ℕ) → ascending (drop 1 (positionRules rec b e)) ≡ true
-  unfolding positionRules layoutRules fieldRules ascending atMost number
+  unfolding positionRules layoutRules fieldRules ascending atMost turn number
   position-ascending b e = refl

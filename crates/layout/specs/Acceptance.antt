@@ -1,17 +1,18 @@
--- Whether a layout is accepted, and the reason where it is not (document 01, "Replies", 1 to 4 and 6).
+-- Whether a layout is accepted, and the reason where it is not (document 01, "Replies", 1 to 4 and 6; document 02, E7, 11).
 --
 -- test broken r           the finding of one rule
--- levelRule, messageRule, lengthRule, roomRule    what the rules of the replies 1, 2, 3 and 4 find
+-- levelRule, messageRule, lengthRule, markRule, roomRule    what the rules of the replies 1, 2, 3, 11 and 4 find
 -- either f g              the finding f, or g where f found nothing
 -- ofBlocks n f g          the finding f about block 0, then g about the n later blocks
 -- findingOf f q           the first broken rule of a layout of the fields f and the plan q
 -- judged l f              the answer to a layout by the finding f
+-- recordLength n          a layout record may have n bytes
 -- acceptance record       the answer to a layout record
 -- ruleRefusal, refusalOf  what a broken rule and a refusal are in document 01's table (replies/Replies)
 -- ruleNumber, refusalReply   its number there
-use Prim.Native.Nat.{ℕ, _*_}
+use Prim.Native.Nat.{ℕ, _+_}
 use mathlib.Core.List.{List}
-use mathlib.Core.Bool.{Bool, false, cond}
+use mathlib.Core.Bool.{Bool, true, false, cond}
 use lib.ListN.{length}
 use lib.Dec.{eqb, ltb}
 use Rattle.field.specs.Field.{longest}
@@ -24,7 +25,7 @@ use Rattle.layout.specs.declared.Layout.{Layout}
 use Rattle.layout.specs.declared.Shape.{Shape}
 use Rattle.layout.specs.declared.Plan.{Plan}
 use Rattle.layout.specs.declared.Rule.{Rule}
-use Rattle.layout.specs.declared.Rule.the-variants.{Level, Message, Length, Room}
+use Rattle.layout.specs.declared.Rule.the-variants.{Level, Message, Length, Outside, Room}
 use Rattle.layout.specs.declared.Kind.{Kind}
 use Rattle.layout.specs.declared.Kind.the-variants.{First, Later, Page}
 use Rattle.layout.specs.declared.Reason.{Reason}
@@ -35,7 +36,7 @@ use Rattle.layout.specs.declared.Refusal.the-variants as refusal
 use Rattle.layout.specs.declared.Acceptance.{Acceptance}
 use Rattle.layout.specs.declared.Acceptance.the-variants.{Accepted, Refused}
 use Rattle.layout.specs.Record.{fieldsIn, layoutOf}
-use Rattle.layout.specs.Plan.{planOf, used}
+use Rattle.layout.specs.Plan.{planOf, used, room}
 
 -- A rule that is broken gives its reason.
 unfoldable pub test : Bool → Reason → Finding
@@ -55,41 +56,55 @@ lengthRule kind s =
     test (cond (eqb (s .level) 0) false (ltb (longest (s .field)) (s .covered)))
     (record { rule = Length; kind = kind; found = s .covered; limit = longest (s .field) })
 
--- 4: the blocks need more than 8 times PAGE_SIZE bits
-unfoldable pub roomRule : Plan → Finding
-roomRule q = test (ltb (8 * q .size) (used q)) (record { rule = Room; kind = Page; found = used q; limit = 8 * q .size })
-
 -- The first finding decides where it is a broken rule.
 unfoldable pub either : Finding → Finding → Finding
 either Kept g = g
 either (Broken r) g = Broken r
 
+-- 11: offset plus length of the mark beyond PAGE_SIZE, or zero bits that are not zero (document 02, E7)
+unfoldable pub markRule : Fields → Finding
+markRule f =
+    either
+    (test (ltb (f .page) (f .mark .offset + f .mark .length))
+    (record { rule = Outside; kind = Page; found = f .mark .offset + f .mark .length; limit = f .page }))
+    (test (ltb 0 (f .zeros)) (record { rule = Outside; kind = Page; found = f .zeros; limit = 0 }))
+
+-- 4: the blocks need more than 8 times (PAGE_SIZE - length) bits
+unfoldable pub roomRule : Plan → Finding
+roomRule q = test (ltb (room q) (used q)) (record { rule = Room; kind = Page; found = used q; limit = room q })
+
 -- Where NBLOCKS is 0 the fields of later blocks are not examined.
 unfoldable pub ofBlocks : ℕ → Finding → Finding → Finding
 ofBlocks n f g = cond (eqb n 0) f (either f g)
 
--- The smallest number wins; of two kinds of block that break one rule, block 0 is named.
+-- The smallest number wins, but that 11 is looked at after 3 and before 4; of two kinds of block that break one rule, block 0 is named.
 unfoldable pub findingOf : Fields → Plan → Finding
 findingOf f q =
     either (ofBlocks (f .nblocks) (levelRule First (f .first)) (levelRule Later (f .later)))
     (either (ofBlocks (f .nblocks) (messageRule First (q .first)) (messageRule Later (q .later)))
     (either (ofBlocks (f .nblocks) (lengthRule First (q .first)) (lengthRule Later (q .later)))
-    (roomRule q)))
+    (either (markRule f)
+    (roomRule q))))
 
 -- A layout that breaks no rule is accepted.
 unfoldable pub judged : Layout → Finding → Acceptance
 judged l Kept = Accepted l
 judged l (Broken r) = Refused (refusal.Rule r)
 
--- A record of another length than eight is refused before anything is looked at.
-unfoldable pub acceptance : List ℕ → Acceptance
-acceptance rec = cond (eqb (length rec) 8) (judged (layoutOf rec) (findingOf (fieldsIn rec) (planOf (layoutOf rec)))) (Refused refusal.RecordLength)
+-- A record is of two words or of three.
+unfoldable pub recordLength : ℕ → Bool
+recordLength n = cond (eqb n 8) true (eqb n 12)
 
--- The replies 1 to 4 of document 01's table.
+-- A record of another length is refused before anything is looked at.
+unfoldable pub acceptance : List ℕ → Acceptance
+acceptance rec = cond (recordLength (length rec)) (judged (layoutOf rec) (findingOf (fieldsIn rec) (planOf (layoutOf rec)))) (Refused refusal.RecordLength)
+
+-- The replies 1 to 4 of document 01's table, and 11 of document 02, E7.
 unfoldable pub ruleRefusal : Rule → table.Refusal
 ruleRefusal Level = row.LevelTooHigh
 ruleRefusal Message = row.EmptyMessage
 ruleRefusal Length = row.BlockTooLong
+ruleRefusal Outside = row.MarkOutside
 ruleRefusal Room = row.PageTooSmall
 
 -- A record of another length is a lent buffer of another length, 6; a number outside its range is 7.

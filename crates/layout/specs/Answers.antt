@@ -5,7 +5,7 @@
 -- done values           reply 0
 -- refused r             a refusal, which has no values
 -- acceptanceNumbers     a layout record: nothing but the reply
--- bitNumbers            a page bit: block and exponent, or nothing in the tail
+-- bitNumbers            a page bit: block and exponent, or nothing in the tail and in the mark
 -- positionNumbers       a code bit: its position
 use Prim.Native.Nat.{ℕ}
 use mathlib.Core.List.{List, [], _∷_}
@@ -36,6 +36,7 @@ acceptanceNumbers (acceptance.Refused r) = refused r
 unfoldable pub bitNumbers : BitAnswer → Numbers
 bitNumbers (bit.InBlock b e) = done (b ∷ e ∷ [])
 bitNumbers bit.Tail = done []
+bitNumbers bit.Mark = done []
 bitNumbers (bit.Refused r) = refused r
 
 unfoldable pub positionNumbers : PositionAnswer → Numbers

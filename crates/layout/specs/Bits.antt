@@ -1,19 +1,21 @@
 -- Where a page bit belongs, and where a code bit lies (document 01, "Bits and polynomials" and "Bits").
 -- Position p of a page is byte p / 8, bit 7 - (p mod 8). A block of n bits that starts at s has at position s + j the coefficient of x^(n-1-j).
--- The tail is document 01's word for the bits after the last block.
+-- The tail is document 01's word for the bits after the last block. Blocks live in the stream, which leaves the mark out (document 02, E7):
+-- a position of the page is asked for by the stream position that stands there, unless it is in the mark.
 --
--- within q b p            position p lies in block b
+-- within q b p            stream position p lies in block b
 -- blockBelow q n p        the block in which p lies, one of the first n; the number of blocks where it lies in none of them
 -- blockOf q p             the block in which p lies; the number of blocks where it lies in none
--- exponentAt q b p        the exponent that block b has at position p
--- positionAt q b e        the position of the exponent e of block b
--- located q p             block and exponent of a position, or the tail
+-- exponentAt q b p        the exponent that block b has at stream position p
+-- positionAt q b e        the stream position of the exponent e of block b
+-- located q p             block and exponent of a stream position, or the tail
 -- bitIn, bitAnswer        the answer to a position, under a plan and for a record
 -- positionIn, positionAnswer   the answer to block and exponent, under a plan and for a record
 use Prim.Native.Nat.{ℕ, zero, suc, _+_, _-_, _*_}
 use mathlib.Core.List.{List}
 use mathlib.Core.Bool.{Bool, false, cond}
 use lib.Dec.{leb, ltb}
+use Rattle.mark.specs.Mark.{place, marked, streamed}
 use Rattle.layout.specs.declared.Plan.{Plan}
 use Rattle.layout.specs.declared.Refusal.the-variants.{Range}
 use Rattle.layout.specs.declared.Acceptance.{Acceptance}
@@ -49,7 +51,7 @@ located q p = cond (ltb (blockOf q p) (q .blocks)) (bit.InBlock (blockOf q p) (e
 
 -- a position below 8 x PAGE_SIZE
 unfoldable pub bitIn : Plan → ℕ → BitAnswer
-bitIn q p = cond (ltb p (8 * q .size)) (located q p) (bit.Refused Range)
+bitIn q p = cond (ltb p (8 * q .size)) (cond (marked (q .mark) p) bit.Mark (located q (streamed (q .mark) p))) (bit.Refused Range)
 
 unfoldable pub bitFor : Acceptance → ℕ → BitAnswer
 bitFor (acceptance.Accepted l) p = bitIn (planOf l) p
@@ -62,7 +64,7 @@ bitAnswer rec p = bitFor (acceptance rec) p
 unfoldable pub positionIn : Plan → ℕ → ℕ → PositionAnswer
 positionIn q b e =
     cond (ltb b (q .blocks))
-    (cond (ltb e (covered q b)) (position.Position (positionAt q b e)) (position.Refused Range))
+    (cond (ltb e (covered q b)) (position.Position (place (q .mark) (positionAt q b e))) (position.Refused Range))
     (position.Refused Range)
 
 unfoldable pub positionFor : Acceptance → ℕ → ℕ → PositionAnswer

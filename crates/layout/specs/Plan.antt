@@ -12,14 +12,15 @@
 -- bits q b, field q b, level q b, covered q b    its message bits, its field, its level t, its covered bits
 -- start q b                 the stream position of its first bit
 -- used q                    bits of all blocks together
+-- room q                    bits of the page without the mark
 -- from q b                  where its message starts among the bits of the payload
 -- payload q                 bytes of the payload, metadata and data
 -- Summed s                  the number of covered bits kept in the shape s is that of its message and its parity
--- Valid q                   the blocks lie one after the other within the page, each with a code long enough, and hold the payload; the kept
---                           numbers are the sums of what the blocks are made of
+-- Valid q                   the blocks lie one after the other within the stream of the page, each with a code long enough, and hold the payload;
+--                           the mark lies in the page; the kept numbers are the sums of what the blocks are made of
 use mathlib.Core.Path.{_≡_}
 use mathlib.Core.Bool.{cond}
-use Prim.Native.Nat.{ℕ, zero, suc, _+_, _*_, _≤_, _<_}
+use Prim.Native.Nat.{ℕ, zero, suc, _+_, _-_, _*_, _≤_, _<_}
 use lib.Dec.{eqb}
 use Rattle.field.specs.Field.{degree, longest}
 use Rattle.field.specs.declared.Field.{Field}
@@ -56,6 +57,7 @@ planFor f = record {
   used = shapeOf (f .metadata) (f .first) .covered + f .nblocks * laterShape f .covered;
   first = shapeOf (f .metadata) (f .first);
   later = laterShape f;
+  mark = f .mark;
 }
 
 -- A layout keeps its sums (document 02, E8).
@@ -95,9 +97,13 @@ unfoldable pub start : Plan → ℕ → ℕ
 start q zero = 0
 start q (suc b) = start q b + covered q b
 
--- Rule 4 compares these with the bits of the page.
+-- Rule 4 compares these with the bits of the page without the mark.
 abbrev pub used : Plan → ℕ
 used q = q .used
+
+-- 8 x (PAGE_SIZE - length) bits, of document 02, E7
+unfoldable pub room : Plan → ℕ
+room q = 8 * (q .size - q .mark .length)
 
 -- The payload is cut into the messages of the blocks, block 0's first.
 unfoldable pub from : Plan → ℕ → ℕ
@@ -112,7 +118,8 @@ Summed s = s .covered ≡ s .message + degree (s .field) * s .level
 
 pub record Valid (q : Plan) : Type 0 where
   pub order : (b c : ℕ) → b < c → c < q .blocks → start q b + covered q b ≤ start q c
-  pub ends : (b : ℕ) → b < q .blocks → start q b + covered q b ≤ 8 * q .size
+  pub ends : (b : ℕ) → b < q .blocks → start q b + covered q b ≤ room q
+  pub inside : q .mark .offset + q .mark .length ≤ q .size
   pub short : (b : ℕ) → b < q .blocks → 0 < level q b → covered q b ≤ longest (field q b)
   pub strong : (b : ℕ) → b < q .blocks → level q b ≤ 62
   pub filled : (b : ℕ) → b < q .blocks → 0 < bits q b

@@ -1,10 +1,13 @@
--- The fields of a layout record (document 01, "Layout words"): eight bytes, word 0 first, most significant byte and field first.
+-- The fields of a layout record (document 01, "Layout words"; document 02, E7): two words or three, word 0 first, most significant byte and
+-- field first. The third word has the mark; a record of two words means offset 0 and length 0.
 --
 -- fieldOf bit             the field that a GF bit chooses
 -- blockFields high low    level field, GF and data size, from the low half of a word, whose bytes are `high` and `low`
--- fieldsAt b0 .. b7       the fields of eight bytes
--- fieldsIn record         the fields of a record of eight bytes
--- layoutOf record         the layout of a record of eight bytes
+-- markAt b8 b9 b10        mark offset and mark length
+-- markIn record           the mark of a record of eight or twelve bytes
+-- fieldsAt b0 .. b7 k z   the fields of eight bytes, with the mark k and the zero bits z
+-- fieldsIn record         the fields of a record of eight or twelve bytes
+-- layoutOf record         the layout of a record of eight or twelve bytes
 use Prim.Native.Nat.{ℕ, _+_, _*_, _/_, _%_}
 use mathlib.Core.List.{List}
 use mathlib.Core.Bool.{cond}
@@ -12,6 +15,7 @@ use lib.ListN.{getD}
 use lib.Dec.{eqb}
 use Rattle.field.specs.declared.Field.{Field}
 use Rattle.field.specs.declared.Field.the-variants.{Thirteen, Fourteen}
+use Rattle.mark.specs.declared.Mark.{Mark}
 use Rattle.layout.specs.declared.BlockFields.{BlockFields}
 use Rattle.layout.specs.declared.Fields.{Fields}
 use Rattle.layout.specs.declared.Layout.{Layout}
@@ -29,20 +33,31 @@ blockFields high low = record {
   units = high % 4 * 256 + low;
 }
 
+-- mark offset (16 bits), mark length (8 bits)
+unfoldable pub markAt : ℕ → ℕ → ℕ → Mark
+markAt b8 b9 b10 = record { offset = b8 * 256 + b9; length = b10 }
+
 -- bytes 0 to 3 are word 0, bytes 4 to 7 are word 1
-unfoldable pub fieldsAt : ℕ → ℕ → ℕ → ℕ → ℕ → ℕ → ℕ → ℕ → Fields
-fieldsAt b0 b1 b2 b3 b4 b5 b6 b7 = record {
+unfoldable pub fieldsAt : ℕ → ℕ → ℕ → ℕ → ℕ → ℕ → ℕ → ℕ → Mark → ℕ → Fields
+fieldsAt b0 b1 b2 b3 b4 b5 b6 b7 k z = record {
   nblocks = b0;
   metadata = b1;
   first = blockFields b2 b3;
   page = b4 * 256 + b5;
   later = blockFields b6 b7;
+  mark = k;
+  zeros = z;
 }
+
+-- bytes 8 to 11 are the third word; a byte that is not there counts as 0
+unfoldable pub markIn : List ℕ → Mark
+markIn rec = markAt (getD rec 8 0) (getD rec 9 0) (getD rec 10 0)
 
 unfoldable pub fieldsIn : List ℕ → Fields
 fieldsIn rec =
     fieldsAt (getD rec 0 0) (getD rec 1 0) (getD rec 2 0) (getD rec 3 0)
     (getD rec 4 0) (getD rec 5 0) (getD rec 6 0) (getD rec 7 0)
+    (markIn rec) (getD rec 11 0)
 
 unfoldable pub layoutOf : List ℕ → Layout
 layoutOf rec = layoutFor (fieldsIn rec)

@@ -3,23 +3,24 @@
 --
 -- tooLong s               a block with t > 0 longer than 2^m - 1 bits
 -- ofLater f broken        a later block breaks a rule: only where there is one
--- layoutRules record      6 for the record's length, then 1, 2, 3 and 4, each about block 0 and about the later blocks
+-- layoutRules record      6 for the record's length, then 1, 2, 3, 11 and 4, the first three about block 0 and about the later blocks
 -- bitRules record p       the same, then 7 for a position
 -- positionRules record b e    the same, then 7 for a block and for an exponent
-use Prim.Native.Nat.{ℕ, _*_}
+use Prim.Native.Nat.{ℕ, _+_, _*_}
 use mathlib.Core.List.{List, [], _∷_, _++_}
-use mathlib.Core.Bool.{Bool, false, cond}
+use mathlib.Core.Bool.{Bool, false, not, cond}
 use lib.ListN.{length}
 use lib.Dec.{eqb, ltb, leb}
 use Rattle.field.specs.Field.{longest}
-use Rattle.replies.specs.declared.Refusal.the-variants.{LevelTooHigh, EmptyMessage, BlockTooLong, PageTooSmall, BufferLength, OutOfRange}
+use Rattle.replies.specs.declared.Refusal.the-variants.{LevelTooHigh, EmptyMessage, BlockTooLong, MarkOutside, PageTooSmall, BufferLength, OutOfRange}
 use Rattle.replies.specs.Replies as replies
-use Rattle.replies.specs.Replies.{unequal, rule}
+use Rattle.replies.specs.Replies.{rule}
 use Rattle.layout.specs.declared.Fields.{Fields}
 use Rattle.layout.specs.declared.Shape.{Shape}
 use Rattle.layout.specs.declared.Plan.{Plan}
 use Rattle.layout.specs.Record.{fieldsIn, layoutOf}
-use Rattle.layout.specs.Plan.{planOf, covered, used}
+use Rattle.layout.specs.Plan.{planOf, covered, used, room}
+use Rattle.layout.specs.Acceptance.{recordLength}
 
 unfoldable pub tooLong : Shape → Bool
 tooLong s = cond (eqb (s .level) 0) false (ltb (longest (s .field)) (s .covered))
@@ -36,11 +37,13 @@ fieldRules f q =
     ∷ rule (ofLater f (eqb (q .later .message) 0)) EmptyMessage
     ∷ rule (tooLong (q .first)) BlockTooLong
     ∷ rule (ofLater f (tooLong (q .later))) BlockTooLong
-    ∷ rule (ltb (8 * q .size) (used q)) PageTooSmall
+    ∷ rule (ltb (f .page) (f .mark .offset + f .mark .length)) MarkOutside
+    ∷ rule (ltb 0 (f .zeros)) MarkOutside
+    ∷ rule (ltb (room q) (used q)) PageTooSmall
     ∷ []
 
 unfoldable pub layoutRules : List ℕ → List replies.Rule
-layoutRules rec = rule (unequal (length rec) 8) BufferLength ∷ fieldRules (fieldsIn rec) (planOf (layoutOf rec))
+layoutRules rec = rule (not (recordLength (length rec))) BufferLength ∷ fieldRules (fieldsIn rec) (planOf (layoutOf rec))
 
 unfoldable pub bitRules : List ℕ → ℕ → List replies.Rule
 bitRules rec p = layoutRules rec ++ (rule (leb (8 * planOf (layoutOf rec) .size) p) OutOfRange ∷ [])

@@ -15,6 +15,7 @@ fn rule_refusal(rule: Rule) -> replies::Refusal
         Rule::Level => replies::Refusal::LevelTooHigh,
         Rule::Message => replies::Refusal::EmptyMessage,
         Rule::Length => replies::Refusal::BlockTooLong,
+        Rule::Outside => replies::Refusal::MarkOutside,
         Rule::Room => replies::Refusal::PageTooSmall,
     }
 }

@@ -1,11 +1,11 @@
-// Layout words: what a page looks like, and whether it can look so (document 01, "Layout words" and "Replies").
+// Layout words: what a page looks like, and whether it can look so (document 01, "Layout words" and "Replies"; document 02, E7).
 //
 //   check_layout     is this layout acceptable? The layout, or the reason why not
 //   plan_of          the plan of a page under an accepted layout
-//   fields_of        the fields of a record of eight bytes, accepted or not
+//   fields_of        the fields of a record in twelve bytes, accepted or not
 //
 // check_layout takes the layout record as bytes of any length and asks nothing of its caller. The steps:
-// 1. words.rt takes the eight bytes apart into the fields of document 01 (`Fields`).
+// 1. words.rt takes the eight or twelve bytes apart into the fields of document 01 and the mark of document 02 (`Fields`).
 // 2. sums.rt works the sums out (`Plan`): number of blocks, data length, used bits, lengths of block 0 and of a later block. They
 //    are kept (`Layout`), and nothing adds them up again. Code and definitions above this crate know a plan and no layout words;
 //    block b starts where block b - 1 ends, at any bit.
@@ -20,9 +20,11 @@ pub use answers::acceptance_reply;
 pub use answers::refusal_of;
 pub use answers::refusal_reply;
 use field::Field;
+use mark::Mark;
 pub use sums::block_covered;
 pub use sums::block_shape;
 pub use sums::block_start;
+pub use sums::page_room;
 pub use sums::plan_of;
 pub use words::fields_of;
 ghost use mathlib.Core.Path.{_≡_};
@@ -36,13 +38,16 @@ pub struct BlockFields {
     pub units: u16,
 }
 
-// The fields of the layout words: NBLOCKS, META_SIZE, those of block 0, PAGE_SIZE, those of the later blocks.
+// The fields of the layout words: NBLOCKS, META_SIZE, those of block 0, PAGE_SIZE, those of the later blocks, the mark, and the bits
+// after it, which are to be zero.
 pub struct Fields {
     pub nblocks: u8,
     pub metadata: u8,
     pub first: BlockFields,
     pub page: u16,
     pub later: BlockFields,
+    pub mark: Mark,
+    pub zeros: u8,
 }
 
 // What a block is made of: message bits, and parity bits by field and level.
@@ -55,8 +60,8 @@ pub struct Shape {
     pub level: u16,
 }
 
-// What the layout words come to: how many blocks, how many bytes of page, metadata and data, the bits of all blocks together, and
-// what a block is made of. Block 0 has the shape `first`, every other block the shape `later`.
+// What the layout words come to: how many blocks, how many bytes of page, metadata and data, the bits of all blocks together, what a
+// block is made of, and the mark. Block 0 has the shape `first`, every other block the shape `later`.
 pub struct Plan {
     pub blocks: u16,
     pub size: u16,
@@ -65,6 +70,7 @@ pub struct Plan {
     pub used: u32,
     pub first: Shape,
     pub later: Shape,
+    pub mark: Mark,
 }
 
 // A layout: the plan of a page with its sums. No other crate can set it, and one function makes it (`sums::layout_for`).
@@ -72,11 +78,12 @@ pub struct Layout {
     plan: Plan,
 }
 
-// The rules that a layout must keep, by their replies: 1, 2, 3 and 4.
+// The rules that a layout must keep, by their replies: 1, 2, 3, 11 and 4.
 pub enum Rule {
     Level,
     Message,
     Length,
+    Outside,
     Room,
 }
 
@@ -118,6 +125,7 @@ pub enum Acceptance {
 pub enum BitAnswer {
     InBlock { block: u64, exponent: u64 },
     Tail,
+    Mark,
     Refused(Refusal),
 }
 
@@ -131,7 +139,7 @@ pub enum PositionAnswer {
 pub fn check_layout(words: &[u8]) -> Acceptance
     ensures { λ r. ⌜ r ≡ acceptance (now (words .entry)) ⌝ }
 {
-    if words.len() != 8 {
+    if !words::record_length(words.len()) {
         return Acceptance::Refused(Refusal::RecordLength);
     }
     let fields = words::fields_in(words);

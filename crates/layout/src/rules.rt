@@ -1,4 +1,4 @@
-// The rules that a layout must keep (document 01, replies 1 to 4), and the first one that it breaks.
+// The rules that a layout must keep (document 01, replies 1 to 4; document 02, E7, reply 11), and the first one that it breaks.
 use crate::BlockFields;
 use crate::Fields;
 use crate::Finding;
@@ -7,8 +7,9 @@ use crate::Plan;
 use crate::Reason;
 use crate::Rule;
 use crate::Shape;
+use crate::sums::page_room;
 ghost use mathlib.Core.Path.{_≡_};
-ghost use Rattle.layout.specs.Acceptance.{test, ofBlocks, levelRule, messageRule, lengthRule, roomRule, findingOf};
+ghost use Rattle.layout.specs.Acceptance.{test, ofBlocks, levelRule, messageRule, lengthRule, markRule, roomRule, findingOf};
 ghost use Rattle.layout.specs.declared.Kind.the-variants.{First, Later};
 
 // The finding of one rule.
@@ -74,12 +75,39 @@ pub fn length_rule(kind: Kind, shape: Shape) -> Finding
     )
 }
 
-// Reply 4, blocks that need more bits than the page has.
+// Reply 11, a mark beyond the page, or bits after it that are not zero.
+pub fn mark_rule(fields: Fields) -> Finding
+    ensures { λ r. ⌜ r ≡ markRule fields ⌝ }
+{
+    let mark = fields.mark;
+    let end = mark.offset as u64 + mark.length as u64;
+    let page = fields.page as u64;
+    let zeros = fields.zeros as u64;
+    if page < end {
+        return Finding::Broken(Reason {
+            rule: Rule::Outside,
+            kind: Kind::Page,
+            found: end,
+            limit: page,
+        });
+    }
+    test(
+        0 < zeros,
+        Reason {
+            rule: Rule::Outside,
+            kind: Kind::Page,
+            found: zeros,
+            limit: 0,
+        },
+    )
+}
+
+// Reply 4, blocks that need more bits than the page has beside the mark.
 pub fn room_rule(plan: Plan) -> Finding
     ensures { λ r. ⌜ r ≡ roomRule plan ⌝ }
 {
     let found = plan.used as u64;
-    let limit = 8 * plan.size as u64;
+    let limit = page_room(plan);
     test(
         limit < found,
         Reason {
@@ -152,6 +180,10 @@ pub fn finding_of(fields: Fields, plan: Plan) -> Finding
     }
     let length = lengths(nblocks, first, later);
     if let Finding::Broken(reason) = length {
+        return Finding::Broken(reason);
+    }
+    let mark = mark_rule(fields);
+    if let Finding::Broken(reason) = mark {
         return Finding::Broken(reason);
     }
     room_rule(plan)

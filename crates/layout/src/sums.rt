@@ -7,7 +7,7 @@ use crate::Shape;
 use field::Field;
 ghost use mathlib.Core.Path.{_≡_};
 ghost use Prim.Native.Nat.{_+_, _*_, _≤_, _<_};
-ghost use Rattle.layout.specs.Plan.{shapeOf, laterShape, dataBytes, layoutFor, planOf, shape, covered, start};
+ghost use Rattle.layout.specs.Plan.{shapeOf, laterShape, dataBytes, layoutFor, planOf, room, shape, covered, start};
 
 // The shape of a block with so many bytes of metadata: its parity is m times t bits.
 fn shape_of(metadata: u8, fields: BlockFields) -> Shape
@@ -65,6 +65,7 @@ pub fn layout_for(fields: Fields) -> Layout
     let used = length_first + fields.nblocks as u32 * length_later;
     let blocks = fields.nblocks as u16 + 1;
     let metadata = fields.metadata as u32;
+    let mark = fields.mark;
     let plan = Plan {
         blocks: blocks,
         size: fields.page,
@@ -73,8 +74,21 @@ pub fn layout_for(fields: Fields) -> Layout
         used: used,
         first: first,
         later: later,
+        mark: mark,
     };
     Layout { plan: plan }
+}
+
+// Bits of the page without the mark.
+pub fn page_room(plan: Plan) -> u64
+    ensures { λ r. ⌜ r ≡ room plan ⌝ }
+{
+    let size = plan.size as u64;
+    let mark = plan.mark.length as u64;
+    if size < mark {
+        return 0;
+    }
+    8 * (size - mark)
 }
 
 // The plan of a layout.

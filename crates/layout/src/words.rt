@@ -1,10 +1,14 @@
-// The eight bytes of a layout record, taken apart.
+// The bytes of a layout record, taken apart.
 use crate::BlockFields;
 use crate::Fields;
 use field::Field;
+use mark::Mark;
 ghost use mathlib.Core.Path.{_≡_};
-ghost use lib.ListN.{length};
-ghost use Rattle.layout.specs.Record.{fieldOf, blockFields, fieldsAt, fieldsIn};
+ghost use Prim.Native.Nat.{_≤_};
+ghost use lib.ListN.{length, getD};
+ghost use mathlib.Core.Bool.{true};
+ghost use Rattle.layout.specs.Record.{fieldOf, blockFields, markAt, markIn, fieldsAt, fieldsIn};
+ghost use Rattle.layout.specs.Acceptance.{recordLength};
 
 // The field that a bit of a layout word chooses.
 pub fn field_of(bit: u8) -> Field
@@ -27,9 +31,40 @@ pub fn block_fields(high: u8, low: u8) -> BlockFields
     }
 }
 
-// The fields of eight bytes.
-pub fn fields_at(b0: u8, b1: u8, b2: u8, b3: u8, b4: u8, b5: u8, b6: u8, b7: u8) -> Fields
-    ensures { λ r. ⌜ r ≡ fieldsAt b0 b1 b2 b3 b4 b5 b6 b7 ⌝ }
+// Whether a record may have so many bytes: two words, or three.
+pub fn record_length(n: usize) -> bool
+    ensures { λ r. ⌜ r ≡ recordLength n ⌝ }
+{
+    if n == 8 {
+        return true;
+    }
+    n == 12
+}
+
+// Mark offset and mark length.
+pub fn mark_at(b8: u8, b9: u8, b10: u8) -> Mark
+    ensures { λ r. ⌜ r ≡ markAt b8 b9 b10 ⌝ }
+{
+    Mark {
+        offset: b8 as u16 * 256 + b9 as u16,
+        length: b10,
+    }
+}
+
+// The fields of eight bytes, with a mark and the bits that are to be zero.
+pub fn fields_at(
+    b0: u8,
+    b1: u8,
+    b2: u8,
+    b3: u8,
+    b4: u8,
+    b5: u8,
+    b6: u8,
+    b7: u8,
+    mark: Mark,
+    zeros: u8,
+) -> Fields
+    ensures { λ r. ⌜ r ≡ fieldsAt b0 b1 b2 b3 b4 b5 b6 b7 mark zeros ⌝ }
 {
     Fields {
         nblocks: b0,
@@ -37,14 +72,44 @@ pub fn fields_at(b0: u8, b1: u8, b2: u8, b3: u8, b4: u8, b5: u8, b6: u8, b7: u8)
         first: block_fields(b2, b3),
         page: b4 as u16 * 256 + b5 as u16,
         later: block_fields(b6, b7),
+        mark: mark,
+        zeros: zeros,
     }
 }
 
-// The fields in a record of eight bytes.
+// The mark in a record of eight or twelve bytes.
+pub fn mark_in(words: &[u8]) -> Mark
+    requires { ⌜ recordLength (length (now words)) ≡ true ⌝ }
+    ensures { λ r. ⌜ r ≡ markIn (now (words .entry)) ⌝ }
+{
+    if words.len() == 8 {
+        return Mark {
+            offset: 0,
+            length: 0,
+        };
+    }
+    mark_at(words[8], words[9], words[10])
+}
+
+// The bits after the mark in a record of eight or twelve bytes.
+pub fn zeros_in(words: &[u8]) -> u8
+    requires { ⌜ recordLength (length (now words)) ≡ true ⌝ }
+    ensures { λ r. ⌜ r ≡ getD (now (words .entry)) 11 0 ⌝ }
+{
+    if words.len() == 8 {
+        return 0;
+    }
+    words[11]
+}
+
+// The fields in a record of eight or twelve bytes.
 pub fn fields_in(words: &[u8]) -> Fields
-    requires { ⌜ length (now words) ≡ 8 ⌝ }
+    requires right { ⌜ recordLength (length (now words)) ≡ true ⌝ }
+    requires long { ⌜ 8 ≤ length (now words) ⌝ }
     ensures { λ r. ⌜ r ≡ fieldsIn (now (words .entry)) ⌝ }
 {
+    let mark = mark_in(words);
+    let zeros = zeros_in(words);
     fields_at(
         words[0],
         words[1],
@@ -54,11 +119,13 @@ pub fn fields_in(words: &[u8]) -> Fields
         words[5],
         words[6],
         words[7],
+        mark,
+        zeros,
     )
 }
 
-// The fields in eight bytes.
-pub fn fields_of(words: &[u8; 8]) -> Fields
+// The fields in twelve bytes: a record of three words, or of two and four zero bytes.
+pub fn fields_of(words: &[u8; 12]) -> Fields
     ensures { λ r. ⌜ r ≡ fieldsIn (now (words .entry)) ⌝ }
 {
     fields_in(words)

@@ -25,13 +25,22 @@ fn in_tail(out: &mut [u8; 32768], options: Options) {
     say::put(out, b"reply 0: tail\n");
 }
 
-fn locate(out: &mut [u8; 32768], options: Options, record: &[u8], position: u64) {
+fn in_mark(out: &mut [u8; 32768], options: Options) {
+    page(out, options);
+    say::put(out, b"reply 0: mark\n");
+}
+
+fn locate(out: &mut [u8; 32768], options: Options, record: &[u8; 12], position: u64) {
     match page_bits::locate_bit(record, position) {
         BitAnswer::InBlock { block, exponent } => bit_in_block(out, options, block, exponent),
         BitAnswer::Tail => in_tail(out, options),
-        BitAnswer::Refused(refusal) => {
-            plans::refused(out, refusal, b"the page has no bit at this position\n")
-        }
+        BitAnswer::Mark => in_mark(out, options),
+        BitAnswer::Refused(refusal) => plans::refused(
+            out,
+            record,
+            refusal,
+            b"the page has no bit at this position\n",
+        ),
     }
 }
 
@@ -61,7 +70,7 @@ fn position(
     out: &mut [u8; 32768],
     options: Options,
     plan: Plan,
-    record: &[u8],
+    record: &[u8; 12],
     block: u64,
     exponent: u64,
 ) {
@@ -69,6 +78,7 @@ fn position(
         PositionAnswer::Position(p) => bit_at(out, options, plan, p),
         PositionAnswer::Refused(refusal) => plans::refused(
             out,
+            record,
             refusal,
             b"the page has no such block, or the block no such exponent\n",
         ),
@@ -76,7 +86,7 @@ fn position(
 }
 
 // nandpage bits WORD0 WORD1 POSITION
-fn bits_of_position(out: &mut [u8; 32768], options: Options, record: &[u8]) {
+fn bits_of_position(out: &mut [u8; 32768], options: Options, record: &[u8; 12]) {
     let Number::Is(p) = arguments::number(out, arguments::place(options.at, 2), b"POSITION") else {
         return;
     };
@@ -84,7 +94,7 @@ fn bits_of_position(out: &mut [u8; 32768], options: Options, record: &[u8]) {
 }
 
 // nandpage bits WORD0 WORD1 BLOCK EXPONENT
-fn bits_of_exponent(out: &mut [u8; 32768], options: Options, plan: Plan, record: &[u8]) {
+fn bits_of_exponent(out: &mut [u8; 32768], options: Options, plan: Plan, record: &[u8; 12]) {
     let Number::Is(block) = arguments::number(out, arguments::place(options.at, 2), b"BLOCK") else {
         return;
     };
@@ -98,20 +108,15 @@ fn bits_of_exponent(out: &mut [u8; 32768], options: Options, plan: Plan, record:
 fn usage(out: &mut [u8; 32768]) {
     say::error(
         out,
-        b"usage: nandpage bits [--page K] WORD0 WORD1 POSITION, or nandpage bits [--page K] WORD0 WORD1 BLOCK EXPONENT",
+        b"usage: nandpage bits [--mark WORD2] [--page K] WORD0 WORD1 POSITION, or with BLOCK EXPONENT in place of POSITION",
     );
 }
 
 fn bits_of(out: &mut [u8; 32768], options: Options) {
-    let Planned::Under {
-        first,
-        second,
-        plan,
-    } = plans::plan_of_words(out, options.at)
-    else {
+    let Planned::Under { words, plan } = plans::plan_of_words(out, options) else {
         return;
     };
-    let record = text::layout_record(first, second);
+    let record = arguments::record_of(words);
     if os::arg_count() == arguments::place(options.at, 3) {
         bits_of_position(out, options, &record);
         return;
@@ -121,7 +126,7 @@ fn bits_of(out: &mut [u8; 32768], options: Options) {
 
 // nandpage bits ..
 pub fn bits(out: &mut [u8; 32768]) {
-    let options = arguments::find_options(out, arguments::PAGE);
+    let options = arguments::find_options(out, arguments::MARK + arguments::PAGE);
     if !options.good {
         return;
     }

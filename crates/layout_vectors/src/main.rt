@@ -2,7 +2,7 @@
 //
 // A vector is 32 bytes: the kind of call (`L` a layout, `P` a page bit, `B` a code bit), the length of the layout record,
 // its bytes in twelve places, two bytes not used, and two numbers of eight bytes. A line starts with the reply and its block.
-// An accepted layout shows its fields and sums, a refused one the block kind and the two numbers compared.
+// An accepted layout shows its fields, sums and mark, a refused one the block kind and the two numbers compared.
 use layout::Acceptance;
 use layout::BitAnswer;
 use layout::BlockFields;
@@ -37,6 +37,12 @@ fn put_sums(line: &mut [u8], at: usize, layout: Layout) -> usize {
     vector_io::put_number(line, used_at, plan.data as u64)
 }
 
+fn put_mark(line: &mut [u8], at: usize, layout: Layout) -> usize {
+    let plan = layout::plan_of(layout);
+    let offset_at = vector_io::put_number(line, at, plan.mark.offset as u64);
+    vector_io::put_number(line, offset_at, plan.mark.length as u64)
+}
+
 fn put_stored(line: &mut [u8], at: usize, stored: Fields) -> usize {
     let first = stored.first;
     let later = stored.later;
@@ -47,8 +53,8 @@ fn put_stored(line: &mut [u8], at: usize, stored: Fields) -> usize {
     put_fields(line, page_at, later)
 }
 
-// The eight bytes of an accepted record.
-fn eight_bytes(words: &[u8]) -> [u8; 8] {
+// An accepted record in twelve bytes: a third word that is not there is 0.
+fn twelve_bytes(words: &[u8]) -> [u8; 12] {
     [
         vector_io::byte(words, 0, 0),
         vector_io::byte(words, 1, 0),
@@ -58,12 +64,17 @@ fn eight_bytes(words: &[u8]) -> [u8; 8] {
         vector_io::byte(words, 5, 0),
         vector_io::byte(words, 6, 0),
         vector_io::byte(words, 7, 0),
+        vector_io::byte(words, 8, 0),
+        vector_io::byte(words, 9, 0),
+        vector_io::byte(words, 10, 0),
+        vector_io::byte(words, 11, 0),
     ]
 }
 
 fn put_accepted(line: &mut [u8], at: usize, words: &[u8], layout: Layout) -> usize {
-    let stored_at = put_stored(line, at, layout::fields_of(&eight_bytes(words)));
-    put_sums(line, stored_at, layout)
+    let stored_at = put_stored(line, at, layout::fields_of(&twelve_bytes(words)));
+    let sums_at = put_sums(line, stored_at, layout);
+    put_mark(line, sums_at, layout)
 }
 
 fn put_reason(line: &mut [u8], at: usize, reason: Reason) -> usize {
@@ -95,7 +106,7 @@ fn layout_line(words: &[u8], line: &mut [u8]) -> usize {
     }
 }
 
-// A page bit in a block shows 1, its block and its exponent; one in the tail shows 0.
+// A page bit in a block shows 1, its block and its exponent; one in the tail shows 0, one in the mark 2.
 fn put_bit(line: &mut [u8], at: usize, block: u64, exponent: u64) -> usize {
     let kind_at = vector_io::put_number(line, at, 1);
     let block_at = vector_io::put_number(line, kind_at, block);
@@ -108,6 +119,7 @@ fn bit_line(words: &[u8], position: u64, line: &mut [u8]) -> usize {
     match answer {
         BitAnswer::InBlock { block, exponent } => put_bit(line, at, block, exponent),
         BitAnswer::Tail => vector_io::put_number(line, at, 0),
+        BitAnswer::Mark => vector_io::put_number(line, at, 2),
         BitAnswer::Refused(_) => at,
     }
 }

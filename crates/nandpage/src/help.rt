@@ -14,7 +14,7 @@ fn commands(out: &mut [u8; 32768]) {
     );
     say::put(
         out,
-        b"  nandpage bits WORD0 WORD1 POSITION              the block and exponent of a page bit, or the tail\n",
+        b"  nandpage bits WORD0 WORD1 POSITION              the block and exponent of a page bit, or the tail, or the mark\n",
     );
     say::put(
         out,
@@ -65,15 +65,23 @@ fn other_commands(out: &mut [u8; 32768]) {
 fn options(out: &mut [u8; 32768]) {
     say::put(
         out,
-        b"\nOptions stand right after the command. Of read, look and salvage: --from N and --pages M, the pages of a dump, counted from 0;\n",
+        b"\nOptions stand right after the command, each at most once. Of every command that takes WORD0 and WORD1: --mark WORD2, the third\n",
     );
     say::put(
         out,
-        b"--quiet, no line for a page that is not refused. Of read: --stdout, data to standard output, with a dash for DATA. Of salvage:\n",
+        b"layout word, by which the bytes of the factory's mark are left be; 0x10000100 is one byte at byte 4096. Of read, look and\n",
     );
     say::put(
         out,
-        b"--raw, a ruined block as it stands in the page, in place of bytes 0xFF. Of bits, judge and claim: --page K, page K of a dump.\n",
+        b"salvage: --from N and --pages M, the pages of a dump, counted from 0; --quiet, no line for a page that is not refused. Of\n",
+    );
+    say::put(
+        out,
+        b"read: --stdout, data to standard output, with a dash for DATA. Of salvage: --raw, a ruined block as it stands in the page, in\n",
+    );
+    say::put(
+        out,
+        b"place of bytes 0xFF. Of bits, judge and claim: --page K, page K of a dump.\n",
     );
 }
 

@@ -1,4 +1,4 @@
--- Laws of Bits: each position lies in one block or in the tail, and position and exponent are inverse to each other.
+-- Laws of Bits: each stream position lies in one block or after all blocks, and which block it is.
 use mathlib.Core.Path.{_≡_, refl, sym, ap, _∙_}
 use mathlib.Core.Logic.{_⊎_, inl, inr, ⊎-elim}
 use mathlib.Core.Bool.{true, false}
@@ -14,7 +14,7 @@ use Rattle.layout.specs.Bits.{within, blockBelow, blockOf, exponentAt, located}
 use Rattle.layout.proofs.Plans.{start-next, start-zero, covered-zero, covered-later, start-later, start-order, start-up}
 use Rattle.layout.specs.declared.BitAnswer.the-variants as bit
 
--- position p lies in block b
+-- stream position p lies in block b
 pub record Lies (q : Plan) (b p : ℕ) : Type 0 where
   pub from : start q b ≤ p
   pub to : p < start q b + covered q b
@@ -142,7 +142,7 @@ module _ (q : Plan) where
   unfolding located
   located-block p e h = simp (sym e, lt-ltb _ _ h)
 
--- The tail of a page is what follows its used bits.
+-- The tail of a page is what follows its used bits in the stream.
 module _ (q : Plan) (v : Valid q) where
   pub block-past : (p : ℕ) → used q ≤ p → blockOf q p ≡ q .blocks
   block-past p h = block-after q p (omega (arith, v .total))

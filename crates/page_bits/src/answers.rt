@@ -15,6 +15,7 @@ pub fn bit_reply(answer: BitAnswer) -> u8
             exponent: _,
         } => 0,
         BitAnswer::Tail => 0,
+        BitAnswer::Mark => 0,
         BitAnswer::Refused(refusal) => refusal_reply(refusal),
     }
 }

@@ -1,10 +1,11 @@
-// Where the bits of a page belong (document 01, "Bits and polynomials" and "Bits").
+// Where the bits of a page belong (document 01, "Bits and polynomials" and "Bits"; document 02, E7).
 //
-//   locate_bit       where does a page bit belong? Block and exponent, or the tail
+//   locate_bit       where does a page bit belong? Block and exponent, the tail, or the mark
 //   bit_position     where does a code bit lie? Its position in the page
 //
 // Each takes the layout record as bytes of any length and asks nothing of its caller. places.rt answers under the plan of an accepted
-// layout: the block of a position is found by one division, and positions and exponents of a block run against each other.
+// layout: the block of a stream position is found by one division, and positions and exponents of a block run against each other. The
+// stream leaves the mark out (crate mark), so a page position before it is its own stream position and one behind it is less by its bits.
 mod answers;
 mod places;
 

@@ -5,10 +5,11 @@ use layout::PositionAnswer;
 use layout::Refusal;
 use layout::block_covered;
 use layout::block_start;
+use mark::place;
 ghost use mathlib.Core.Path.{_≡_};
 ghost use Rattle.layout.specs.Bits.{blockOf, located, bitIn, positionIn};
 
-// The block in which a position lies, by a division; the number of blocks where it lies in none.
+// The block in which a stream position lies, by a division; the number of blocks where it lies in none.
 pub fn block_of(plan: Plan, position: u32) -> usize
     ensures { λ r. ⌜ r ≡ blockOf plan position ⌝ }
 {
@@ -29,7 +30,7 @@ pub fn block_of(plan: Plan, position: u32) -> usize
     blocks
 }
 
-// The block and the exponent at a position of the page.
+// The block and the exponent at a position of the stream.
 pub fn located(plan: Plan, position: u32) -> BitAnswer
     ensures { λ r. ⌜ r ≡ located plan position ⌝ }
 {
@@ -46,14 +47,24 @@ pub fn located(plan: Plan, position: u32) -> BitAnswer
     }
 }
 
-// The answer to a position, in the page or not.
+// The answer to a position, in the page or not: outside the mark, that of the stream position that stands there.
 pub fn bit_in(plan: Plan, position: u64) -> BitAnswer
     ensures { λ r. ⌜ r ≡ bitIn plan position ⌝ }
 {
-    if position < 8 * plan.size as u64 {
-        return located(plan, position as u32);
+    if 8 * plan.size as u64 <= position {
+        return BitAnswer::Refused(Refusal::Range);
     }
-    BitAnswer::Refused(Refusal::Range)
+    let mark = plan.mark;
+    let at = position as u32;
+    let start = 8 * mark.offset as u32;
+    let length = 8 * mark.length as u32;
+    if at < start {
+        return located(plan, at);
+    }
+    if at < start + length {
+        return BitAnswer::Mark;
+    }
+    located(plan, at - length)
 }
 
 // The answer to a block and an exponent, in their ranges or not.
@@ -69,5 +80,7 @@ pub fn position_in(plan: Plan, block: u64, exponent: u64) -> PositionAnswer
         return PositionAnswer::Refused(Refusal::Range);
     }
     let start = block_start(plan, number) as u64;
-    PositionAnswer::Position(start + (length - 1 - exponent))
+    let mark = plan.mark;
+    let at = start + (length - 1 - exponent);
+    PositionAnswer::Position(place(mark, at as usize) as u64)
 }

@@ -15,6 +15,8 @@ use Rattle.bits.specs.Decides.{Decides}
 use Rattle.bits.specs.Bits.{bitOf, run, placed}
 use Rattle.bits.proofs.Runs.{run-length, run-at}
 use Rattle.bits.proofs.Placed.{placed-inside, placed-outside, placed-run}
+use Rattle.mark.specs.declared.Mark.{Mark}
+use Rattle.mark.specs.Mark.{streamBit}
 use Rattle.field.specs.declared.Field.{Field}
 use Rattle.field.specs.declared.Field.the-variants.{Thirteen, Fourteen}
 use Rattle.field.specs.Field.{longest}
@@ -141,14 +143,14 @@ pub code-every : (f : Field) (t : ℕ) (w : Word) → t ≡ 0 → Codeword f t w
 code-every f t w e = record { zeros = λ j l m. absurd (omega arith) }
 
 -- the block's bits copied to the start of other bytes, and the claimed ones flipped there
-pub copied-flipped : (word page claims two : List ℕ) (position n m : ℕ) → n ≡ m → n ≤ 8 * length word → {one : List ℕ}
-    → one ≡ placed word 0 (run (bitOf page) position n) → run (bitOf two) 0 n ≡ flipped (run (bitOf one) 0 n) claims
-    → run (bitOf two) 0 n ≡ flipped (run (bitOf page) position m) claims
-copied-flipped word page claims two position n m em h e f =
-    let w : Word = run (bitOf page) position n in
-    let l : length w ≡ n = run-length (bitOf page) position n in
+pub copied-flipped : (k : Mark) (word page claims two : List ℕ) (position n m : ℕ) → n ≡ m → n ≤ 8 * length word → {one : List ℕ}
+    → one ≡ placed word 0 (run (streamBit k page) position n) → run (bitOf two) 0 n ≡ flipped (run (bitOf one) 0 n) claims
+    → run (bitOf two) 0 n ≡ flipped (run (streamBit k page) position m) claims
+copied-flipped k word page claims two position n m em h e f =
+    let w : Word = run (streamBit k page) position n in
+    let l : length w ≡ n = run-length (streamBit k page) position n in
     let r : run (bitOf (placed word 0 w)) 0 (length w) ≡ w = placed-run word 0 w (omega arith) in
-    f ∙ ap (λ v. flipped v claims) (ap (λ v. run (bitOf v) 0 n) e ∙ rw l at r ∙ ap (run (bitOf page) position) em)
+    f ∙ ap (λ v. flipped v claims) (ap (λ v. run (bitOf v) 0 n) e ∙ rw l at r ∙ ap (run (streamBit k page) position) em)
 
 -- a block with t > 0 has room in 2,048 bytes
 pub longest-room : (f : Field) (t n : ℕ) → Fits f t n → (t ≡ 0 → ⊥) → n ≤ 16384
@@ -164,7 +166,7 @@ unfolding claimIn
 claim-refused q page b claims r e = rw (← e, ne-eqb _ 0 (number-some r))
 
 module _ (q : Plan) (page : List ℕ) (b : ℕ) (size : length page ≡ q .size) (inside : b < q .blocks) (claims : List ℕ) {s : Shape} {position : ℕ} (es : s ≡ shape q b)
-    (ep : position ≡ start q b) {r : Bool} (h : Decides r (Right (s .field) (s .level) (run (bitOf page) position (s .covered)) claims)) where
+    (ep : position ≡ start q b) {r : Bool} (h : Decides r (Right (s .field) (s .level) (run (streamBit (q .mark) page) position (s .covered)) claims)) where
   block-decided : Decides r (Right (field q b) (level q b) (blockWord q page b) claims)
   unfolding blockWord
   block-decided = rw (es, ep) at h

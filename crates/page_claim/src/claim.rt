@@ -1,6 +1,5 @@
 // Claimed error locations of one block (document 01, "Claim"): a list of exponents in any order, whoever proposed them.
 use crate::ClaimAnswer;
-use bit_writing::copy::copy_bits;
 use bit_writing::write::flip_bit;
 use division::runs::remainder_of;
 use division_table::make_table;
@@ -12,7 +11,9 @@ use layout::block_start;
 use layout::check_layout;
 use layout::plan_of;
 use layout::refusal_of;
+use mark::Mark;
 use page_plan::block_reply;
+use page_runs::read::copy_word;
 use remainder::coefficients::is_zero;
 use replies::Refusal;
 use replies::Verdict;
@@ -21,6 +22,7 @@ ghost use Prim.Native.Nat.{_+_, _*_, _≤_, _<_};
 ghost use lib.ListN.{length};
 ghost use Rattle.bits.specs.Decides.{Decides};
 ghost use Rattle.bits.specs.Bits.{bitOf, run, Inside};
+ghost use Rattle.mark.specs.Mark.{streamBit, InStream};
 ghost use Rattle.code.specs.Word.{flipped};
 ghost use Rattle.code.specs.Code.{Codeword, Fits};
 ghost use Rattle.page_theory.specs.Claim.{Right};
@@ -76,25 +78,26 @@ fn flip_claims(claims: &[u16], bytes: &mut [u8], n: usize)
     }
 }
 
-// Whether the block at a position is a codeword once the claimed bits are flipped, by its remainder. The block is copied to the
+// Whether the block at a position of the stream is a codeword once the claimed bits are flipped, by its remainder. The block is copied to the
 // start of `word`, and its bits are flipped there.
 fn is_code_flipped(
     shape: Shape,
+    mark: Mark,
     page: &[u8],
     position: usize,
     claims: &[u16],
     word: &mut [u8],
 ) -> bool
-    requires { ⌜ Stored shape × Inside (now page) position (shape .covered) × Within (shape .covered) (now claims)
+    requires { ⌜ Stored shape × InStream mark (now page) position (shape .covered) × Within (shape .covered) (now claims)
         × Inside (now word) 0 (shape .covered) ⌝ }
     ensures { λ r. ⌜ Decides r
         (Codeword (shape .field) (shape .level)
-        (flipped (run (bitOf (now (page .entry))) position (shape .covered)) (now (claims .entry)))) ⌝ }
+        (flipped (run (streamBit mark (now (page .entry))) position (shape .covered)) (now (claims .entry)))) ⌝ }
 {
     let field = shape.field;
     let level = shape.level as usize;
     let n = shape.covered as usize;
-    copy_bits(page, position, word, 0, n);
+    copy_word(mark, page, position, word, n);
     flip_claims(claims, word, n);
     let mut table = [0u64; 3600];
     make_table(field, level, &mut table);
@@ -103,25 +106,25 @@ fn is_code_flipped(
 }
 
 // The same with bytes to copy the block to: a block with t > 0 has at most 16,383 bits. At t = 0 every word is a codeword.
-fn leads_to_code(shape: Shape, page: &[u8], position: usize, claims: &[u16]) -> bool
-    requires { ⌜ Stored shape × Fits (shape .field) (shape .level) (shape .covered) × Inside (now page) position (shape .covered)
+fn leads_to_code(shape: Shape, mark: Mark, page: &[u8], position: usize, claims: &[u16]) -> bool
+    requires { ⌜ Stored shape × Fits (shape .field) (shape .level) (shape .covered) × InStream mark (now page) position (shape .covered)
         × Within (shape .covered) (now claims) ⌝ }
     ensures { λ r. ⌜ Decides r
         (Codeword (shape .field) (shape .level)
-        (flipped (run (bitOf (now (page .entry))) position (shape .covered)) (now (claims .entry)))) ⌝ }
+        (flipped (run (streamBit mark (now (page .entry))) position (shape .covered)) (now (claims .entry)))) ⌝ }
 {
     if shape.level == 0 {
         return true;
     }
     let mut word = [0u8; 2048];
-    is_code_flipped(shape, page, position, claims, &mut word)
+    is_code_flipped(shape, mark, page, position, claims, &mut word)
 }
 
-// Whether a claim about the block at a position is right.
-fn is_right(shape: Shape, page: &[u8], position: usize, claims: &[u16]) -> bool
-    requires { ⌜ Stored shape × Fits (shape .field) (shape .level) (shape .covered) × Inside (now page) position (shape .covered) ⌝ }
+// Whether a claim about the block at a position of the stream is right.
+fn is_right(shape: Shape, mark: Mark, page: &[u8], position: usize, claims: &[u16]) -> bool
+    requires { ⌜ Stored shape × Fits (shape .field) (shape .level) (shape .covered) × InStream mark (now page) position (shape .covered) ⌝ }
     ensures { λ r. ⌜ Decides r
-        (Right (shape .field) (shape .level) (run (bitOf (now (page .entry))) position (shape .covered)) (now (claims .entry))) ⌝ }
+        (Right (shape .field) (shape .level) (run (streamBit mark (now (page .entry))) position (shape .covered)) (now (claims .entry))) ⌝ }
 {
     let level = shape.level as usize;
     if level < claims.len() {
@@ -134,7 +137,7 @@ fn is_right(shape: Shape, page: &[u8], position: usize, claims: &[u16]) -> bool
     if !distinct(claims) {
         return false;
     }
-    leads_to_code(shape, page, position, claims)
+    leads_to_code(shape, mark, page, position, claims)
 }
 
 // Answers to a claim about a block of a page of the right length.
@@ -144,7 +147,7 @@ fn claim_lent(plan: Plan, page: &[u8], block: u16, claims: &[u16]) -> ClaimAnswe
 {
     let shape = block_shape(plan, block);
     let position = block_start(plan, block);
-    if is_right(shape, page, position, claims) {
+    if is_right(shape, plan.mark, page, position, claims) {
         return ClaimAnswer::Accepted;
     }
     ClaimAnswer::Refused(Refusal::ClaimWrong)

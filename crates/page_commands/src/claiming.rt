@@ -107,9 +107,9 @@ fn claim_of(
     }
 }
 
-// nandpage claim [--page K] WORD0 WORD1 PAGE BLOCK EXPONENT..
+// nandpage claim [--mark WORD2] [--page K] WORD0 WORD1 PAGE BLOCK EXPONENT..
 pub fn claim(out: &mut [u8; 32768]) {
-    let options = arguments::find_options(out, arguments::PAGE);
+    let options = arguments::find_options(out, arguments::MARK + arguments::PAGE);
     if !options.good {
         return;
     }
@@ -117,25 +117,20 @@ pub fn claim(out: &mut [u8; 32768]) {
     if count < arguments::place(options.at, 4) {
         say::error(
             out,
-            b"usage: nandpage claim [--page K] WORD0 WORD1 PAGE BLOCK EXPONENT..",
+            b"usage: nandpage claim [--mark WORD2] [--page K] WORD0 WORD1 PAGE BLOCK EXPONENT..",
         );
         return;
     }
     let Number::Is(block) = arguments::number(out, arguments::place(options.at, 3), b"BLOCK") else {
         return;
     };
-    let Planned::Under {
-        first,
-        second,
-        plan,
-    } = plans::plan_of_words(out, options.at)
-    else {
+    let Planned::Under { words, plan } = plans::plan_of_words(out, options) else {
         return;
     };
     claim_of(
         out,
         options,
-        &text::layout_record(first, second),
+        &arguments::record_of(words),
         plan,
         block,
         count,

@@ -50,9 +50,9 @@ fn judge_in(out: &mut [u8; 32768], options: Options, record: &[u8], plan: Plan, 
     }
 }
 
-// nandpage judge [--page K] WORD0 WORD1 PAGE BLOCK
+// nandpage judge [--mark WORD2] [--page K] WORD0 WORD1 PAGE BLOCK
 pub fn judge(out: &mut [u8; 32768]) {
-    let options = arguments::find_options(out, arguments::PAGE);
+    let options = arguments::find_options(out, arguments::MARK + arguments::PAGE);
     if !options.good {
         return;
     }
@@ -60,26 +60,15 @@ pub fn judge(out: &mut [u8; 32768]) {
         out,
         options.at,
         4,
-        b"usage: nandpage judge [--page K] WORD0 WORD1 PAGE BLOCK",
+        b"usage: nandpage judge [--mark WORD2] [--page K] WORD0 WORD1 PAGE BLOCK",
     ) {
         return;
     }
     let Number::Is(block) = arguments::number(out, arguments::place(options.at, 3), b"BLOCK") else {
         return;
     };
-    let Planned::Under {
-        first,
-        second,
-        plan,
-    } = plans::plan_of_words(out, options.at)
-    else {
+    let Planned::Under { words, plan } = plans::plan_of_words(out, options) else {
         return;
     };
-    judge_in(
-        out,
-        options,
-        &text::layout_record(first, second),
-        plan,
-        block,
-    );
+    judge_in(out, options, &arguments::record_of(words), plan, block);
 }

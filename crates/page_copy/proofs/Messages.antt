@@ -9,11 +9,12 @@ use native.Mathlib.Numerals.{add-one}
 use native.Mathlib.Omega.{arith}
 use lib.ListN.{length, take, getD, length-append, List·getD-append}
 use lib.Seq.{getD-append-add, take-at}
-use Rattle.bits.specs.Bits.{bitOf, run, placed, Bytes, Inside}
+use Rattle.bits.specs.Bits.{bitOf, run, placed, Bytes}
 use Rattle.bits.proofs.Runs.{run-length, run-at, run-ext, run-append}
 use Rattle.bits.proofs.Placed.{placed-inside, placed-append, placed-empty}
+use Rattle.mark.specs.Mark.{streamBit, InStream}
 use Rattle.layout.specs.declared.Plan.{Plan}
-use Rattle.layout.specs.Plan.{bits, start, from, payload, Valid}
+use Rattle.layout.specs.Plan.{bits, start, room, from, payload, Valid}
 use Rattle.page_theory.specs.Page.{message, blockWord}
 use Rattle.page_theory.proofs.Calls.{bytes-append}
 use Rattle.page_theory.proofs.Reading.{from-order}
@@ -27,10 +28,10 @@ module _ (q : Plan) where
     pub texts-length : (n : ℕ) → length (texts q page n) ≡ from q n
     unfolding texts from
     texts-length zero = refl
-    texts-length (suc n) = length-append (texts q page n) _ ∙ rw (texts-length n, run-length (bitOf page) (start q n) (bits q n))
+    texts-length (suc n) = length-append (texts q page n) _ ∙ rw (texts-length n, run-length (streamBit (q .mark) page) (start q n) (bits q n))
 
     -- the bits of a message among those of all of them
-    texts-bit : (n b j : ℕ) → b < n → j < bits q b → getD (texts q page n) (from q b + j) false ≡ bitOf page (start q b + j)
+    texts-bit : (n b j : ℕ) → b < n → j < bits q b → getD (texts q page n) (from q b + j) false ≡ streamBit (q .mark) page (start q b + j)
     unfolding texts
     texts-bit zero b j l k = absurd (omega arith)
     texts-bit (suc n) b j l k = elim (decLt b n) [
@@ -39,15 +40,15 @@ module _ (q : Plan) where
       | no h ↦ (let e : b ≡ n = omega arith in
           let i : from q b + j ≡ length (texts q page n) + j = ap (λ x. from q x + j) e ∙ ap (λ x. x + j) (sym (texts-length n)) in
           ap (λ p. getD (texts q page (suc n)) p false) i ∙ getD-append-add (texts q page n) _ j false
-          ∙ rw (← e) (run-at (bitOf page) (start q b) (bits q b) j false k))
+          ∙ rw (← e) (run-at (streamBit (q .mark) page) (start q b) (bits q b) j false k))
     ]
 
     -- the message of a block as it stands in the page
-    pub block-message : Valid q → (b : ℕ) → take (bits q b) (blockWord q page b) ≡ run (bitOf page) (start q b) (bits q b)
+    pub block-message : Valid q → (b : ℕ) → take (bits q b) (blockWord q page b) ≡ run (streamBit (q .mark) page) (start q b) (bits q b)
     unfolding blockWord
     block-message v b =
-        ap (take (bits q b)) (ap (run (bitOf page) (start q b)) (v .sums b) ∙ run-append (bitOf page) (start q b) (bits q b) _)
-        ∙ take-at _ _ _ (run-length (bitOf page) (start q b) (bits q b))
+        ap (take (bits q b)) (ap (run (streamBit (q .mark) page) (start q b)) (v .sums b) ∙ run-append (streamBit (q .mark) page) (start q b) (bits q b) _)
+        ∙ take-at _ _ _ (run-length (streamBit (q .mark) page) (start q b) (bits q b))
 
     -- A payload into which the messages of all blocks were put has them.
     pub texts-message : Valid q → (old : List ℕ) → length old ≡ payload q → (b : ℕ) → b < q .blocks
@@ -59,7 +60,7 @@ module _ (q : Plan) where
         let z : from q b + j ≡ 0 + (from q b + j) = omega arith in
         ap (bitOf (placed old 0 (texts q page (q .blocks)))) z
         ∙ placed-inside old 0 (texts q page (q .blocks)) (from q b + j) false (omega (arith, texts-length (q .blocks))) (omega arith)
-        ∙ texts-bit (q .blocks) b j l k ∙ sym (run-at (bitOf page) (start q b) (bits q b) j false k)))
+        ∙ texts-bit (q .blocks) b j l k ∙ sym (run-at (streamBit (q .mark) page) (start q b) (bits q b) j false k)))
 
     pub joined-start : (m d : List ℕ) → Bytes (length m) m → Bytes (length d) d → Joined m d m d (placed (m ++ d) 0 (texts q page 0))
     unfolding texts
@@ -68,27 +69,28 @@ module _ (q : Plan) where
 
     -- one message more, from the numbers of its block
     pub joined-texts : (m d : List ℕ) {m₁ d₁ m₂ d₂ : List ℕ} (b : ℕ) {s p n : ℕ} → s ≡ start q b → p ≡ from q b → n ≡ bits q b
-        → Joined m d m₁ d₁ (placed (m ++ d) 0 (texts q page b)) → Joined m₁ d₁ m₂ d₂ (placed (m₁ ++ d₁) p (run (bitOf page) s n))
+        → Joined m d m₁ d₁ (placed (m ++ d) 0 (texts q page b)) → Joined m₁ d₁ m₂ d₂ (placed (m₁ ++ d₁) p (run (streamBit (q .mark) page) s n))
         → Joined m d m₂ d₂ (placed (m ++ d) 0 (texts q page (b + 1)))
     unfolding texts
     joined-texts m d {m₁} {d₁} b es ep en x y = record {
       metadata = y .metadata ∙ x .metadata;
       «data» = y .«data» ∙ x .«data»;
       both = y .both ∙ rw (es, ep, en, x .both)
-          (placed-append (m ++ d) 0 (from q b) (texts q page b) (run (bitOf page) (start q b) (bits q b)) (sym (zero-add _ ∙ texts-length b))
+          (placed-append (m ++ d) 0 (from q b) (texts q page b) (run (streamBit (q .mark) page) (start q b) (bits q b)) (sym (zero-add _ ∙ texts-length b))
           ∙ rw (add-one b));
     }
 
-    -- the message of a block lies in the page, and in the payload
+    -- the message of a block lies in the stream, and in the payload
     pub message-room : Ready q page → (b : ℕ) → b < q .blocks → {m d : List ℕ} → length m ≡ q .metadata → length d ≡ q .«data» → {s p n : ℕ}
-        → s ≡ start q b → p ≡ from q b → n ≡ bits q b → s + n < 18446744073709551616
-        → ((Inside page s n) × Small m d) × (p + n ≤ 8 * (length m + length d))
-    unfolding payload
+        → s ≡ start q b → p ≡ from q b → n ≡ bits q b → q .size < 65536
+        → ((InStream (q .mark) page s n) × Small m d) × (p + n ≤ 8 * (length m + length d))
+    unfolding payload room
     message-room r b l em ed es ep en f =
         let i = message-inside q (r .plan .valid) b l in
         let o = r .plan .valid .ends b l in
+        let k = r .plan .valid .inside in
         let c = r .plan .valid .sums b in
         let z = r .size in
         let x = r .plan .metadata in
         let y = r .plan .«data» in
-        ((record { ends = omega arith; fits = f }, record { metadata = omega arith; «data» = omega arith }), omega arith)
+        ((record { inside = omega arith; ends = omega arith; fits = omega arith }, record { metadata = omega arith; «data» = omega arith }), omega arith)

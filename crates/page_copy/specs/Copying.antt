@@ -12,7 +12,8 @@ use mathlib.Core.Bool.{true}
 use mathlib.Core.List.{List, [], _++_}
 use Prim.Native.Nat.{ℕ, zero, suc, _≤_, _<_}
 use lib.ListN.{length, take, getD, replicate}
-use Rattle.bits.specs.Bits.{bitOf, run}
+use Rattle.bits.specs.Bits.{run}
+use Rattle.mark.specs.Mark.{streamBit}
 use Rattle.layout.specs.declared.Plan.{Plan}
 use Rattle.layout.specs.Plan.{bits, covered, start}
 use Rattle.code.specs.Word.{Word, flipped}
@@ -21,7 +22,7 @@ use Rattle.page_keep.specs.Keeping.{kept}
 
 unfoldable pub texts : Plan → List ℕ → ℕ → Word
 texts q page zero = []
-texts q page (suc b) = texts q page b ++ run (bitOf page) (start q b) (bits q b)
+texts q page (suc b) = texts q page b ++ run (streamBit (q .mark) page) (start q b) (bits q b)
 
 pub record FlippedIn (q : Plan) (b : ℕ) (ps m d m' d' : List ℕ) : Type 0 where
   pub metadata : length m' ≡ length m

@@ -16,7 +16,7 @@ use layout::block_covered;
 use layout::block_shape;
 use layout::block_start;
 use page_plan::message_start;
-use payload::copy_to;
+use page_runs::read::copy_out;
 
 // Copies the messages of all blocks out as they stand in the page.
 pub fn copy_messages(plan: Plan, page: &[u8], metadata: &mut [u8], data: &mut [u8])
@@ -25,13 +25,14 @@ pub fn copy_messages(plan: Plan, page: &[u8], metadata: &mut [u8], data: &mut [u
         (placed (now (metadata .entry) ++ now («data» .entry)) 0 (texts plan (now (page .entry)) (plan .blocks))) ⌝ }
 {
     let blocks = plan.blocks;
+    let mark = plan.mark;
     let mut b = 0;
     while b < blocks {
         let shape = block_shape(plan, b);
         let n = shape.message as usize;
         let start = block_start(plan, b);
         let position = message_start(plan, b);
-        copy_to(page, start, metadata, data, position, n);
+        copy_out(mark, page, start, metadata, data, position, n);
         b += 1;
     }
 }

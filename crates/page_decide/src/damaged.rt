@@ -8,13 +8,13 @@ ghost use Rattle.division_table.specs.Table.{Table};
 ghost use Rattle.page_plan.specs.Plans.{Ready};
 ghost use Rattle.page_decide.specs.Scanning.{remainderAt, Scanned};
 use crate::Scan;
-use division::runs::remainder_of;
 use division_table::make_table;
 use layout::Plan;
 use layout::block_covered;
 use layout::block_shape;
 use layout::block_start;
 use page_plan::later_table;
+use page_runs::divide::remainder_in;
 use remainder::Register;
 use remainder::coefficients::is_zero;
 use remainder::coefficients::zero;
@@ -31,9 +31,10 @@ pub fn block_remainder(plan: Plan, page: &[u8], table: &[u64], block: u16) -> Re
     if t == 0 {
         return zero();
     }
+    let mark = plan.mark;
     let start = block_start(plan, block);
     let n = block_covered(plan, block);
-    remainder_of(f, t, table, page, start, n)
+    remainder_in(f, t, table, mark, page, start, n)
 }
 
 // The first damaged block from a later block on; `table` is that of the later blocks' generator.

@@ -14,8 +14,8 @@ use layout::Plan;
 use layout::block_covered;
 use layout::block_shape;
 use layout::block_start;
+use page_runs::read::zeros_in;
 use remainder::Register;
-use zeros::zeros_to;
 
 // What becomes of a block with this remainder: the exponents that repair it, or that there are none.
 pub fn block_outcome(
@@ -52,9 +52,10 @@ fn erased_count(plan: Plan, page: &[u8], block: u16) -> u8
 {
     let shape = block_shape(plan, block);
     let t = shape.level as usize;
+    let mark = plan.mark;
     let start = block_start(plan, block);
     let n = block_covered(plan, block);
-    let zeros = zeros_to(page, start, n, t + 1);
+    let zeros = zeros_in(mark, page, start, n, t + 1);
     if zeros <= t { 128 + zeros as u8 } else { 255 }
 }
 

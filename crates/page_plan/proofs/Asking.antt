@@ -22,8 +22,8 @@ use Rattle.replies.specs.Replies.{number, block, verdictNumber}
 use Rattle.replies.proofs.Given.{number-positive}
 use Rattle.layout.specs.declared.Refusal as kinds
 use Rattle.layout.specs.declared.Plan.{Plan}
-use Rattle.layout.specs.Acceptance.{refusalOf, refusalReply}
-use Rattle.layout.proofs.Numbers.{refusal-reply-range}
+use Rattle.layout.specs.Acceptance.{refusalOf}
+use Rattle.layout.proofs.ReplyRules.{refusal-block}
 use Rattle.page_theory.specs.Calls.{blockReply}
 use Rattle.page_plan.specs.Plans.{Planned, Ready}
 
@@ -42,10 +42,10 @@ number-bare refusal.OutOfRange l = refl
 number-bare refusal.RemainderTooWide l = refl
 number-bare (refusal.Uncorrectable b) l = absurd (omega arith)
 number-bare refusal.ClaimWrong l = refl
+number-bare refusal.MarkOutside l = refl
 
 pub layout-bare : (r : kinds.Refusal) → block (refusalOf r) ≡ 0
-unfolding refusalReply
-layout-bare r = number-bare (refusalOf r) (omega (arith, refusal-reply-range r .1))
+layout-bare r = refusal-block r
 
 pub told-passed : {v : Verdict} {n : ℕ} → v ≡ Passed → verdictNumber v ≡ n → n ≡ 0
 unfolding verdictNumber

@@ -3,7 +3,7 @@
 -- accepted-planned           the plan of an accepted layout is such a plan
 -- shape-stored               each of its blocks has a stored generator
 -- block-fits, shape-fits     each of its blocks is as long as its code allows
--- block-inside               each of its blocks lies in the page
+-- block-inside               each of its blocks lies in the stream of the page
 -- from-zero, from-product    where the message of a block starts in the payload
 -- message-inside             each message lies in the payload
 use mathlib.Core.Path.{_≡_, sym}
@@ -13,7 +13,7 @@ use Prim.Native.Nat.{ℕ, zero, suc, _+_, _-_, _*_, _≤_, _<_}
 use native.Mathlib.Nat.{eq-zero-or-pos}
 use native.Mathlib.Omega.{arith}
 use lib.ListN.{length, getD}
-use Rattle.bits.specs.Bits.{Inside}
+use Rattle.mark.specs.Mark.{InStream}
 use Rattle.layout.specs.declared.Fields.{Fields}
 use Rattle.layout.specs.declared.Layout.{Layout}
 use Rattle.layout.specs.declared.Shape.{Shape}
@@ -21,7 +21,7 @@ use Rattle.layout.specs.declared.Plan.{Plan}
 use Rattle.layout.specs.declared.Finding.the-variants.{Kept}
 use Rattle.layout.specs.declared.Acceptance.the-variants.{Accepted}
 use Rattle.layout.specs.Record.{blockFields, fieldsAt, fieldsIn}
-use Rattle.layout.specs.Plan.{shapeWith, shapeOf, dataBytes, planFor, planOf, shape, field, level, bits, covered, start, from, payload, Valid}
+use Rattle.layout.specs.Plan.{shapeWith, shapeOf, dataBytes, planFor, planOf, shape, field, level, bits, covered, start, room, from, payload, Valid}
 use Rattle.layout.specs.Acceptance.{findingOf, acceptance}
 use Rattle.layout.proofs.Plans.{product-le, later-none, later-some, from-later}
 use Rattle.layout.proofs.Accepting.{Keeps, keeps, plan-valid, accepted-plan, accepted-kept}
@@ -91,8 +91,12 @@ module _ (q : Plan) (planned : Planned q) (b : ℕ) (inside : b < q .blocks) {s 
   shape-fits = rw es (block-fits q (planned .valid) b inside)
 
   pub block-inside : {page : List ℕ} {position : ℕ} → length page ≡ q .size → q .size < 65536 → position ≡ start q b
-      → Inside page position (s .covered)
-  block-inside h x e = let k = planned .valid .ends b inside in rw (e, es) (record { ends = omega arith; fits = omega arith })
+      → InStream (q .mark) page position (s .covered)
+  unfolding room
+  block-inside h x e =
+      let k = planned .valid .ends b inside in
+      let m = planned .valid .inside in
+      rw (e, es) (record { inside = omega arith; ends = omega arith; fits = omega arith })
 
 module _ (q : Plan) where
   pub from-zero : (b : ℕ) → b ≡ 0 → 0 ≡ from q b

@@ -5,7 +5,6 @@ use mathlib.Core.List.{List}
 use Prim.Native.Nat.{ℕ}
 use native.Mathlib.Omega.{arith}
 use lib.ListN.{length}
-use lib.Dec.{eqb}
 use Rattle.layout.specs.declared.Plan.{Plan}
 use Rattle.layout.specs.declared.Layout.{Layout}
 use Rattle.layout.specs.declared.Finding.{Finding}
@@ -14,7 +13,7 @@ use Rattle.layout.specs.declared.Refusal.the-variants as refusal
 use Rattle.layout.specs.declared.Acceptance.the-variants.{Accepted, Refused}
 use Rattle.layout.specs.Record.{fieldsIn, layoutOf}
 use Rattle.layout.specs.Plan.{planOf, Valid}
-use Rattle.layout.specs.Acceptance.{findingOf, judged, acceptance}
+use Rattle.layout.specs.Acceptance.{findingOf, judged, recordLength, acceptance}
 use Rattle.layout.specs.Answers as numbers
 use Rattle.layout.specs.Answers.{acceptanceNumbers}
 use Rattle.layout.proofs.Accepting.{accepted-valid}
@@ -30,7 +29,7 @@ accepted-accepts rec l e = record { reply = rw e; plan = refl }
 module _ (rec : List ℕ) (q : Plan) (h : Accepts rec q) where
   pub accepts-layout : acceptance rec ≡ Accepted (layoutOf rec)
   unfolding acceptance judged acceptanceNumbers numbers.done numbers.refused
-  accepts-layout = go (eqb (length rec) 8) (findingOf (fieldsIn rec) (planOf (layoutOf rec))) (h .reply)
+  accepts-layout = go (recordLength (length rec)) (findingOf (fieldsIn rec) (planOf (layoutOf rec))) (h .reply)
     where
       go : (b : Bool) (f : Finding)
           → acceptanceNumbers (cond b (judged (layoutOf rec) f) (Refused refusal.RecordLength)) .reply ≡ 0

@@ -95,7 +95,7 @@ module _ (q : Plan) where
   writeReply-right m d page a b c = rw (eq-eqb (length page) (q .size) a, eq-eqb (length m) (q .metadata) b, eq-eqb (length d) (q .«data») c)
 
   pub write-right : (m d page : List ℕ) → length page ≡ q .size → Payload q m d
-      → writeIn q m d page ≡ writeEnded 0 0 (pageOf q (m ++ d))
+      → writeIn q m d page ≡ writeEnded 0 0 (pageOf q page (m ++ d))
   unfolding writeIn
   write-right m d page a h = rw (writeReply-right m d page a (h .metadata .count) (h .«data» .count))
 

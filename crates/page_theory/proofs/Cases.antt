@@ -13,18 +13,19 @@ use Rattle.field.specs.Field.{degree, a^}
 use Rattle.field.proofs.Cases.{case-H-thirteen, case-H-fourteen}
 use Rattle.algebra.specs.Word.{flip}
 use Rattle.bits.specs.Bits.{bit, bitAt, bitOf, run, digit, number, digits, bytes}
+use Rattle.mark.specs.Mark.{place, marked, streamed, streamBit}
 use Rattle.layout.specs.declared.BlockFields.{BlockFields}
 use Rattle.layout.specs.declared.Plan.{Plan}
 use Rattle.layout.specs.declared.BitAnswer.the-variants.{InBlock}
-use Rattle.layout.specs.Record.{fieldOf, blockFields, fieldsAt, fieldsIn, layoutOf}
+use Rattle.layout.specs.Record.{fieldOf, blockFields, markAt, markIn, fieldsAt, fieldsIn, layoutOf}
 use Rattle.layout.specs.Plan.{shapeWith, shapeOf, laterShape, dataBytes, planFor, layoutFor, planOf, shape, field, level, start, from, Valid}
 use Rattle.layout.specs.Bits.{within, blockBelow, blockOf, bitAnswer}
-use Rattle.layout.proofs.Cases.{words, layoutE, CaseA, CaseB, CaseC, CaseD, CaseE, CaseI, CaseK, layout-cases}
+use Rattle.layout.proofs.Cases.{words, twoBlocks, layoutE, CaseA, CaseB, CaseC, CaseD, CaseE, CaseI, CaseK, layout-cases}
 use Rattle.code.specs.Word.{Word, apart, distance, ones, turned, flipped}
 use Rattle.code.specs.Code.{Codeword}
 use Rattle.code.specs.Outcome.{by-codeword}
 use Rattle.code.specs.Generator.{times, minimals13, minimals, generator, remainderStep, remainderOf, remainder, parity}
-use Rattle.page_theory.specs.Page.{message, written, pageBit, pageOf, blockWord}
+use Rattle.page_theory.specs.Page.{message, written, writtenBit, pageBit, pageOf, blockWord}
 use Rattle.page_theory.specs.Reading.{GivesAt}
 use Rattle.page_theory.specs.Damage.{Accepts, Payload}
 use Rattle.page_theory.specs.Claim.{Right}
@@ -97,20 +98,20 @@ pub record Cases : Type 0 where
   pub l : CaseL
 
 accepts-E : Accepts recordE (planOf layoutE)
-unfolding recordE words fieldOf blockFields fieldsAt fieldsIn layoutOf layoutE
+unfolding recordE words fieldOf blockFields markAt markIn fieldsAt fieldsIn layoutOf layoutE twoBlocks
 accepts-E = accepted-accepts recordE layoutE (layout-cases .e .accepted)
 
-page-F : pageOf (planOf layoutE) (replicate 8 0) ≡ pageF
-unfolding pageF pageOf bytes pageBit within blockBelow blockOf layoutE layoutFor planFor planOf shapeWith shapeOf laterShape dataBytes shape start from
+page-F : (lent : List ℕ) → pageOf (planOf layoutE) lent (replicate 8 0) ≡ pageF
+unfolding pageF pageOf bytes pageBit writtenBit marked streamed within blockBelow blockOf layoutE twoBlocks layoutFor planFor planOf shapeWith shapeOf laterShape dataBytes shape start from
     written message run bitOf bitAt bit digit number digits
     degree parity remainder remainderOf remainderStep generator times minimals minimals13
-page-F = refl
+page-F lent = refl
 
 valid-E : Valid (planOf layoutE)
 valid-E = accepts-valid recordE (planOf layoutE) accepts-E
 
 payload-E : Payload (planOf layoutE) [] (replicate 8 0)
-unfolding layoutE layoutFor planFor planOf dataBytes
+unfolding layoutE twoBlocks layoutFor planFor planOf dataBytes
 payload-E = record {
   metadata = record { count = refl; small = λ i. lit< tt };
   «data» = record { count = refl; small = λ i. rw (replicate-at {A = ℕ} 8 i 0) (lit< tt) };
@@ -119,13 +120,13 @@ payload-E = record {
 case-F : CaseF
 case-F = record {
   parity-zero = zeros-parity;
-  page = λ lent h. write-done recordE (planOf layoutE) accepts-E [] (replicate 8 0) lent payload-E (unfold layoutE layoutFor planFor planOf in h) ∙ ap (writeEnded 0 0) page-F;
+  page = λ lent h. write-done recordE (planOf layoutE) accepts-E [] (replicate 8 0) lent payload-E (unfold layoutE twoBlocks layoutFor planFor planOf in h) ∙ ap (writeEnded 0 0) (page-F lent);
 }
 
 -- the written blocks of the page of F, and how far those of the page of G are from them
 
 block-F : (b : ℕ) → b < planOf layoutE .blocks → blockWord (planOf layoutE) pageF b ≡ written (planOf layoutE) (replicate 8 0) b
-block-F b l = rw (← page-F) (page-block (planOf layoutE) (replicate 8 0) valid-E b l)
+block-F b l = rw (← page-F []) (page-block (planOf layoutE) [] (replicate 8 0) valid-E b l)
 
 codeword-F : (b : ℕ) → b < planOf layoutE .blocks → Codeword (field (planOf layoutE) b) (level (planOf layoutE) b) (blockWord (planOf layoutE) pageF b)
 codeword-F b l = rw (block-F b l) (written-code (planOf layoutE) (replicate 8 0) b (valid-E .strong b l))
@@ -148,37 +149,37 @@ gives-G b n l few e = by-codeword (record {
 })
 
 near-G : distance-G 0 1
-unfolding distance-G blockWord pageF pageG layoutE layoutFor planFor planOf shapeWith shapeOf laterShape shape start degree run bitOf bitAt bit distance apart
+unfolding distance-G blockWord pageF pageG layoutE twoBlocks layoutFor planFor planOf shapeWith shapeOf laterShape shape start degree run streamBit place bitOf bitAt bit distance apart
 near-G = refl
 
 same-G : distance-G 1 0
-unfolding distance-G blockWord pageF pageG layoutE layoutFor planFor planOf shapeWith shapeOf laterShape shape start degree run bitOf bitAt bit distance apart
+unfolding distance-G blockWord pageF pageG layoutE twoBlocks layoutFor planFor planOf shapeWith shapeOf laterShape shape start degree run streamBit place bitOf bitAt bit distance apart
 same-G = refl
 
 flipped-G : turned (blockWord (planOf layoutE) pageG 0) 57 ≡ blockWord (planOf layoutE) pageF 0
-unfolding blockWord pageF pageG layoutE layoutFor planFor planOf shapeWith shapeOf laterShape shape start degree run bitOf bitAt bit turned flip
+unfolding blockWord pageF pageG layoutE twoBlocks layoutFor planFor planOf shapeWith shapeOf laterShape shape start degree run streamBit place bitOf bitAt bit turned flip
 flipped-G = refl
 
 each-G : (b : ℕ) → b < 2 → GivesAt (planOf layoutE) pageG b (message (planOf layoutE) (replicate 8 0) b) (getD (1 ∷ 0 ∷ []) b 0)
-unfolding layoutE layoutFor planFor planOf dataBytes shapeWith shapeOf laterShape shape pageG
+unfolding layoutE twoBlocks layoutFor planFor planOf dataBytes shapeWith shapeOf laterShape shape pageG
 each-G zero l = gives-G 0 1 (lit< tt) (lit≤ tt) near-G
 each-G (suc zero) l = gives-G 1 0 (lit< tt) (lit≤ tt) same-G
 each-G (suc (suc b)) l = absurd (omega arith)
 
 looks-G : (counts : List ℕ) → length counts ≡ 2 → lookOf recordE pageG counts ≡ lookEnded 0 0 (1 ∷ 0 ∷ [])
-unfolding layoutE layoutFor planFor planOf dataBytes shapeWith shapeOf laterShape shape pageG
+unfolding layoutE twoBlocks layoutFor planFor planOf dataBytes shapeWith shapeOf laterShape shape pageG
 looks-G c k =
     look-accepted recordE (planOf layoutE) accepts-E pageG c
     ∙ look-gives (planOf layoutE) valid-E pageG (1 ∷ 0 ∷ []) (message (planOf layoutE) (replicate 8 0)) refl refl each-G c k
 
 takes-G : («data» : List ℕ) → length «data» ≡ 8 → takeOf recordE pageG [] «data» ≡ takeEnded 0 0 [] (replicate 8 0)
-unfolding layoutE layoutFor planFor planOf dataBytes shapeWith shapeOf laterShape shape pageG
+unfolding layoutE twoBlocks layoutFor planFor planOf dataBytes shapeWith shapeOf laterShape shape pageG
 takes-G d k =
     take-accepted recordE (planOf layoutE) accepts-E pageG [] d
     ∙ take-gives (planOf layoutE) valid-E pageG [] (replicate 8 0) (λ b. getD (1 ∷ 0 ∷ []) b 0) refl payload-E each-G [] d refl k
 
 case-L : CaseL
-unfolding layoutE layoutFor planFor planOf shapeWith shapeOf shape pageG flipped
+unfolding layoutE twoBlocks layoutFor planFor planOf shapeWith shapeOf shape pageG flipped
 case-L = record {
   twice = otherwise-ten recordE (planOf layoutE) accepts-E pageG 0 refl (lit< tt) (57 ∷ 57 ∷ []) (λ r. r .distinct 0 1 (lit< tt) (lit< tt) refl);
   once = accepted-when recordE (planOf layoutE) accepts-E pageG 0 refl (lit< tt) (57 ∷ []) right;

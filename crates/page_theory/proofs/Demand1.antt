@@ -5,7 +5,8 @@
 -- The definitions of the calls are functions of everything that is lent, so each call ends; what follows says how.
 use mathlib.Core.Path.{_≡_, refl}
 use mathlib.Core.Bool.{Bool, true, false, cond}
-use mathlib.Core.List.{List, [], _∷_, _++_}
+use mathlib.Core.List.{List, _∷_, _++_}
+use mathlib.Core.Logic.{_⊎_, inl, inr}
 use Prim.Native.Nat.{ℕ, zero, suc, _<_}
 use native.Mathlib.Omega.{arith}
 use native.Mathlib.Decide.{ℕ-discrete}
@@ -42,6 +43,19 @@ among-small (suc (suc (suc (suc (suc zero))))) more h = refl
 among-small (suc (suc (suc (suc (suc (suc zero)))))) more h = refl
 among-small (suc (suc (suc (suc (suc (suc (suc x))))))) more h = absurd (omega arith)
 
+-- the replies about a record and about lengths: up to 6, and 11
+abbrev Early : ℕ → Type 0
+Early x = (x < 7) ⊎ (x ≡ 11)
+
+among-early : (x : ℕ) (more : List ℕ) → Early x → among 11 (0 ∷ 1 ∷ 2 ∷ 3 ∷ 4 ∷ 5 ∷ 6 ∷ more) ≡ true
+    → among x (0 ∷ 1 ∷ 2 ∷ 3 ∷ 4 ∷ 5 ∷ 6 ∷ more) ≡ true
+among-early x more (inl h) e = among-small x more h
+among-early x more (inr h) e = rw h e
+
+early-nine : (x : ℕ) → Early x → x ≡ 9 → ⊥
+early-nine x (inl h) e = omega arith
+early-nine x (inr h) e = omega arith
+
 -- 5 for the page, 6 for one of two other buffers
 small-three : (a b c : Bool) → cond a (cond b (cond c 0 6) 6) 5 < 7
 small-three true true true = omega arith
@@ -62,16 +76,16 @@ unfolding lookReply
 look-small q page c = small-three (eqb page (q .size)) (eqb c (q .blocks)) true
 
 module _ (m d page : List ℕ) where
-  ends-write : (x : ℕ) → x < 7 → WriteEnds page (writeEnded x 0 page)
-  ends-write x h = record { table = among-small x [] h; kept = λ n. refl; block = refl }
+  ends-write : (x : ℕ) → Early x → WriteEnds page (writeEnded x 0 page)
+  ends-write x h = record { table = among-early x _ h (unfold among in refl); kept = λ n. refl; block = refl }
 
   write-in : (q : Plan) → WriteEnds page (writeIn q m d page)
   unfolding writeIn
   write-in q = go (eqb (writeReply q (length m) (length d) (length page)) 0)
     where
-      go : (b : Bool) → WriteEnds page (cond b (writeEnded 0 0 (pageOf q (m ++ d))) (writeEnded (writeReply q (length m) (length d) (length page)) 0 page))
-      go true = record { table = among-small 0 [] (omega arith); kept = λ n. absurd (n refl); block = refl }
-      go false = ends-write _ (write-small q _ _ _)
+      go : (b : Bool) → WriteEnds page (cond b (writeEnded 0 0 (pageOf q page (m ++ d))) (writeEnded (writeReply q (length m) (length d) (length page)) 0 page))
+      go true = record { table = among-small 0 _ (omega arith); kept = λ n. absurd (n refl); block = refl }
+      go false = ends-write _ (inl (write-small q _ _ _))
 
   pub write-ends : (rec : List ℕ) → WriteEnds page (writeOf rec m d page)
   unfolding writeOf writeFor
@@ -82,8 +96,8 @@ module _ (m d page : List ℕ) where
       go (Refused r) h = ends-write (refusalReply r) (acceptance-refused-reply rec r h)
 
 module _ (page c : List ℕ) where
-  ends-look : (x : ℕ) → x < 7 → LookEnds c (lookEnded x 0 c)
-  ends-look x h = record { table = among-small x _ h; kept = λ n k. refl; block = λ n. refl }
+  ends-look : (x : ℕ) → Early x → LookEnds c (lookEnded x 0 c)
+  ends-look x h = record { table = among-early x _ h (unfold among in refl); kept = λ n k. refl; block = λ n. refl }
 
   ends-looking : (r : Reading) (l : List ℕ) → LookEnds c (lookBy r l)
   unfolding lookBy
@@ -94,7 +108,7 @@ module _ (page c : List ℕ) where
   unfolding lookIn
   look-in q = elim (ℕ-discrete (lookReply q (length page) (length c)) 0) [
     | yes e ↦ rw e (ends-looking (reading q page) (counts q page))
-    | no n ↦ rw (look-wrong q page c n) (ends-look _ (look-small q _ _))
+    | no n ↦ rw (look-wrong q page c n) (ends-look _ (inl (look-small q _ _)))
   ]
 
   pub look-ends : (rec : List ℕ) → LookEnds c (lookOf rec page c)
@@ -106,8 +120,8 @@ module _ (page c : List ℕ) where
       go (Refused r) h = ends-look (refusalReply r) (acceptance-refused-reply rec r h)
 
 module _ (page m d : List ℕ) where
-  ends-take : (x : ℕ) → x < 7 → TakeEnds m d (takeEnded x 0 m d)
-  ends-take x h = record { table = among-small x _ h; kept = λ n. refl; block = λ n. refl }
+  ends-take : (x : ℕ) → Early x → TakeEnds m d (takeEnded x 0 m d)
+  ends-take x h = record { table = among-early x _ h (unfold among in refl); kept = λ n. refl; block = λ n. refl }
 
   ends-taking : (q : Plan) (r : Reading) → TakeEnds m d (takeBy q r m d)
   unfolding takeBy
@@ -118,7 +132,7 @@ module _ (page m d : List ℕ) where
   unfolding takeIn
   take-in q = elim (ℕ-discrete (takeReply q (length page) (length m) (length d)) 0) [
     | yes e ↦ rw e (ends-taking q (reading q page))
-    | no n ↦ rw (take-wrong q page m d n) (ends-take _ (take-small q _ _ _))
+    | no n ↦ rw (take-wrong q page m d n) (ends-take _ (inl (take-small q _ _ _)))
   ]
 
   pub take-ends : (rec : List ℕ) → TakeEnds m d (takeOf rec page m d)
@@ -145,8 +159,13 @@ block-reply q page b = go (eqb page (q .size)) (ltb b (q .blocks))
     go false y = length-wrong
 
 module _ (page : List ℕ) (b : ℕ) where
-  ends-judge : (x : ℕ) → x < 7 → JudgeEnds b (judgeEnded x 0 0)
-  ends-judge x h = record { table = among-small x _ h; kept = λ n. refl; block = λ n. refl; named = λ e. absurd (omega arith) }
+  ends-judge : (x : ℕ) → Early x → JudgeEnds b (judgeEnded x 0 0)
+  ends-judge x h = record {
+    table = among-early x _ h (unfold among in refl);
+    kept = λ n. refl;
+    block = λ n. refl;
+    named = λ e. absurd (early-nine x h e);
+  }
 
   ends-outcome : (o : Outcome) → JudgeEnds b (judgeBy b o)
   unfolding judgeBy
@@ -160,7 +179,7 @@ module _ (page : List ℕ) (b : ℕ) where
     where
       go : (x : ℕ) → BlockReply x → JudgeEnds b (cond (eqb x 0) (judgeBy b (outcome q page b)) (judgeEnded x 0 0))
       go x right = ends-outcome (outcome q page b)
-      go x length-wrong = ends-judge 5 (omega arith)
+      go x length-wrong = ends-judge 5 (inl (omega arith))
       go x range-wrong = record { table = unfold among in refl; kept = λ n. refl; block = λ n. refl; named = λ e. absurd (omega arith) }
 
   pub judge-ends : (rec : List ℕ) → JudgeEnds b (judgeOf rec page b)
@@ -172,12 +191,12 @@ module _ (page : List ℕ) (b : ℕ) where
       go (Refused r) h = ends-judge (refusalReply r) (acceptance-refused-reply rec r h)
 
 module _ (page : List ℕ) (b : ℕ) (claims : List ℕ) where
-  ends-claim : (x : ℕ) → x < 7 → ClaimEnds (claimEnded x)
-  ends-claim x h = record { table = among-small x _ h; block = refl }
+  ends-claim : (x : ℕ) → Early x → ClaimEnds (claimEnded x)
+  ends-claim x h = record { table = among-early x _ h (unfold among in refl); block = refl }
 
   ends-right : (q : Plan) (c : Dec (Right (field q b) (level q b) (blockWord q page b) claims)) → ClaimEnds (claimBy c)
   unfolding claimBy
-  ends-right q (yes h) = ends-claim 0 (omega arith)
+  ends-right q (yes h) = ends-claim 0 (inl (omega arith))
   ends-right q (no h) = record { table = unfold among in refl; block = refl }
 
   claim-in : (q : Plan) → ClaimEnds (claimIn q page b claims)
@@ -187,7 +206,7 @@ module _ (page : List ℕ) (b : ℕ) (claims : List ℕ) where
       go : (x : ℕ) → BlockReply x
           → ClaimEnds (cond (eqb x 0) (claimBy (right? (field q b) (level q b) (blockWord q page b) claims)) (claimEnded x))
       go x right = ends-right q (right? (field q b) (level q b) (blockWord q page b) claims)
-      go x length-wrong = ends-claim 5 (omega arith)
+      go x length-wrong = ends-claim 5 (inl (omega arith))
       go x range-wrong = record { table = unfold among in refl; block = refl }
 
   pub claim-ends : (rec : List ℕ) → ClaimEnds (claimOf rec page b claims)

@@ -2,7 +2,7 @@
 -- A page that is read gives, block by block, the message of a codeword at most t bit flips away, and the reported flips are
 -- exactly that distance." Document 02, E1, adds the erased block: there is no such codeword, the covered bits hold at most t zeros,
 -- the message is all ones, and the count is 128 plus the zeros. Document 02, E6, parts reading: looking gives the counts, 255 for a ruined
--- block, and taking gives the messages.
+-- block, and taking gives the messages. Document 02, E7, leaves the mark out: a written page has there what the lent page held.
 use mathlib.Core.Path.{_≡_, refl, sym, ap, _∙_, subst}
 use mathlib.Core.Bool.{true, false}
 use mathlib.Core.List.{List, _++_}
@@ -12,8 +12,9 @@ use native.Mathlib.Decide.{ℕ-discrete}
 use lib.ListN.{length, getD}
 use Rattle.bits.specs.Bits.{bitOf}
 use Rattle.bits.proofs.Runs.{run-cong}
+use Rattle.mark.specs.Mark.{marked, streamBit}
 use Rattle.layout.specs.declared.Plan.{Plan}
-use Rattle.layout.specs.Plan.{bits, field, level, used, from, payload, Valid}
+use Rattle.layout.specs.Plan.{bits, field, level, used, room, from, payload, Valid}
 use Rattle.code.specs.Word.{Word}
 use Rattle.code.specs.Code.{Codeword}
 use Rattle.code.specs.Generator.{parity}
@@ -23,7 +24,7 @@ use Rattle.page_theory.specs.Damage.{Accepts, Payload}
 use Rattle.page_theory.specs.Demands.{Stands, Looks, Takes, Reads}
 use Rattle.page_theory.specs.Calls.{writeEnded, writeOf, Looked, lookReply, lookBy, lookIn, lookOf}
 use Rattle.page_theory.specs.Calls.{Taken, takeReply, bytesAt, takeBy, takeIn, takeOf}
-use Rattle.page_theory.proofs.Blocks.{written-code, page-block, page-tail}
+use Rattle.page_theory.proofs.Blocks.{written-code, page-block, page-tail, page-mark}
 use Rattle.page_theory.proofs.Writing.{stands-page}
 use Rattle.page_theory.proofs.Reading.{from-order, reading-parts, counts-at, counts-length, counts-reported}
 use Rattle.page_theory.proofs.Calls.{bytesAt-bytes, bytesAt-join, write-right, look-right, look-wrong, take-wrong}
@@ -32,27 +33,31 @@ use Rattle.page_theory.proofs.Accepted.{accepts-valid, write-accepted, 
 module _ (rec : List ℕ) (q : Plan) (accepted : Accepts rec q) where
   -- "A written page is the one that the layout words and the BCH definition give."
   module _ (m d page : List ℕ) (payload : Payload q m d) (lent : length page ≡ q .size) where
-    pub write-done : writeOf rec m d page ≡ writeEnded 0 0 (pageOf q (m ++ d))
+    pub write-done : writeOf rec m d page ≡ writeEnded 0 0 (pageOf q page (m ++ d))
     write-done = write-accepted rec q accepted m d page ∙ write-right q m d page lent payload
 
     -- Block by block it holds the message followed by the parity,
     pub write-blocks : (b : ℕ) → b < q .blocks
         → blockWord q (writeOf rec m d page .page) b ≡ message q (m ++ d) b ++ parity (field q b) (level q b) (message q (m ++ d) b)
-    write-blocks b l = rw write-done (page-block q (m ++ d) (accepts-valid rec q accepted) b l ∙ (unfold written in refl))
+    write-blocks b l = rw write-done (page-block q page (m ++ d) (accepts-valid rec q accepted) b l ∙ (unfold written in refl))
 
     -- which is a codeword of the block's level,
     pub write-codewords : (b : ℕ) → b < q .blocks
         → Codeword (field q b) (level q b) (blockWord q (writeOf rec m d page .page) b)
     write-codewords b l = let v = accepts-valid rec q accepted in
-        rw (write-done, page-block q (m ++ d) v b l) (written-code q (m ++ d) b (v .strong b l))
+        rw (write-done, page-block q page (m ++ d) v b l) (written-code q (m ++ d) b (v .strong b l))
 
     -- "tail bits included": the bits after the last block are ones.
-    pub write-tail : (p : ℕ) → used q ≤ p → p < 8 * q .size → bitOf (writeOf rec m d page .page) p ≡ true
-    write-tail p h l = rw write-done (page-tail q (accepts-valid rec q accepted) (m ++ d) p h l)
+    pub write-tail : (p : ℕ) → used q ≤ p → p < room q → streamBit (q .mark) (writeOf rec m d page .page) p ≡ true
+    write-tail p h l = rw write-done (page-tail q (accepts-valid rec q accepted) page (m ++ d) p h l)
 
-    -- No other page has these blocks and this tail.
-    pub write-only : (other : List ℕ) → Stands q (m ++ d) other → other ≡ writeOf rec m d page .page
-    write-only other h = rw write-done (stands-page q (accepts-valid rec q accepted) (m ++ d) other h)
+    -- The mark is the lent page's.
+    pub write-mark : (p : ℕ) → p < 8 * q .size → marked (q .mark) p ≡ true → bitOf (writeOf rec m d page .page) p ≡ bitOf page p
+    write-mark p l e = rw write-done (page-mark q page (m ++ d) p l e)
+
+    -- No other page has these blocks, this tail and this mark.
+    pub write-only : (other : List ℕ) → Stands q page (m ++ d) other → other ≡ writeOf rec m d page .page
+    write-only other h = rw write-done (stands-page q (accepts-valid rec q accepted) page (m ++ d) other h)
 
 -- what a page gives that is looked at
 

@@ -23,7 +23,7 @@ use Rattle.page_theory.proofs.Demand2.{write-done}
 
 module _ (rec : List ℕ) (q : Plan) (accepted : Accepts rec q) where
   module _ (m d page : List ℕ) (s : ℕ → ℕ → Bool) (h : WrittenAndDamaged rec q m d page s) where
-    as-written : Damaged q (pageOf q (m ++ d)) page s
+    as-written : Damaged q (pageOf q (h .lent) (m ++ d)) page s
     as-written = rw (write-done rec q accepted m d (h .lent) (h .payload) (h .size)) at (h .damaged)
 
     -- "Every page so written and damaged reads back: it gives the payload that was written, and for each block the number of
@@ -34,7 +34,7 @@ module _ (rec : List ℕ) (q : Plan) (accepted : Accepts rec q) where
     looks-back c l =
         look-accepted rec q accepted page c
         ∙ look-right q page c (h .damaged .page .count) l
-        ∙ rw (damaged-reading q valid (m ++ d) page s as-written, damaged-counts q valid (m ++ d) page s as-written)
+        ∙ rw (damaged-reading q valid (h .lent) (m ++ d) page s as-written, damaged-counts q valid (h .lent) (m ++ d) page s as-written)
       where
         valid : Valid q
         valid = accepts-valid rec q accepted
@@ -43,7 +43,7 @@ module _ (rec : List ℕ) (q : Plan) (accepted : Accepts rec q) where
     takes-back old-m old-d i j =
         take-accepted rec q accepted page old-m old-d
         ∙ take-right q page old-m old-d (h .damaged .page .count) i j
-        ∙ ap (λ (r : Reading). takeBy q r old-m old-d) (damaged-reading q (accepts-valid rec q accepted) (m ++ d) page s as-written)
+        ∙ ap (λ (r : Reading). takeBy q r old-m old-d) (damaged-reading q (accepts-valid rec q accepted) (h .lent) (m ++ d) page s as-written)
         ∙ takeBy-payload q m d (h .payload) old-m old-d
 
     pub reads-back : (old-m old-d old-c : List ℕ) → Outputs q old-m old-d old-c
@@ -52,6 +52,7 @@ module _ (rec : List ℕ) (q : Plan) (accepted : Accepts rec q) where
 
   -- "Take one accepted layout and any two different payloads (metadata and data), each written to a page. Whichever covered bits
   -- then flip in either page, at most t in each block, and whatever becomes of the tail bits, the two pages are never the same."
+  -- Document 02, E7, counts the bits of the mark with the tail.
   pub told-apart : (m d page : List ℕ) (s : ℕ → ℕ → Bool) → WrittenAndDamaged rec q m d page s
       → (m' d' page' : List ℕ) (s' : ℕ → ℕ → Bool) → WrittenAndDamaged rec q m' d' page' s'
       → (m ≡ m' → d ≡ d' → ⊥)

@@ -1,15 +1,15 @@
--- A page that was never written (document 02, E1): under every accepted layout a page whose bits are all ones is never refused, neither by
--- looking at it nor by taking it nor by judging a block.
+-- A page that was never written (document 02, E1): under every accepted layout a page whose bits outside the mark are all ones is never refused,
+-- neither by looking at it nor by taking it nor by judging a block. The mark may hold anything, as the factory left it.
 use mathlib.Core.Path.{_≡_, refl, sym, ap, _∙_}
 use mathlib.Core.Bool.{true}
 use mathlib.Core.List.{List}
-use Prim.Native.Nat.{ℕ, _+_, _*_, _<_}
+use Prim.Native.Nat.{ℕ, _+_, _<_}
 use native.Mathlib.Omega.{arith}
 use lib.ListN.{length, replicate, length-replicate}
-use Rattle.bits.specs.Bits.{bitOf}
 use Rattle.bits.proofs.Runs.{run-ext}
+use Rattle.mark.specs.Mark.{streamBit}
 use Rattle.layout.specs.declared.Plan.{Plan}
-use Rattle.layout.specs.Plan.{covered, start}
+use Rattle.layout.specs.Plan.{covered, start, room}
 use Rattle.code.specs.Word.{zeros}
 use Rattle.code.specs.Outcome.{Outcome, good, erased, ruined}
 use Rattle.code.proofs.Zeros.{zeros-none}
@@ -24,14 +24,15 @@ use Rattle.page_theory.proofs.OneBlock.{judge-outcome}
 use Rattle.page_theory.proofs.Demand3.{look-refused-only, look-otherwise, take-refused-only, take-otherwise}
 
 module _ (rec : List ℕ) (q : Plan) (accepted : Accepts rec q) (page : List ℕ) (size : length page ≡ q .size)
-    (blank : (p : ℕ) → p < 8 * q .size → bitOf page p ≡ true) where
+    (blank : (p : ℕ) → p < room q → streamBit (q .mark) page p ≡ true) where
   blank-zeros : (b : ℕ) → b < q .blocks → zeros (blockWord q page b) ≡ 0
   unfolding blockWord
   blank-zeros b l = ap zeros word ∙ zeros-none (covered q b)
     where
       word : blockWord q page b ≡ replicate (covered q b) true
-      word = run-ext (bitOf page) (start q b) (replicate (covered q b) true) (covered q b) true (length-replicate (covered q b) true)
-          (λ j k. blank (start q b + j) (omega (arith, accepts-valid rec q accepted .ends b l)) ∙ sym (replicate-at (covered q b) j true))
+      word = let v = accepts-valid rec q accepted in
+          run-ext (streamBit (q .mark) page) (start q b) (replicate (covered q b) true) (covered q b) true (length-replicate (covered q b) true)
+          (λ j k. blank (start q b + j) (omega (arith, v .ends b l)) ∙ sym (replicate-at (covered q b) j true))
 
   blank-sound : (b : ℕ) → b < q .blocks → RefusedAt q page b → ⊥
   blank-sound b l h = omega (arith, h .many, blank-zeros b l)

@@ -10,6 +10,7 @@ pub mod Accepted
 pub mod Demand1
 pub mod Demand2
 pub mod Demand3
+pub mod Mark
 pub mod Joint
 pub mod OneBlock
 pub mod Worn

@@ -8,7 +8,7 @@ use native.Mathlib.Omega.{arith}
 use lib.ListN.{length, getD}
 use lib.Dec.{eqb}
 use borrow.Author.Tests.{eq-eqb, ne-eqb, lt-ltb}
-use Rattle.bits.specs.Bits.{bitOf}
+use Rattle.mark.specs.Mark.{streamBit}
 use Rattle.layout.specs.declared.Plan.{Plan}
 use Rattle.layout.specs.declared.Acceptance.{Acceptance}
 use Rattle.layout.specs.declared.Acceptance.the-variants.{Accepted, Refused}
@@ -28,13 +28,13 @@ use Rattle.page_theory.proofs.Accepted.{accepted-accepts, accepts-valid
 use Rattle.page_theory.proofs.Demand2.{look-blocks}
 
 judge-block : (q : Plan) (page other : List ℕ) (b : ℕ) → length page ≡ length other
-    → ((j : ℕ) → j < covered q b → bitOf page (start q b + j) ≡ bitOf other (start q b + j)) → judgeIn q page b ≡ judgeIn q other b
+    → ((j : ℕ) → j < covered q b → streamBit (q .mark) page (start q b + j) ≡ streamBit (q .mark) other (start q b + j)) → judgeIn q page b ≡ judgeIn q other b
 unfolding judgeIn outcome
 judge-block q page other b l h = rw (l, blockWord-cong q page other b h)
 
 -- Two pages of one length that agree on the covered bits of the block judge the same, under any record at all.
 pub judge-own : (rec page other : List ℕ) (b : ℕ) → length page ≡ length other
-    → ((q : Plan) → Accepts rec q → (j : ℕ) → j < covered q b → bitOf page (start q b + j) ≡ bitOf other (start q b + j))
+    → ((q : Plan) → Accepts rec q → (j : ℕ) → j < covered q b → streamBit (q .mark) page (start q b + j) ≡ streamBit (q .mark) other (start q b + j))
     → judgeOf rec page b ≡ judgeOf rec other b
 unfolding judgeOf judgeFor
 judge-own rec page other b l h = go (acceptance rec) refl

@@ -1,6 +1,7 @@
 -- Each page call replies as its list of rules says, block number included, so each reply is given exactly if its rule applies and none before it
 -- does (document 01, "Replies"). `..-replies` says the first, `..-exactly` the second, `..-ascending` that after the record's length, which is
--- looked at first, the numbers never fall: where several rules apply the smallest number wins (replies/Given `smallest-after`).
+-- looked at first, the turns never fall: where several rules apply the smallest number wins, but that 11 comes between 3 and 4 (document 02, E7;
+-- replies/Given `smallest-after`).
 use mathlib.Core.Path.{_≡_, refl, _∙_}
 use mathlib.Core.Bool.{Bool, true, false, cond}
 use mathlib.Core.List.{List, [], _∷_, _++_}
@@ -13,7 +14,7 @@ use Rattle.replies.specs.declared.Refusal.the-variants.{PageLength, BufferLengt
 use Rattle.replies.specs.declared.Verdict.the-variants.{Refused}
 use Rattle.replies.specs.Replies.{number, block, verdictNumber, verdictBlock, unequal, Rule, rule, verdict, reply, replyBlock}
 use Rattle.replies.specs.Given as none
-use Rattle.replies.specs.Given.{None, Follows, Exactly, atMost, ascending}
+use Rattle.replies.specs.Given.{None, Follows, Exactly, turn, atMost, ascending}
 use Rattle.replies.proofs.Tests.{leb-not}
 use Rattle.replies.proofs.Given.{follows-next, none-verdict, verdict-none, append-kept, append-refused, exactly}
 use Rattle.layout.specs.declared.Plan.{Plan}
@@ -48,8 +49,8 @@ module _ (m d page : List ℕ) where
     where
       go : (a b c : Bool) → Follows
           (rule (cond a false true) PageLength ∷ rule (cond b false true) BufferLength ∷ rule (cond c false true) BufferLength ∷ [])
-          (cond (eqb (cond a (cond b (cond c 0 6) 6) 5) 0) (writeEnded 0 0 (pageOf q (m ++ d))) (writeEnded (cond a (cond b (cond c 0 6) 6) 5) 0 page) .reply)
-          (cond (eqb (cond a (cond b (cond c 0 6) 6) 5) 0) (writeEnded 0 0 (pageOf q (m ++ d))) (writeEnded (cond a (cond b (cond c 0 6) 6) 5) 0 page) .block)
+          (cond (eqb (cond a (cond b (cond c 0 6) 6) 5) 0) (writeEnded 0 0 (pageOf q page (m ++ d))) (writeEnded (cond a (cond b (cond c 0 6) 6) 5) 0 page) .reply)
+          (cond (eqb (cond a (cond b (cond c 0 6) 6) 5) 0) (writeEnded 0 0 (pageOf q page (m ++ d))) (writeEnded (cond a (cond b (cond c 0 6) 6) 5) 0 page) .block)
       go true true true = record { number = refl; beside = refl }
       go true true false = record { number = refl; beside = refl }
       go true false c = record { number = refl; beside = refl }
@@ -69,7 +70,7 @@ module _ (m d page : List ℕ) where
     write-exactly = exactly (writeRules rec m d page) write-replies
 
     pub write-ascending : ascending (drop 1 (writeRules rec m d page)) ≡ true
-    unfolding writeRules rules.writeIn layoutRules fieldRules ascending atMost number
+    unfolding writeRules rules.writeIn layoutRules fieldRules ascending atMost turn number
     write-ascending = refl
 
 -- ---- looking and taking
@@ -171,15 +172,15 @@ nines-append : {rs ss : List Rule} → Nines rs → Nines ss → Nines (rs ++ ss
 nines-append end k = k
 nines-append (next e h) k = next e (nines-append h k)
 
-nines-least : (n : ℕ) {rs : List Rule} → n ≤ 9 → Nines rs → atMost n rs ≡ true
+nines-least : (n : ℕ) {rs : List Rule} → turn n ≤ turn 9 → Nines rs → atMost n rs ≡ true
 unfolding atMost
 nines-least n l end = refl
-nines-least n l (next {r} e h) = le-leb n (number (r .why)) (omega arith)
+nines-least n l (next {r} e h) = rw e (le-leb (turn n) (turn 9) l)
 
 nines-ascending : {rs : List Rule} → Nines rs → ascending rs ≡ true
 unfolding ascending
 nines-ascending end = refl
-nines-ascending (next {r} {rs} e h) = rw (nines-least (number (r .why)) (omega arith) h) (nines-ascending h)
+nines-ascending (next {r} {rs} e h) = rw (nines-least (number (r .why)) (rw e (omega arith)) h) (nines-ascending h)
 
 module _ (q : Plan) (page : List ℕ) where
   ruined-nines : (n : ℕ) → Nines (ruinedRules q page n)
@@ -188,13 +189,13 @@ module _ (q : Plan) (page : List ℕ) where
   ruined-nines (suc n) = nines-append (ruined-nines n) (next refl end)
 
 pub look-ascending : (rec page c : List ℕ) → ascending (drop 1 (lookRules rec page c)) ≡ true
-unfolding lookRules rules.lookIn layoutRules fieldRules ascending atMost number
+unfolding lookRules rules.lookIn layoutRules fieldRules ascending atMost turn number
 look-ascending rec page c =
     let h = ruined-nines (planOf (layoutOf rec)) page (planOf (layoutOf rec) .blocks) in
     rw (nines-least 6 (omega arith) h, nines-ascending h)
 
 pub take-ascending : (rec page m d : List ℕ) → ascending (drop 1 (takeRules rec page m d)) ≡ true
-unfolding takeRules rules.takeIn layoutRules fieldRules ascending atMost number
+unfolding takeRules rules.takeIn layoutRules fieldRules ascending atMost turn number
 take-ascending rec page m d =
     let h = ruined-nines (planOf (layoutOf rec)) page (planOf (layoutOf rec) .blocks) in
     rw (nines-least 6 (omega arith) h, nines-ascending h)
@@ -249,7 +250,7 @@ module _ (rec page : List ℕ) (b : ℕ) where
   judge-exactly = exactly (judgeRules rec page b) judge-replies
 
   pub judge-ascending : ascending (drop 1 (judgeRules rec page b)) ≡ true
-  unfolding judgeRules rules.judgeIn layoutRules fieldRules ascending atMost number
+  unfolding judgeRules rules.judgeIn layoutRules fieldRules ascending atMost turn number
   judge-ascending = refl
 
   module _ (claims : List ℕ) where
@@ -266,5 +267,5 @@ module _ (rec page : List ℕ) (b : ℕ) where
     claim-exactly = exactly (claimRules rec page b claims) claim-replies
 
     pub claim-ascending : ascending (drop 1 (claimRules rec page b claims)) ≡ true
-    unfolding claimRules rules.claimIn layoutRules fieldRules ascending atMost number
+    unfolding claimRules rules.claimIn layoutRules fieldRules ascending atMost turn number
     claim-ascending = refl

@@ -1,5 +1,6 @@
--- The tail is ignored (document 01, "Layout words"): two pages of one length that agree in every covered bit are looked at, taken, judged and
--- claimed about with the same answers, whatever their tails hold; under any record, any pages, any lent buffers.
+-- The tail is ignored (document 01, "Layout words"), and so is the mark (document 02, E7): two pages of one length that agree in every covered bit
+-- are looked at, taken, judged and claimed about with the same answers, whatever their tails and marks hold; under any record, any pages, any lent
+-- buffers.
 use mathlib.Core.Path.{_≡_, refl, sym, ap, ap₂, _∙_}
 use mathlib.Core.List.{List}
 use Prim.Native.Nat.{ℕ, zero, suc, _≤_, _<_}

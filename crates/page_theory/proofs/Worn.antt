@@ -10,7 +10,7 @@ use Prim.Native.Nat.{ℕ, zero, suc, _+_, _*_, _≤_, _<_}
 use native.Mathlib.Omega.{arith}
 use native.Mathlib.Decide.{decLe, decLt, ℕ-discrete}
 use lib.ListN.{length, getD}
-use Rattle.bits.specs.Bits.{bitOf}
+use Rattle.mark.specs.Mark.{streamBit}
 use Rattle.layout.specs.declared.Plan.{Plan}
 use Rattle.layout.specs.Plan.{bits, field, level, covered, start, Valid}
 use Rattle.code.specs.Word.{Word, distance}
@@ -32,14 +32,16 @@ use Rattle.page_theory.proofs.Demand2.{write-done}
 
 -- under a plan
 
-module _ (q : Plan) (v : Valid q) (d page : List ℕ) (s : ℕ → ℕ → Bool) (h : Changed q (pageOf q d) page s) (b : ℕ) (inside : b < q .blocks) where
-  changed-distance : distance (blockWord q page b) (blockWord q (pageOf q d) b) ≡ flips q s b
+module _ (q : Plan) (v : Valid q) (before d page : List ℕ) (s : ℕ → ℕ → Bool) (h : Changed q (pageOf q before d) page s)
+    (b : ℕ) (inside : b < q .blocks) where
+  changed-distance : distance (blockWord q page b) (blockWord q (pageOf q before d) b) ≡ flips q s b
   unfolding blockWord flips
-  changed-distance = distance-turned (bitOf page) (bitOf (pageOf q d)) (s b) (start q b) (covered q b) (λ j k. h .turned b j inside k)
+  changed-distance = distance-turned (streamBit (q .mark) page) (streamBit (q .mark) (pageOf q before d)) (s b) (start q b) (covered q b)
+      (λ j k. h .turned b j inside k)
 
   -- a block is as far from what was written as bits were turned over in it
   changed-flips : distance (blockWord q page b) (written q d b) ≡ flips q s b
-  changed-flips = rw (page-block q d v b inside) at changed-distance
+  changed-flips = rw (page-block q before d v b inside) at changed-distance
 
   -- more flips than the level corrects
   outcome-past : level q b < flips q s b → Worn (level q b) (flips q s b) (outcome q page b)
@@ -101,7 +103,7 @@ lookBy-counts (refused b) c = refl
 
 module _ (rec : List ℕ) (q : Plan) (accepted : Accepts rec q) (m d page : List ℕ) (s : ℕ → ℕ → Bool) (h : WrittenAndChanged rec q m d page s)
     (lent : List ℕ) (room : length lent ≡ q .blocks) where
-  as-written : Changed q (pageOf q (m ++ d)) page s
+  as-written : Changed q (pageOf q (h .lent) (m ++ d)) page s
   as-written = rw (write-done rec q accepted m d (h .lent) (h .payload) (h .size)) at (h .changed)
 
   module _ (b : ℕ) (inside : b < q .blocks) where
@@ -117,13 +119,13 @@ module _ (rec : List ℕ) (q : Plan) (accepted : Accepts rec q) (m d page : List
     pub past-level : Past q s b → (o : Outcome) × (Worn (level q b) (flips q s b) o) × (Answered rec page lent b o)
     past-level p = (
       outcome q page b,
-      outcome-past q (accepts-valid rec q accepted) (m ++ d) page s as-written b inside (p .more),
+      outcome-past q (accepts-valid rec q accepted) (h .lent) (m ++ d) page s as-written b inside (p .more),
       record { looked = looked-count; judged = judged-outcome },
     )
 
     -- with one to t flips the count is their number
     pub within-level : flips q s b ≤ level q b → (getD (lookOf rec page lent .counts) b 0 ≡ flips q s b) × (judgeOf rec page b ≡ judgeEnded 0 0 (flips q s b))
-    within-level few = let w = outcome-within q (accepts-valid rec q accepted) (m ++ d) page s as-written b inside few in
+    within-level few = let w = outcome-within q (accepts-valid rec q accepted) (h .lent) (m ++ d) page s as-written b inside few in
         (looked-count ∙ w .0, judged-outcome ∙ w .1)
 
     -- a count up to the level is the number of flips, or there were at least 2t + 1 less the count
@@ -131,7 +133,7 @@ module _ (rec : List ℕ) (q : Plan) (accepted : Accepts rec q) (m d page : List
     count-means low = elim (decLe (flips q s b) (level q b)) [
       | yes few ↦ as-counted (sym (within-level few .0))
       | no far ↦ rw looked-count (worn-means _ _ (outcome q page b) (accepts-valid rec q accepted .strong b inside)
-          (outcome-past q (accepts-valid rec q accepted) (m ++ d) page s as-written b inside (omega arith)) (rw looked-count at low))
+          (outcome-past q (accepts-valid rec q accepted) (h .lent) (m ++ d) page s as-written b inside (omega arith)) (rw looked-count at low))
     ]
 
     -- a count above the level, as an erased or ruined block has it, means more flips than the level corrects
@@ -144,8 +146,8 @@ module _ (rec : List ℕ) (q : Plan) (accepted : Accepts rec q) (m d page : List
     -- "damage of one to 2t flips never passes as an untouched block"
     count-touched : Touched q s b → countOf (outcome q page b) ≡ 0 → ⊥
     count-touched t z = elim (decLe (flips q s b) (level q b)) [
-      | yes few ↦ omega (arith, t .some, outcome-within q (accepts-valid rec q accepted) (m ++ d) page s as-written b inside few .0)
-      | no far ↦ worn-count _ _ _ (outcome-past q (accepts-valid rec q accepted) (m ++ d) page s as-written b inside (omega arith)) (t .few) z
+      | yes few ↦ omega (arith, t .some, outcome-within q (accepts-valid rec q accepted) (h .lent) (m ++ d) page s as-written b inside few .0)
+      | no far ↦ worn-count _ _ _ (outcome-past q (accepts-valid rec q accepted) (h .lent) (m ++ d) page s as-written b inside (omega arith)) (t .few) z
     ]
 
     pub never-untouched : Touched q s b → (getD (lookOf rec page lent .counts) b 0 ≡ 0 → ⊥) × (judgeOf rec page b ≡ judgeEnded 0 0 0 → ⊥)

@@ -1,51 +1,66 @@
 -- What a writer has to show to have written the page of a payload.
-use mathlib.Core.Path.{_≡_, refl, sym, ap, _∙_}
+use mathlib.Core.Path.{_≡_, refl, sym, ap, ap₂, _∙_}
 use mathlib.Core.Bool.{Bool, true, false}
 use mathlib.Core.List.{List, [], _++_}
 use Prim.Native.Nat.{ℕ, zero, suc, _+_, _-_, _*_, _≤_, _<_}
 use mathlib.Core.Logic.{⊎-elim}
 use native.Mathlib.Omega.{arith}
-use native.Mathlib.Decide.{decLt}
-use lib.ListN.{length, getD, replicate, length-append, length-replicate, getD-replicate, List·getD-append}
-use lib.Seq.{getD-append-add}
-use Rattle.bits.specs.Bits.{bitOf, bytes, placed}
-use Rattle.bits.proofs.Runs.{run-at, run-ext}
-use Rattle.bits.proofs.Pages.{bits-ext, bytes-bytes, bytes-bit}
-use Rattle.bits.proofs.Placed.{placed-whole}
+use native.Mathlib.Nat.{zero-add}
+use lib.ListN.{length, getD, replicate, length-append, length-replicate, getD-replicate}
+use borrow.Author.Tests.{le-leb}
+use Rattle.bits.specs.Bits.{bitOf, run, bytes}
+use Rattle.bits.proofs.Runs.{run-at, run-ext, run-append}
+use Rattle.bits.proofs.Pages.{bytes-bytes, bytes-ext, bytes-cong}
+use Rattle.mark.specs.Mark.{marked, streamed, streamBit, putBit, put}
+use Rattle.mark.proofs.Places.{place-streamed, streamed-below}
 use Rattle.layout.specs.declared.Plan.{Plan}
-use Rattle.layout.specs.Plan.{covered, start, used, Valid}
-use Rattle.layout.proofs.Plans.{start-order}
+use Rattle.layout.specs.Plan.{covered, start, used, room, Valid}
 use Rattle.page_bits.proofs.Placing.{Lies, block-or-tail}
 use Rattle.code.specs.Word.{Word}
-use Rattle.page_theory.specs.Page.{written, pageOf, blockWord}
+use Rattle.page_theory.specs.Page.{written, writtenBit, pageBit, pageOf, blockWord}
 use Rattle.page_theory.specs.Demands.{Stands}
-use Rattle.page_theory.proofs.Blocks.{written-length, page-block, page-tail}
+use Rattle.page_theory.proofs.Blocks.{written-length, written-run, written-tail, page-block, page-tail, page-mark}
 
-blockWord-at : (q : Plan) (page : List ℕ) (b p : ℕ) → Lies q b p
-    → getD (blockWord q page b) (p - start q b) false ≡ bitOf page p
-unfolding blockWord
-blockWord-at q page b p h =
+run-lies : (q : Plan) (f : ℕ → Bool) (b p : ℕ) → Lies q b p → getD (run f (start q b) (covered q b)) (p - start q b) false ≡ f p
+run-lies q f b p h =
     let e : start q b + (p - start q b) ≡ p = omega (arith, h .from) in
-    run-at (bitOf page) (start q b) (covered q b) (p - start q b) false (omega (arith, h .from, h .to)) ∙ ap (bitOf page) e
+    run-at f (start q b) (covered q b) (p - start q b) false (omega (arith, h .from, h .to)) ∙ ap f e
 
-module _ (q : Plan) (v : Valid q) (d : List ℕ) where
-  pub page-stands : Stands q d (pageOf q d)
+module _ (q : Plan) (v : Valid q) (lent d : List ℕ) where
+  pub page-stands : Stands q lent d (pageOf q lent d)
   page-stands = record {
     bytes = unfold pageOf in bytes-bytes _ (q .size);
-    blocks = page-block q d v;
-    tail = page-tail q v d;
+    blocks = page-block q lent d v;
+    tail = page-tail q v lent d;
+    mark = page-mark q lent d;
   }
 
-  -- there is only one such page
-  pub stands-page : (page : List ℕ) → Stands q d page → page ≡ pageOf q d
-  stands-page page s = let o = page-stands in bits-ext (q .size) page (pageOf q d) (s .bytes) (o .bytes) (λ p l.
-      ⊎-elim
-      (λ (i : (b : ℕ) × (b < q .blocks) × Lies q b p). let b = i .0 in
-      sym (blockWord-at q page b p (i .2))
-      ∙ ap (λ (w : Word). getD w (p - start q b) false) (s .blocks b (i .1) ∙ sym (o .blocks b (i .1)))
-      ∙ blockWord-at q (pageOf q d) b p (i .2))
-      (λ (h : used q ≤ p). s .tail p h l ∙ sym (o .tail p h l))
-      (block-or-tail q v p))
+  module _ (page : List ℕ) (s : Stands q lent d page) where
+    stands-stream : (p : ℕ) → p < room q → streamBit (q .mark) page p ≡ writtenBit q d p
+    unfolding blockWord
+    stands-stream p l =
+        ⊎-elim
+        (λ (i : (b : ℕ) × (b < q .blocks) × Lies q b p). let b = i .0 in
+        sym (run-lies q (streamBit (q .mark) page) b p (i .2))
+        ∙ ap (λ (w : Word). getD w (p - start q b) false) (s .blocks b (i .1) ∙ sym (written-run q v d b (i .1)))
+        ∙ run-lies q (writtenBit q d) b p (i .2))
+        (λ (h : used q ≤ p). s .tail p h l ∙ sym (written-tail q v d p h))
+        (block-or-tail q v p)
+
+    stands-bit : (p : ℕ) → p < 8 * q .size → bitOf page p ≡ pageBit q lent d p
+    unfolding streamBit pageBit room
+    stands-bit p l = go (marked (q .mark) p) refl
+      where
+        go : (x : Bool) → marked (q .mark) p ≡ x → bitOf page p ≡ pageBit q lent d p
+        go true e = s .mark p l e ∙ rw e
+        go false e =
+            ap (bitOf page) (sym (place-streamed (q .mark) p e))
+            ∙ stands-stream (streamed (q .mark) p) (streamed-below (q .mark) (q .size) (v .inside) p l e) ∙ rw e
+
+    -- there is only one such page
+    pub stands-page : page ≡ pageOf q lent d
+    unfolding pageOf
+    stands-page = sym (bytes-ext _ (q .size) page (s .bytes) stands-bit)
 
 -- The first n written blocks, one after the other.
 unfoldable pub stream : Plan → List ℕ → ℕ → Word
@@ -57,60 +72,49 @@ unfolding stream start
 stream-length q v d zero = refl
 stream-length q v d (suc n) = length-append (stream q d n) (written q d n) ∙ rw (stream-length q v d n, written-length q v d n)
 
-pub stream-at : (q : Plan) → Valid q → (d : List ℕ) (n b j : ℕ) (x : Bool) → b < n → j < covered q b
-    → getD (stream q d n) (start q b + j) x ≡ getD (written q d b) j x
-unfolding stream
-stream-at q v d zero b j x h k = absurd (omega arith)
-stream-at q v d (suc n) b j x h k = elim (decLt b n) [
-  | yes l ↦ (let o = start-order q b n l in let e = stream-length q v d n in
-      List·getD-append (stream q d n) (written q d n) x (start q b + j) (omega arith) ∙ stream-at q v d n b j x l k)
-  | no l ↦ (let e : b ≡ n = omega arith in
-      rw (e, ← stream-length q v d n) (getD-append-add (stream q d n) (written q d n) j x))
-]
-
-pub used-room : (q : Plan) → Valid q → used q ≤ 8 * q .size
+pub used-room : (q : Plan) → Valid q → used q ≤ room q
 unfolding start
 used-room q v = let r = go (q .blocks) (v .ends) in omega (arith, v .total)
   where
-    go : (n : ℕ) → ((b : ℕ) → b < n → start q b + covered q b ≤ 8 * q .size) → start q n ≤ 8 * q .size
+    go : (n : ℕ) → ((b : ℕ) → b < n → start q b + covered q b ≤ room q) → start q n ≤ room q
     go zero h = omega arith
     go (suc n) h = h n (omega arith)
 
--- All blocks, and ones to the end of the page.
+-- All blocks, and ones to the end of the stream.
 unfoldable pub filled : Plan → List ℕ → Word
-filled q d = stream q d (q .blocks) ++ replicate (8 * q .size - used q) true
+filled q d = stream q d (q .blocks) ++ replicate (room q - used q) true
 
 module _ (q : Plan) (v : Valid q) (d : List ℕ) where
-  pub filled-length : length (filled q d) ≡ 8 * q .size
+  stream-run : (n : ℕ) → n ≤ q .blocks → stream q d n ≡ run (writtenBit q d) 0 (start q n)
+  unfolding stream start run
+  stream-run zero l = refl
+  stream-run (suc n) l =
+      ap₂ _++_ (stream-run n (omega arith)) (sym (written-run q v d n l))
+      ∙ sym (run-append (writtenBit q d) 0 (start q n) (covered q n) ∙ rw (zero-add (start q n)))
+
+  tail-run : (n : ℕ) → run (writtenBit q d) (used q) n ≡ replicate n true
+  tail-run n = run-ext (writtenBit q d) (used q) (replicate n true) n false (length-replicate n true)
+      (λ j l. written-tail q v d (used q + j) (omega arith) ∙ sym (getD-replicate n j true false l))
+
+  -- They are the whole written stream.
+  pub filled-run : filled q d ≡ run (writtenBit q d) 0 (room q)
   unfolding filled
-  filled-length =
-      length-append (stream q d (q .blocks)) _ ∙ rw (stream-length q v d (q .blocks), length-replicate)
-      (omega (arith, used-room q v, v .total))
+  filled-run =
+      let e : used q + (room q - used q) ≡ room q = omega (arith, used-room q v) in
+      ap₂ _++_ (stream-run (q .blocks) (omega arith) ∙ ap (run (writtenBit q d) 0) (sym (v .total))) (sym (tail-run (room q - used q)))
+      ∙ sym (ap (run (writtenBit q d) 0) (sym e) ∙ run-append (writtenBit q d) 0 (used q) (room q - used q) ∙ rw (zero-add (used q)))
 
-  filled-block : (b j : ℕ) → b < q .blocks → j < covered q b
-      → getD (filled q d) (start q b + j) false ≡ getD (written q d b) j false
-  unfolding filled
-  filled-block b j h k = let o = start-order q b (q .blocks) h in let e = stream-length q v d (q .blocks) in
-      List·getD-append (stream q d (q .blocks)) _ false (start q b + j) (omega arith) ∙ stream-at q v d (q .blocks) b j false h k
+  -- A page into whose stream these were put from its start on is the written page, whatever its stream held before.
+  pub filled-page : (page : List ℕ) → length page ≡ q .size → put (q .mark) page 0 (filled q d) ≡ pageOf q page d
+  unfolding put putBit pageOf pageBit room
+  filled-page page size = ap (bytes (putBit (q .mark) page 0 (filled q d))) size ∙ bytes-cong _ _ (q .size) (λ p l. go p l (marked (q .mark) p) refl)
+    where
+      at : (p : ℕ) (x : Bool) → p < room q → getD (filled q d) p x ≡ writtenBit q d p
+      at p x l = rw filled-run (run-at (writtenBit q d) 0 (room q) p x l ∙ rw (zero-add p))
 
-  filled-tail : (p : ℕ) → used q ≤ p → p < 8 * q .size → getD (filled q d) p false ≡ true
-  unfolding filled
-  filled-tail p h l =
-      let n = stream-length q v d (q .blocks) in
-      let e : p ≡ length (stream q d (q .blocks)) + (p - used q) = omega (arith, v .total) in
-      rw e (getD-append-add (stream q d (q .blocks)) (replicate (8 * q .size - used q) true) (p - used q) false
-      ∙ getD-replicate (8 * q .size - used q) (p - used q) true false (omega arith))
-
-  filled-stands : Stands q d (bytes (λ p. getD (filled q d) p false) (q .size))
-  filled-stands = record {
-    bytes = bytes-bytes _ (q .size);
-    blocks = λ b l. unfold blockWord in run-ext _ _ (written q d b) _ false (written-length q v d b)
-        (λ j k. bytes-bit _ (q .size) _ (omega (arith, v .ends b l)) ∙ filled-block b j l k);
-    tail = λ p h l. bytes-bit _ (q .size) p l ∙ filled-tail p h l;
-  }
-
-  -- A page on which these were put from its start on is the written page, whatever it held before.
-  pub filled-page : (page : List ℕ) → length page ≡ q .size → placed page 0 (filled q d) ≡ pageOf q d
-  filled-page page l =
-      placed-whole page (filled q d) (filled-length ∙ ap (λ n. 8 * n) (sym l)) ∙ ap (bytes (λ p. getD (filled q d) p false)) l
-      ∙ stands-page q v d _ filled-stands
+      go : (p : ℕ) → p < 8 * q .size → (x : Bool) → marked (q .mark) p ≡ x → putBit (q .mark) page 0 (filled q d) p ≡ pageBit q page d p
+      go p l true e = rw e
+      go p l false e =
+          let z : streamed (q .mark) p - 0 ≡ streamed (q .mark) p = omega arith in
+          rw (e, le-leb 0 (streamed (q .mark) p) (omega arith), z)
+          (at (streamed (q .mark) p) (bitOf page p) (streamed-below (q .mark) (q .size) (v .inside) p l e))

@@ -1,6 +1,6 @@
 -- What the five page calls answer and leave (document 01, "Replies", "One block" and "Claim"; document 02, E6).
 -- Each is a function of everything that is lent, and gives the reply, the block number, the values, and what the buffers that
--- the call may write to hold afterwards, on refusals too. Of several replies the first in the order 6 for the record, 1, 2, 3,
+-- the call may write to hold afterwards, on refusals too. Of several replies the first in the order 6 for the record, 1, 2, 3, 11,
 -- 4, 5, 6, 7, 9, 10 is given. Numbers that are handed in have no bound. The block is 0 except in reply 9; beside a refusal
 -- every other value is 0. A refused call leaves each lent buffer as it found it, but for the counts of a look that answers 9:
 -- so document 02, E6, amended document 01's Replies.
@@ -56,7 +56,7 @@ writeReply q metadata «data» page =
 unfoldable pub writeIn : Plan → List ℕ → List ℕ → List ℕ → Written
 writeIn q metadata «data» page =
     cond (eqb (writeReply q (length metadata) (length «data») (length page)) 0)
-    (writeEnded 0 0 (pageOf q (metadata ++ «data»)))
+    (writeEnded 0 0 (pageOf q page (metadata ++ «data»)))
     (writeEnded (writeReply q (length metadata) (length «data») (length page)) 0 page)
 
 unfoldable pub writeFor : Acceptance → List ℕ → List ℕ → List ℕ → Written

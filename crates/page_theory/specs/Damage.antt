@@ -8,7 +8,7 @@
 -- size s n                          how many numbers below n are in the set s
 -- flips q s b                       how many covered bits of block b are in its set
 -- turn x b                          the bit b, turned over where x is true
--- Damaged q before after s          the page `after` is the page `before` with the sets s turned over, and any tail
+-- Damaged q before after s          the page `after` is the page `before` with the sets s turned over, and any tail and mark
 -- WrittenAndDamaged rec q m d page s    metadata m and data d were written, and damage made `page` of the written page
 use mathlib.Core.Path.{_≡_}
 use mathlib.Core.Bool.{Bool, cond}
@@ -16,7 +16,8 @@ use mathlib.Core.List.{List}
 use Prim.Native.Nat.{ℕ, zero, suc, _+_, _≤_, _<_}
 use lib.ListN.{length}
 use Rattle.algebra.specs.Word.{flip}
-use Rattle.bits.specs.Bits.{bitOf, digit, Bytes}
+use Rattle.bits.specs.Bits.{digit, Bytes}
+use Rattle.mark.specs.Mark.{streamBit}
 use Rattle.layout.specs.declared.Plan.{Plan}
 use Rattle.layout.specs.Record.{layoutOf}
 use Rattle.layout.specs.Plan.{planOf, level, covered, start}
@@ -48,10 +49,12 @@ flips q s b = size (s b) (covered q b)
 unfoldable pub turn : Bool → Bool → Bool
 turn x b = cond x (flip b) b
 
--- In each block the bits of its set are turned over, at most t of them. Nothing is said of the tail: its bits become anything.
+-- In each block the bits of its set are turned over, at most t of them. Nothing is said of the tail and of the mark: their bits become anything
+-- (document 02, E7, counts mark bits with the tail).
 pub record Damaged (q : Plan) (before after : List ℕ) (s : ℕ → ℕ → Bool) : Type 0 where
   pub page : Bytes (q .size) after
-  pub turned : (b j : ℕ) → b < q .blocks → j < covered q b → bitOf after (start q b + j) ≡ turn (s b j) (bitOf before (start q b + j))
+  pub turned : (b j : ℕ) → b < q .blocks → j < covered q b
+      → streamBit (q .mark) after (start q b + j) ≡ turn (s b j) (streamBit (q .mark) before (start q b + j))
   pub few : (b : ℕ) → b < q .blocks → flips q s b ≤ level q b
 
 -- The writer was lent some page of PAGE_SIZE bytes, and nothing but the damage changed the page that it left.

@@ -5,7 +5,7 @@
 -- LookEnds lent r                   demand 1, looking: r is an answer of the table, and a refusal other than 9 leaves the counts as they were lent
 -- TakeEnds metadata body r          demand 1, taking: r is an answer of the table, and a refusal leaves the outputs as they were lent
 -- JudgeEnds b r, ClaimEnds r        demand 1, judging block b and a claim, which are lent nothing to write to
--- Stands q payload page             demand 2: the page holds the written blocks of a payload, and ones in the tail
+-- Stands q lent payload page        demand 2: the page holds the written blocks of a payload, ones in the tail, and in the mark what was lent
 -- Reported q page b n               block b gives some message and reports n, or it is ruined and n is 255
 -- Looks q page r                    demand 2: what looking at a page reports of each block, ruined ones included
 -- Takes q page r                    demand 2: what is taken out of a page, block by block
@@ -18,7 +18,8 @@ use lib.ListN.{length, getD}
 use Rattle.bits.specs.Bits.{bitOf, Bytes}
 use Rattle.replies.specs.Replies.{among}
 use Rattle.layout.specs.declared.Plan.{Plan}
-use Rattle.layout.specs.Plan.{used}
+use Rattle.mark.specs.Mark.{marked, streamBit}
+use Rattle.layout.specs.Plan.{used, room}
 use Rattle.code.specs.Word.{Word}
 use Rattle.page_theory.specs.Page.{message, written, blockWord}
 use Rattle.page_theory.specs.Reading.{GivesAt, RefusedAt}
@@ -27,39 +28,41 @@ use Rattle.page_theory.specs.Damage.{Payload}
 
 -- How writing ends: with a reply of the table, about block 0, and after a refusal the page is as it was lent.
 pub record WriteEnds (page : List ℕ) (r : Written) : Type 0 where
-  pub table : among (r .reply) (0 ∷ 1 ∷ 2 ∷ 3 ∷ 4 ∷ 5 ∷ 6 ∷ []) ≡ true
+  pub table : among (r .reply) (0 ∷ 1 ∷ 2 ∷ 3 ∷ 4 ∷ 5 ∷ 6 ∷ 11 ∷ []) ≡ true
   pub kept : (r .reply ≡ 0 → ⊥) → r ≡ writeEnded (r .reply) 0 page
   pub block : r .block ≡ 0
 
 -- How looking ends. Reply 9 names a block and is the one refusal that writes (document 02, E6); what it writes, `Looks` says.
 pub record LookEnds (lent : List ℕ) (r : Looked) : Type 0 where
-  pub table : among (r .reply) (0 ∷ 1 ∷ 2 ∷ 3 ∷ 4 ∷ 5 ∷ 6 ∷ 9 ∷ []) ≡ true
+  pub table : among (r .reply) (0 ∷ 1 ∷ 2 ∷ 3 ∷ 4 ∷ 5 ∷ 6 ∷ 9 ∷ 11 ∷ []) ≡ true
   pub kept : (r .reply ≡ 0 → ⊥) → (r .reply ≡ 9 → ⊥) → r ≡ lookEnded (r .reply) 0 lent
   pub block : (r .reply ≡ 9 → ⊥) → r .block ≡ 0
 
 -- How taking ends. Only reply 9 names a block.
 pub record TakeEnds (metadata body : List ℕ) (r : Taken) : Type 0 where
-  pub table : among (r .reply) (0 ∷ 1 ∷ 2 ∷ 3 ∷ 4 ∷ 5 ∷ 6 ∷ 9 ∷ []) ≡ true
+  pub table : among (r .reply) (0 ∷ 1 ∷ 2 ∷ 3 ∷ 4 ∷ 5 ∷ 6 ∷ 9 ∷ 11 ∷ []) ≡ true
   pub kept : (r .reply ≡ 0 → ⊥) → r ≡ takeEnded (r .reply) (r .block) metadata body
   pub block : (r .reply ≡ 9 → ⊥) → r .block ≡ 0
 
 -- How judging one block ends: a refusal has no flip count, and reply 9 names the block.
 pub record JudgeEnds (b : ℕ) (r : Judged) : Type 0 where
-  pub table : among (r .reply) (0 ∷ 1 ∷ 2 ∷ 3 ∷ 4 ∷ 5 ∷ 6 ∷ 7 ∷ 9 ∷ []) ≡ true
+  pub table : among (r .reply) (0 ∷ 1 ∷ 2 ∷ 3 ∷ 4 ∷ 5 ∷ 6 ∷ 7 ∷ 9 ∷ 11 ∷ []) ≡ true
   pub kept : (r .reply ≡ 0 → ⊥) → r .flips ≡ 0
   pub block : (r .reply ≡ 9 → ⊥) → r .block ≡ 0
   pub named : r .reply ≡ 9 → r .block ≡ b
 
 -- How a claim ends.
 pub record ClaimEnds (r : Claimed) : Type 0 where
-  pub table : among (r .reply) (0 ∷ 1 ∷ 2 ∷ 3 ∷ 4 ∷ 5 ∷ 6 ∷ 7 ∷ 10 ∷ []) ≡ true
+  pub table : among (r .reply) (0 ∷ 1 ∷ 2 ∷ 3 ∷ 4 ∷ 5 ∷ 6 ∷ 7 ∷ 10 ∷ 11 ∷ []) ≡ true
   pub block : r .block ≡ 0
 
--- The written page, said block by block: each block stands in its place, and the bits after the last block are ones.
-pub record Stands (q : Plan) (payload page : List ℕ) : Type 0 where
+-- The written page, said block by block: each block stands in its place, the bits after the last block are ones, and the mark has the bits of the
+-- lent page.
+pub record Stands (q : Plan) (lent payload page : List ℕ) : Type 0 where
   pub bytes : Bytes (q .size) page
   pub blocks : (b : ℕ) → b < q .blocks → blockWord q page b ≡ written q payload b
-  pub tail : (p : ℕ) → used q ≤ p → p < 8 * q .size → bitOf page p ≡ true
+  pub tail : (p : ℕ) → used q ≤ p → p < room q → streamBit (q .mark) page p ≡ true
+  pub mark : (p : ℕ) → p < 8 * q .size → marked (q .mark) p ≡ true → bitOf page p ≡ bitOf lent p
 
 -- What is reported of a block: the distance of a codeword within t flips; where there is none and the block has at most t zeros, 128 plus the
 -- zeros; else 255 (document 02, E1 and E6).

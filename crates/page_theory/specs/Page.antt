@@ -1,10 +1,12 @@
--- Pages as they are written (document 01, "Layout words", "Bits and polynomials" and "The code").
+-- Pages as they are written (document 01, "Layout words", "Bits and polynomials" and "The code"; document 02, E7). Blocks and tail live in the
+-- stream, which leaves the mark out (crate `mark`).
 -- A payload is the metadata followed by the data, in one list of bytes. Its bits are counted like those of a page.
 --
 -- message q payload b     the message of block b
 -- written q payload b     block b as it is written: its message followed by its parity
--- pageBit q payload p     the bit at stream position p of the written page
--- pageOf q payload        the written page
+-- writtenBit q payload p  the bit at stream position p of the written page
+-- pageBit q lent payload p    the bit at page position p of the page that is written over the lent one
+-- pageOf q lent payload   the page that is written over the lent one
 -- blockWord q page b      the word that stands in block b of a page: its covered bits
 use mathlib.Core.Bool.{Bool, true, cond}
 use mathlib.Core.List.{List, _++_}
@@ -12,6 +14,7 @@ use Prim.Native.Nat.{ℕ, _-_}
 use lib.ListN.{getD}
 use lib.Dec.{ltb}
 use Rattle.bits.specs.Bits.{bitOf, run, bytes}
+use Rattle.mark.specs.Mark.{marked, streamed, streamBit}
 use Rattle.layout.specs.declared.Plan.{Plan}
 use Rattle.layout.specs.Plan.{bits, field, level, covered, start, from}
 use Rattle.layout.specs.Bits.{blockOf}
@@ -26,13 +29,17 @@ unfoldable pub written : Plan → List ℕ → ℕ → Word
 written q payload b = message q payload b ++ parity (field q b) (level q b) (message q payload b)
 
 -- The bit of the block in which the position lies. The tail, document 01's word for the bits of no block, is written as ones.
-unfoldable pub pageBit : Plan → List ℕ → ℕ → Bool
-pageBit q payload p =
+unfoldable pub writtenBit : Plan → List ℕ → ℕ → Bool
+writtenBit q payload p =
     cond (ltb (blockOf q p) (q .blocks)) (getD (written q payload (blockOf q p)) (p - start q (blockOf q p)) true) true
 
-unfoldable pub pageOf : Plan → List ℕ → List ℕ
-pageOf q payload = bytes (pageBit q payload) (q .size)
+-- Writing never touches the mark: it holds what the lent page held.
+unfoldable pub pageBit : Plan → List ℕ → List ℕ → ℕ → Bool
+pageBit q lent payload p = cond (marked (q .mark) p) (bitOf lent p) (writtenBit q payload (streamed (q .mark) p))
+
+unfoldable pub pageOf : Plan → List ℕ → List ℕ → List ℕ
+pageOf q lent payload = bytes (pageBit q lent payload) (q .size)
 
 -- The lowest address carries the highest power.
 unfoldable pub blockWord : Plan → List ℕ → ℕ → Word
-blockWord q page b = run (bitOf page) (start q b) (covered q b)
+blockWord q page b = run (streamBit (q .mark) page) (start q b) (covered q b)

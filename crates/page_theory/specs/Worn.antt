@@ -1,6 +1,6 @@
 -- Damage past the level (document 02, E14): what may be reported of a block in which more bits flipped than its level corrects.
 --
--- Changed q before after s              the page `after` is the page `before` with the sets s turned over, of any size, and any tail
+-- Changed q before after s              the page `after` is the page `before` with the sets s turned over, of any size, and any tail and mark
 -- WrittenAndChanged rec q m d page s    metadata m and data d were written, and damage of any size made `page` of the written page
 -- Past q s b                            in block b, whose level t is not 0, more than t bits were turned over and at most 2t
 -- Touched q s b                         in block b from one to 2t bits were turned over
@@ -14,7 +14,8 @@ use mathlib.Core.Bool.{Bool}
 use mathlib.Core.List.{List}
 use Prim.Native.Nat.{ℕ, _+_, _*_, _≤_, _<_}
 use lib.ListN.{length, getD}
-use Rattle.bits.specs.Bits.{bitOf, Bytes}
+use Rattle.bits.specs.Bits.{Bytes}
+use Rattle.mark.specs.Mark.{streamBit}
 use Rattle.layout.specs.declared.Plan.{Plan}
 use Rattle.layout.specs.Plan.{level, covered, start}
 use Rattle.code.specs.Word.{Word}
@@ -26,7 +27,8 @@ use Rattle.page_theory.specs.Calls.{writeOf, lookOf, judgeBy, judgeOf}
 -- As `Damaged` of Damage, with no bound on the sets.
 pub record Changed (q : Plan) (before after : List ℕ) (s : ℕ → ℕ → Bool) : Type 0 where
   pub page : Bytes (q .size) after
-  pub turned : (b j : ℕ) → b < q .blocks → j < covered q b → bitOf after (start q b + j) ≡ turn (s b j) (bitOf before (start q b + j))
+  pub turned : (b j : ℕ) → b < q .blocks → j < covered q b
+      → streamBit (q .mark) after (start q b + j) ≡ turn (s b j) (streamBit (q .mark) before (start q b + j))
 
 -- The writer was lent some page of PAGE_SIZE bytes, and nothing but the damage changed the page that it left.
 pub record WrittenAndChanged (rec : List ℕ) (q : Plan) (m d page : List ℕ) (s : ℕ → ℕ → Bool) : Type 0 where

@@ -1,16 +1,19 @@
 -- Laws behind the writer: one block, the lengths, blocks put one after the other, the tail.
 use mathlib.Core.Path.{_≡_, refl, sym, ap, _∙_}
 use mathlib.Core.Bool.{Bool, true, false, cond}
-use mathlib.Core.List.{List, [], _++_}
-use Prim.Native.Nat.{ℕ, zero, suc, _+_, _-_, _*_, _≤_, _<_}
+use mathlib.Core.List.{List, _++_}
+use Prim.Native.Nat.{ℕ, zero, suc, _+_, _-_, _*_, _<_}
 use native.Mathlib.Omega.{arith}
 use native.Mathlib.Nat.{mul-zero, zero-add}
 use native.Mathlib.Numerals.{add-one}
 use lib.ListN.{length, length-append}
 use lib.Dec.{eqb}
 use borrow.Author.Tests.{eqb-true, ne-eqb}
-use Rattle.bits.specs.Bits.{bitOf, run, ones, digits, Bytes, placed, Inside}
-use Rattle.bits.proofs.Placed.{placed-length, placed-run, placed-empty, placed-append}
+use Rattle.bits.specs.Bits.{bitOf, run, ones, digits, Bytes, Inside}
+use Rattle.bits.proofs.Pages.{bytes-cong}
+use Rattle.mark.specs.declared.Mark.{Mark}
+use Rattle.mark.specs.Mark.{marked, streamBit, put, InStream}
+use Rattle.mark.proofs.Putting.{put-length, put-bytes, put-mark, put-inside, put-run, put-ext, put-empty, put-append}
 use Rattle.field.specs.declared.Field.{Field}
 use Rattle.field.specs.Field.{degree}
 use Rattle.replies.specs.declared.Refusal.{Refusal}
@@ -21,10 +24,10 @@ use Rattle.layout.specs.declared.Refusal as kinds
 use Rattle.layout.specs.declared.Acceptance.{Acceptance}
 use Rattle.layout.specs.declared.Acceptance.the-variants.{Refused}
 use Rattle.layout.specs.Acceptance.{refusalOf, refusalReply}
-use Rattle.layout.specs.Plan.{shape, start, used, from, payload, Valid}
+use Rattle.layout.specs.Plan.{shape, start, used, room, from, payload, Valid}
 use Rattle.code.specs.Word.{Word}
 use Rattle.code.specs.Generator.{parity}
-use Rattle.page_theory.specs.Page.{message, written, pageOf}
+use Rattle.page_theory.specs.Page.{message, written, pageBit, pageOf}
 use Rattle.page_theory.specs.Calls.{writeEnded, writeReply, writeIn, writeFor}
 use Rattle.page_theory.proofs.Calls.{writeReply-right}
 use Rattle.page_theory.proofs.Writing.{stream, stream-length, filled, filled-page}
@@ -35,19 +38,19 @@ use Rattle.page_write.specs.Writing.{Lent, encoded}
 -- ---- one block
 
 -- without ECC there is no parity
-pub parity-none : (f : Field) (t : ℕ) (w : Word) (page : List ℕ) (s : ℕ) → Bytes (length page) page → t ≡ 0 → page ≡ placed page s (parity f t w)
+pub parity-none : (f : Field) (t : ℕ) (w : Word) (k : Mark) (page : List ℕ) (s : ℕ) → Bytes (length page) page → t ≡ 0 → page ≡ put k page s (parity f t w)
 unfolding parity digits
-parity-none f t w page s b e = rw (e, mul-zero (degree f)) (sym (placed-empty page s b))
+parity-none f t w k page s b e = rw (e, mul-zero (degree f)) (sym (put-empty k page s b))
 
--- the parity of the message that stands in the page follows it
-pub encoded-placed : (s : Shape) (page : List ℕ) (position : ℕ) (w : Word) → length w ≡ s .message → position + s .message ≤ 8 * length page
-    → {one two : List ℕ} → one ≡ placed page position w
-    → two ≡ placed one (position + s .message) (parity (s .field) (s .level) (run (bitOf one) position (s .message)))
-    → two ≡ placed page position (encoded s w)
+-- the parity of the message that stands in the stream follows it
+pub encoded-put : (s : Shape) (k : Mark) (page : List ℕ) (position : ℕ) (w : Word) → length w ≡ s .message → InStream k page position (s .message)
+    → {one two : List ℕ} → one ≡ put k page position w
+    → two ≡ put k one (position + s .message) (parity (s .field) (s .level) (run (streamBit k one) position (s .message)))
+    → two ≡ put k page position (encoded s w)
 unfolding encoded
-encoded-placed s page position w l h e f =
-    let r : run (bitOf (placed page position w)) position (length w) ≡ w = placed-run page position w (omega arith) in
-    f ∙ rw (e, ← l, r) (placed-append page position _ w _ refl)
+encoded-put s k page position w l h e f =
+    let r : run (streamBit k (put k page position w)) position (length w) ≡ w = put-run k page position w (rw (← l) at h) in
+    f ∙ rw (e, ← l, r) (put-append k page position _ w _ refl)
 
 -- ---- the lengths are right
 
@@ -84,7 +87,7 @@ unfolding writeIn
 write-refused q m d page r e =
     rw (number-bare r (omega (arith, reply-bare q (length m) (length d) (length page))), ← e, ne-eqb _ 0 (number-some r))
 
-pub write-done : (q : Plan) (m d page : List ℕ) {after : List ℕ} → Lent q m d page → after ≡ pageOf q (m ++ d)
+pub write-done : (q : Plan) (m d page : List ℕ) {after : List ℕ} → Lent q m d page → after ≡ pageOf q page (m ++ d)
     → writeEnded 0 0 after ≡ writeIn q m d page
 unfolding writeIn
 write-done q m d page h e = rw (e, writeReply-right q m d page (h .size) (h .metadata) (h .«data»))
@@ -110,34 +113,55 @@ unfolding from shape
 from-next q zero h = absurd (omega arith)
 from-next q (suc b) h = sym (ap (from q) (add-one (suc b)))
 
--- A page of the right length on which the first n written blocks were put.
-pub record Streamed (q : Plan) (d : List ℕ) (n : ℕ) (page : List ℕ) : Type 0 where
-  pub before : List ℕ
-  pub size : length before ≡ q .size
-  pub put : page ≡ placed before 0 (stream q d n)
+-- what is put twice is put once
+put-again : (k : Mark) (page : List ℕ) (s : ℕ) (w : Word) → put k (put k page s w) s w ≡ put k page s w
+put-again k page s w =
+    let n = put-length k page s w in
+    put-ext k (put k page s w) s w (put k page s w) (rw n (put-bytes k page s w)) (λ p m. refl)
+    (λ j h l. put-inside k page s w j false h (rw n at l)) (λ q o. refl)
+
+-- the page that is written over another one has of it only the mark, which no word in the stream changes
+pub page-put : (q : Plan) (lent : List ℕ) (s : ℕ) (w : Word) (d : List ℕ) {page : List ℕ} → page ≡ put (q .mark) lent s w → pageOf q page d ≡ pageOf q lent d
+unfolding pageOf pageBit
+page-put q lent s w d h = rw h (bytes-cong _ _ (q .size) (λ p l. go p (marked (q .mark) p) refl))
+  where
+    go : (p : ℕ) (x : Bool) → marked (q .mark) p ≡ x → pageBit q (put (q .mark) lent s w) d p ≡ pageBit q lent d p
+    go p true e = rw (e, put-mark (q .mark) lent s w p e)
+    go p false e = rw e
+
+-- A page of the right length into whose stream the first n written blocks were put.
+pub record Streamed (q : Plan) (d lent : List ℕ) (n : ℕ) (page : List ℕ) : Type 0 where
+  pub size : length lent ≡ q .size
+  pub stands : page ≡ put (q .mark) lent 0 (stream q d n)
 
 module _ (q : Plan) (d : List ℕ) where
-  pub streamed-start : (page : List ℕ) → Bytes (length page) page → length page ≡ q .size → Streamed q d 0 page
-  unfolding stream
-  streamed-start page b h = record { before = page; size = h; put = sym (placed-empty page 0 b) }
-
-  pub streamed-size : (n : ℕ) {page : List ℕ} → Streamed q d n page → length page ≡ q .size
-  streamed-size n h = ap length (h .put) ∙ placed-length (h .before) 0 (stream q d n) ∙ h .size
-
-  pub streamed-next : Valid q → (b : ℕ) {s : Shape} {at position : ℕ} {page after : List ℕ} → Streamed q d b page → s ≡ shape q b → at ≡ from q b
-      → position ≡ start q b → after ≡ placed page position (encoded s (run (bitOf d) at (s .message))) → Streamed q d (b + 1) after
-  unfolding stream encoded written message
-  streamed-next v b h es ea ep e = record {
-    before = h .before;
-    size = h .size;
-    put = e ∙ rw (es, ea, ep, h .put, add-one b) (placed-append (h .before) 0 (start q b) (stream q d b) _ (sym (zero-add _ ∙ stream-length q v d b)));
+  -- once block 0 is written, it may be taken as lent
+  pub streamed-first : (lent : List ℕ) {page : List ℕ} → length lent ≡ q .size → page ≡ put (q .mark) lent 0 (encoded (q .first) (run (bitOf d) 0 (q .first .message)))
+      → Streamed q d page 1 page
+  unfolding stream encoded written message from shape
+  streamed-first lent h e = record {
+    size = ap length e ∙ put-length (q .mark) lent 0 _ ∙ h;
+    stands = rw e (sym (put-again (q .mark) lent 0 _));
   }
 
-  pub streamed-end : Valid q → {page after : List ℕ} {u : ℕ} → Streamed q d (q .blocks) page → u ≡ used q
-      → after ≡ placed page u (ones (8 * length page - u)) → after ≡ pageOf q d
-  unfolding filled ones
-  streamed-end v h eu e =
-      let w = stream q d (q .blocks) in
-      e ∙ rw (eu, streamed-size (q .blocks) h, h .put)
-      (placed-append (h .before) 0 (used q) w _ (sym (zero-add _ ∙ stream-length q v d (q .blocks) ∙ sym (v .total))))
-      ∙ filled-page q v d (h .before) (h .size)
+  module _ {lent : List ℕ} where
+    pub streamed-size : (n : ℕ) {page : List ℕ} → Streamed q d lent n page → length page ≡ q .size
+    streamed-size n h = ap length (h .stands) ∙ put-length (q .mark) lent 0 (stream q d n) ∙ h .size
+
+    pub streamed-next : Valid q → (b : ℕ) {s : Shape} {at position : ℕ} {page after : List ℕ} → Streamed q d lent b page → s ≡ shape q b → at ≡ from q b
+        → position ≡ start q b → after ≡ put (q .mark) page position (encoded s (run (bitOf d) at (s .message))) → Streamed q d lent (b + 1) after
+    unfolding stream encoded written message
+    streamed-next v b h es ea ep e = record {
+      size = h .size;
+      stands = e ∙ rw (es, ea, ep, h .stands, add-one b)
+          (put-append (q .mark) lent 0 (start q b) (stream q d b) _ (sym (zero-add _ ∙ stream-length q v d b)));
+    }
+
+    pub streamed-end : Valid q → {page after : List ℕ} {u n : ℕ} → Streamed q d lent (q .blocks) page → u ≡ used q
+        → n ≡ 8 * (length page - q .mark .length) → after ≡ put (q .mark) page u (ones (n - u)) → after ≡ pageOf q lent d
+    unfolding filled ones room
+    streamed-end v h eu en e =
+        let w = stream q d (q .blocks) in
+        e ∙ rw (en, eu, streamed-size (q .blocks) h, h .stands)
+        (put-append (q .mark) lent 0 (used q) w _ (sym (zero-add _ ∙ stream-length q v d (q .blocks) ∙ sym (v .total))))
+        ∙ filled-page q v d lent (h .size)

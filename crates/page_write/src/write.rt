@@ -1,8 +1,7 @@
-// Writing a page: block after block its message and its parity, then ones into the tail.
+// Writing a page: block after block its message and its parity, then ones into the tail. All of them go into the stream, which leaves the
+// mark out: the mark's bytes stay as they were lent.
 use crate::WriteAnswer;
 use crate::lengths::write_reply;
-use bit_writing::fill::fill_ones;
-use division::runs::parity_of;
 use division_table::make_table;
 use layout::Acceptance;
 use layout::Plan;
@@ -11,16 +10,20 @@ use layout::block_start;
 use layout::check_layout;
 use layout::plan_of;
 use layout::refusal_of;
+use mark::Mark;
 use page_plan::later_table;
-use payload::copy_from;
+use page_runs::divide::parity_in;
+use page_runs::write::copy_in;
+use page_runs::write::fill_ones;
+use page_runs::write::put_parity;
 use remainder::coefficients::parity_bits;
-use remainder::digits::place_parity;
 use replies::Verdict;
 ghost use mathlib.Core.Path.{_≡_};
 ghost use mathlib.Core.List.{_++_};
 ghost use Prim.Native.Nat.{_+_, _≤_, _<_};
 ghost use lib.ListN.{length};
-ghost use Rattle.bits.specs.Bits.{bitOf, run, placed, Inside};
+ghost use Rattle.bits.specs.Bits.{bitOf, run, Inside};
+ghost use Rattle.mark.specs.Mark.{streamBit, put, InStream};
 ghost use Rattle.layout.specs.Plan.{Summed};
 ghost use Rattle.code.specs.Generator.{parity};
 ghost use Rattle.division_table.specs.Table.{Table};
@@ -31,11 +34,11 @@ ghost use Rattle.page_write.specs.Answers.{writeNumber, writeBlock};
 ghost use Rattle.page_write.specs.Writing.{Lent, encoded};
 
 // Puts the parity of a block after its message, which stands at the block's position.
-fn put_parity(shape: Shape, table: &[u64], page: &mut [u8], position: usize)
-    requires { ⌜ Table (shape .field) (shape .level) (now table) × Summed shape × Inside (now page) position (shape .covered) ⌝ }
+fn write_parity(shape: Shape, table: &[u64], mark: Mark, page: &mut [u8], position: usize)
+    requires { ⌜ Table (shape .field) (shape .level) (now table) × Summed shape × InStream mark (now page) position (shape .covered) ⌝ }
     ensures { λ r. ⌜ now (page .exit)
-        ≡ placed (now (page .entry)) (position + shape .message)
-        (parity (shape .field) (shape .level) (run (bitOf (now (page .entry))) position (shape .message))) ⌝ }
+        ≡ put mark (now (page .entry)) (position + shape .message)
+        (parity (shape .field) (shape .level) (run (streamBit mark (now (page .entry))) position (shape .message))) ⌝ }
 {
     let field = shape.field;
     let level = shape.level as usize;
@@ -44,8 +47,8 @@ fn put_parity(shape: Shape, table: &[u64], page: &mut [u8], position: usize)
     }
     let n = shape.message as usize;
     let degree = parity_bits(field, level);
-    let remainder = parity_of(field, level, table, page, position, n);
-    place_parity(remainder, degree, page, position + n);
+    let remainder = parity_in(field, level, table, mark, page, position, n);
+    put_parity(remainder, degree, mark, page, position + n);
 }
 
 // Writes a block at a position: the message that starts at position `at` of the payload, and its parity.
@@ -55,55 +58,58 @@ fn write_block(
     metadata: &[u8],
     data: &[u8],
     at: usize,
+    mark: Mark,
     page: &mut [u8],
     position: usize,
 )
     requires { ⌜ Table (shape .field) (shape .level) (now table) × Summed shape × (length (now metadata) < 256)
-        × Inside (now metadata ++ now «data») at (shape .message) × Inside (now page) position (shape .covered) ⌝ }
+        × Inside (now metadata ++ now «data») at (shape .message) × InStream mark (now page) position (shape .covered) ⌝ }
     ensures { λ r. ⌜ now (page .exit)
-        ≡ placed (now (page .entry)) position
+        ≡ put mark (now (page .entry)) position
         (encoded shape (run (bitOf (now (metadata .entry) ++ now («data» .entry))) at (shape .message))) ⌝ }
 {
     let n = shape.message as usize;
-    copy_from(metadata, data, at, page, position, n);
-    put_parity(shape, table, page, position);
+    copy_in(metadata, data, at, mark, page, position, n);
+    write_parity(shape, table, mark, page, position);
 }
 
 // Writes block 0, and leaves the table of the later blocks' generator. One table is made after the other in the same place.
 fn write_first(plan: Plan, table: &mut [u64], metadata: &[u8], data: &[u8], page: &mut [u8])
     requires { ⌜ Planned plan × Lent plan (now metadata) (now «data») (now page) × (3600 ≤ length (now table)) ⌝ }
     ensures { λ r. ⌜ (now (page .exit)
-        ≡ placed (now (page .entry)) 0 (encoded (plan .first) (run (bitOf (now (metadata .entry) ++ now («data» .entry))) 0 (plan .first .message))))
+        ≡ put (plan .mark) (now (page .entry)) 0 (encoded (plan .first) (run (bitOf (now (metadata .entry) ++ now («data» .entry))) 0 (plan .first .message))))
         × Table (plan .later .field) (plan .later .level) (now (table .exit)) ⌝ }
 {
     let first = plan.first;
     let field = first.field;
     let level = first.level as usize;
     make_table(field, level, table);
-    write_block(first, table, metadata, data, 0, page, 0);
+    write_block(first, table, metadata, data, 0, plan.mark, page, 0);
     later_table(plan, table);
 }
 
-// Writes all blocks and the tail.
+// Writes all blocks and the tail. The mark keeps what was lent.
 fn write_blocks(plan: Plan, metadata: &[u8], data: &[u8], page: &mut [u8])
     requires { ⌜ Planned plan × Lent plan (now metadata) (now «data») (now page) ⌝ }
-    ensures { λ r. ⌜ now (page .exit) ≡ pageOf plan (now (metadata .entry) ++ now («data» .entry)) ⌝ }
+    ensures { λ r. ⌜ now (page .exit) ≡ pageOf plan (now (page .entry)) (now (metadata .entry) ++ now («data» .entry)) ⌝ }
 {
     let blocks = plan.blocks;
     let first = plan.first;
     let later = plan.later;
+    let mark = plan.mark;
     let mut table = [0u64; 3600];
     write_first(plan, &mut table, metadata, data, page);
     let mut at = first.message as usize;
     let mut block = 1;
     while block < blocks {
         let position = block_start(plan, block);
-        write_block(later, &table, metadata, data, at, page, position);
+        write_block(later, &table, metadata, data, at, mark, page, position);
         at += later.message as usize;
         block += 1;
     }
     let used = plan.used as usize;
-    fill_ones(page, used, 8 * page.len() - used);
+    let room = 8 * (page.len() - mark.length as usize);
+    fill_ones(mark, page, used, room - used);
 }
 
 // Writes a page under a plan, where the lengths are right.

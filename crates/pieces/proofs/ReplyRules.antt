@@ -10,7 +10,7 @@ use lib.Dec.{eqb, ltb, leb, eqb·suc-zero}
 use borrow.Author.Tests.{eq-eqb, ne-eqb, lt-ltb, le-ltb}
 use Rattle.replies.specs.declared.Refusal.the-variants.{BufferLength, OutOfRange}
 use Rattle.replies.specs.Replies.{number, block, verdictNumber, verdictBlock, unequal, rule, verdict, reply, replyBlock}
-use Rattle.replies.specs.Given.{Follows, Exactly, atMost, ascending}
+use Rattle.replies.specs.Given.{Follows, Exactly, turn, atMost, ascending}
 use Rattle.replies.proofs.Tests.{ltb-not}
 use Rattle.replies.proofs.Given.{follows-done, follows-next, follows-here, exactly}
 use Rattle.field.specs.declared.Field.{Field}
@@ -90,9 +90,9 @@ module _ (s : State) (level choice n : ℕ) where
   pub start-exactly : Exactly (startRules level choice n) (startOf s level choice n .reply) 0
   start-exactly = exactly (startRules level choice n) start-replies
 
-  -- After the field choice, which is looked at first, the numbers never fall.
+  -- After the field choice, which is looked at first, the turns never fall.
   pub start-ascending : ascending (drop 1 (startRules level choice n)) ≡ true
-  unfolding startRules blockRules ascending atMost number
+  unfolding startRules blockRules ascending atMost turn number
   start-ascending = refl
 
 -- ---- feeding and finishing

@@ -1,4 +1,4 @@
--- The parity of a message in pieces is what stands after that message in the written page (document 02, E4).
+-- The parity of a message in pieces is what stands after that message in the stream of the written page (document 02, E4).
 use mathlib.Core.Path.{_≡_, refl, sym, ap, _∙_}
 use mathlib.Core.List.{List, _++_}
 use Prim.Native.Nat.{ℕ, zero, suc, _+_, _-_, _*_, _≤_, _<_}
@@ -9,6 +9,7 @@ use lib.Seq.{drop-at}
 use Rattle.field.specs.Field.{degree}
 use Rattle.bits.specs.Bits.{bitOf, run}
 use Rattle.bits.proofs.Runs.{run-length, run-append}
+use Rattle.mark.specs.Mark.{streamBit}
 use Rattle.layout.specs.declared.Fields.{Fields}
 use Rattle.layout.specs.declared.Plan.{Plan}
 use Rattle.layout.specs.Record.{fieldsIn, layoutOf}
@@ -67,14 +68,14 @@ module _ (rec : List ℕ) (q : Plan) (accepted : Accepts rec q) (m d page : List
         sym (reply-right (field q b) ecc (length (joined ps)) low (omega arith) h (omega arith)))
   ]
 
-  -- what stands in the page after the message
-  stands : run (bitOf (writeOf rec m d page .page)) (start q b + bits q b) (degree (field q b) * level q b)
+  -- what stands in the stream of the page after the message
+  stands : run (streamBit (q .mark) (writeOf rec m d page .page)) (start q b + bits q b) (degree (field q b) * level q b)
       ≡ parity (field q b) (level q b) (message q (m ++ d) b)
   unfolding blockWord
   stands =
-      sym (drop-at (run (bitOf (writeOf rec m d page .page)) (start q b) (bits q b)) _ (bits q b) (run-length _ _ _))
-      ∙ ap (drop (bits q b)) (sym (ap (run (bitOf (writeOf rec m d page .page)) (start q b)) (accepts-valid rec q accepted .sums b)
-      ∙ run-append (bitOf (writeOf rec m d page .page)) (start q b) (bits q b) (degree (field q b) * level q b))
+      sym (drop-at (run (streamBit (q .mark) (writeOf rec m d page .page)) (start q b) (bits q b)) _ (bits q b) (run-length _ _ _))
+      ∙ ap (drop (bits q b)) (sym (ap (run (streamBit (q .mark) (writeOf rec m d page .page)) (start q b)) (accepts-valid rec q accepted .sums b)
+      ∙ run-append (streamBit (q .mark) (writeOf rec m d page .page)) (start q b) (bits q b) (degree (field q b) * level q b))
       ∙ write-blocks rec q accepted m d page payload lent b inside)
       ∙ drop-at (message q (m ++ d) b) _ (bits q b) (message-length q (m ++ d) b)
 
@@ -84,10 +85,10 @@ module _ (rec : List ℕ) (q : Plan) (accepted : Accepts rec q) (m d page : List
     unfolding finished
     ended = cutting (field q b) ecc (length (joined ps)) right s ps buffer refl (rw (given .twice) at room)
 
-    -- Finishing answers 0, and the last mt bits of the buffer are those that stand in the page after the message.
+    -- Finishing answers 0, and the last mt bits of the buffer are those that stand in the stream of the page after the message.
     pub pieces-done : finished s (field q b) ecc ps buffer .reply ≡ 0
     pieces-done = rw ended (unfold calls.finished in refl)
 
     pub parity-after-message : run (bitOf (finished s (field q b) ecc ps buffer .parity)) (8 * length buffer - degree (field q b) * level q b) (degree (field q b) * level q b)
-        ≡ run (bitOf (writeOf rec m d page .page)) (start q b + bits q b) (degree (field q b) * level q b)
+        ≡ run (streamBit (q .mark) (writeOf rec m d page .page)) (start q b + bits q b) (degree (field q b) * level q b)
     parity-after-message = rw (stands, ended, room, ← given .bits, given .twice) (unfold calls.finished in parity-last (field q b) ecc (joined ps) low)

@@ -201,11 +201,11 @@ fn read_under(out: &mut [u8; 32768], options: Options, record: &[u8], plan: Plan
     );
 }
 
-// nandpage read [--from N] [--pages M] [--quiet] [--stdout] WORD0 WORD1 PAGE METADATA DATA
+// nandpage read [--mark WORD2] [--from N] [--pages M] [--quiet] [--stdout] WORD0 WORD1 PAGE METADATA DATA
 pub fn read(out: &mut [u8; 32768]) {
     let options = arguments::find_options(
         out,
-        arguments::RANGE + arguments::QUIET + arguments::STDOUT,
+        arguments::MARK + arguments::RANGE + arguments::QUIET + arguments::STDOUT,
     );
     if !options.good {
         return;
@@ -214,19 +214,14 @@ pub fn read(out: &mut [u8; 32768]) {
         out,
         options.at,
         5,
-        b"usage: nandpage read [--from N] [--pages M] [--quiet] [--stdout] WORD0 WORD1 PAGE METADATA DATA",
+        b"usage: nandpage read [--mark WORD2] [--from N] [--pages M] [--quiet] [--stdout] WORD0 WORD1 PAGE METADATA DATA",
     ) {
         return;
     }
-    let Planned::Under {
-        first,
-        second,
-        plan,
-    } = plans::plan_of_words(out, options.at)
-    else {
+    let Planned::Under { words, plan } = plans::plan_of_words(out, options) else {
         return;
     };
-    read_under(out, options, &text::layout_record(first, second), plan);
+    read_under(out, options, &arguments::record_of(words), plan);
 }
 
 fn look_under(out: &mut [u8; 32768], options: Options, record: &[u8], plan: Plan) {
@@ -248,9 +243,12 @@ fn look_under(out: &mut [u8; 32768], options: Options, record: &[u8], plan: Plan
     );
 }
 
-// nandpage look [--from N] [--pages M] [--quiet] WORD0 WORD1 PAGE
+// nandpage look [--mark WORD2] [--from N] [--pages M] [--quiet] WORD0 WORD1 PAGE
 pub fn look(out: &mut [u8; 32768]) {
-    let options = arguments::find_options(out, arguments::RANGE + arguments::QUIET);
+    let options = arguments::find_options(
+        out,
+        arguments::MARK + arguments::RANGE + arguments::QUIET,
+    );
     if !options.good {
         return;
     }
@@ -258,19 +256,14 @@ pub fn look(out: &mut [u8; 32768]) {
         out,
         options.at,
         3,
-        b"usage: nandpage look [--from N] [--pages M] [--quiet] WORD0 WORD1 PAGE",
+        b"usage: nandpage look [--mark WORD2] [--from N] [--pages M] [--quiet] WORD0 WORD1 PAGE",
     ) {
         return;
     }
-    let Planned::Under {
-        first,
-        second,
-        plan,
-    } = plans::plan_of_words(out, options.at)
-    else {
+    let Planned::Under { words, plan } = plans::plan_of_words(out, options) else {
         return;
     };
-    look_under(out, options, &text::layout_record(first, second), plan);
+    look_under(out, options, &arguments::record_of(words), plan);
 }
 
 fn salvage_paths(
@@ -331,11 +324,11 @@ fn salvage_under(out: &mut [u8; 32768], options: Options, record: &[u8], plan: P
     );
 }
 
-// nandpage salvage [--raw] [--from N] [--pages M] [--quiet] WORD0 WORD1 PAGE METADATA DATA LIST
+// nandpage salvage [--mark WORD2] [--raw] [--from N] [--pages M] [--quiet] WORD0 WORD1 PAGE METADATA DATA LIST
 pub fn salvage(out: &mut [u8; 32768]) {
     let options = arguments::find_options(
         out,
-        arguments::RAW + arguments::RANGE + arguments::QUIET,
+        arguments::MARK + arguments::RAW + arguments::RANGE + arguments::QUIET,
     );
     if !options.good {
         return;
@@ -344,17 +337,12 @@ pub fn salvage(out: &mut [u8; 32768]) {
         out,
         options.at,
         6,
-        b"usage: nandpage salvage [--raw] [--from N] [--pages M] [--quiet] WORD0 WORD1 PAGE METADATA DATA LIST",
+        b"usage: nandpage salvage [--mark WORD2] [--raw] [--from N] [--pages M] [--quiet] WORD0 WORD1 PAGE METADATA DATA LIST",
     ) {
         return;
     }
-    let Planned::Under {
-        first,
-        second,
-        plan,
-    } = plans::plan_of_words(out, options.at)
-    else {
+    let Planned::Under { words, plan } = plans::plan_of_words(out, options) else {
         return;
     };
-    salvage_under(out, options, &text::layout_record(first, second), plan);
+    salvage_under(out, options, &arguments::record_of(words), plan);
 }

@@ -8,20 +8,21 @@
 -- exactly                               so a call that answers by its list of rules answers exactly then
 -- append-kept, append-refused           two lists one after the other: the second decides where the first is kept
 -- follows-done, follows-next, follows-here     what the rules give, one after the other
--- smallest, smallest-after              in a list whose numbers never fall, the first left out or not, the smallest number of those that apply wins
+-- smallest, smallest-after              in a list whose turns never fall, the first left out or not, the first turn of those that apply wins
+-- turn-smallest                         which is the smallest number, 11 aside
 use mathlib.Core.Path.{_≡_, refl, sym, ap, _∙_}
 use mathlib.Core.Bool.{Bool, true, false, cond, true≢false}
 use mathlib.Core.List.{List, [], _∷_, _++_}
-use Prim.Native.Nat.{ℕ, _≤_, _<_}
+use Prim.Native.Nat.{ℕ, _*_, _≤_, _<_}
 use native.Mathlib.Omega.{arith}
 use lib.Dec.{eqb}
-use borrow.Author.Tests.{leb-true}
+use borrow.Author.Tests.{leb-true, ne-eqb}
 use Rattle.replies.specs.declared.Refusal.{Refusal}
 use Rattle.replies.specs.declared.Refusal.the-variants as refusal
 use Rattle.replies.specs.declared.Verdict.{Verdict}
 use Rattle.replies.specs.declared.Verdict.the-variants.{Passed, Refused}
 use Rattle.replies.specs.Replies.{number, block, verdictNumber, verdictBlock, Rule, rule, verdict, reply, replyBlock}
-use Rattle.replies.specs.Given.{None, end, next, Follows, First, Given, Exactly, atMost, ascending}
+use Rattle.replies.specs.Given.{None, end, next, Follows, First, Given, Exactly, turn, atMost, ascending}
 
 -- ---- refusals
 
@@ -37,6 +38,7 @@ number-positive refusal.OutOfRange = omega arith
 number-positive refusal.RemainderTooWide = omega arith
 number-positive (refusal.Uncorrectable b) = omega arith
 number-positive refusal.ClaimWrong = omega arith
+number-positive refusal.MarkOutside = omega arith
 
 -- the refusal of a number and a block
 unfoldable refusalFor : ℕ → ℕ → Refusal
@@ -49,7 +51,8 @@ refusalFor n b =
     (cond (eqb n 6) refusal.BufferLength
     (cond (eqb n 7) refusal.OutOfRange
     (cond (eqb n 8) refusal.RemainderTooWide
-    (cond (eqb n 9) (refusal.Uncorrectable b) refusal.ClaimWrong))))))))
+    (cond (eqb n 9) (refusal.Uncorrectable b)
+    (cond (eqb n 10) refusal.ClaimWrong refusal.MarkOutside)))))))))
 
 refusal-back : (r : Refusal) → refusalFor (number r) (block r) ≡ r
 unfolding refusalFor number block
@@ -63,6 +66,7 @@ refusal-back refusal.OutOfRange = refl
 refusal-back refusal.RemainderTooWide = refl
 refusal-back (refusal.Uncorrectable b) = refl
 refusal-back refusal.ClaimWrong = refl
+refusal-back refusal.MarkOutside = refl
 
 pub number-injective : (r s : Refusal) → number r ≡ number s → block r ≡ block s → r ≡ s
 number-injective r s n b = sym (refusal-back r) ∙ rw (n, b) (refusal-back s)
@@ -177,6 +181,10 @@ module _ {rs : List Rule} where
 
 -- ---- the smallest number
 
+pub turn-smallest : (m n : ℕ) → (m ≡ 11 → ⊥) → (n ≡ 11 → ⊥) → turn m ≤ turn n → m ≤ n
+unfolding turn
+turn-smallest m n x y h = let k : 2 * m ≤ 2 * n = simp (ne-eqb m 11 x, ne-eqb n 11 y) at h in omega arith
+
 ascending-parts : (r : Rule) (rs : List Rule) → ascending (r ∷ rs) ≡ true → (atMost (number (r .why)) rs ≡ true) × (ascending rs ≡ true)
 unfolding ascending
 ascending-parts r rs = go (atMost (number (r .why)) rs)
@@ -186,35 +194,35 @@ ascending-parts r rs = go (atMost (number (r .why)) rs)
     go false h = absurd (true≢false (sym h))
 
 module _ (after : List Rule) (why : Refusal) where
-  -- the first number of a list that never falls is the least
+  -- the first turn of a list that never falls is the least
   least : (n : ℕ) (before : List Rule) → atMost n (before ++ (rule true why ∷ after)) ≡ true
-      → ascending (before ++ (rule true why ∷ after)) ≡ true → n ≤ number why
+      → ascending (before ++ (rule true why ∷ after)) ≡ true → turn n ≤ turn (number why)
   unfolding atMost
-  least n [] h up = leb-true n (number why) h
+  least n [] h up = leb-true (turn n) (turn (number why)) h
   least n (r ∷ rs) h up =
       let p = ascending-parts r (rs ++ (rule true why ∷ after)) up in
-      let k : number (r .why) ≤ number why = least (number (r .why)) rs (p .0) (p .1) in
-      let l : n ≤ number (r .why) = leb-true n (number (r .why)) h in
+      let k : turn (number (r .why)) ≤ turn (number why) = least (number (r .why)) rs (p .0) (p .1) in
+      let l : turn n ≤ turn (number (r .why)) = leb-true (turn n) (turn (number (r .why))) h in
       omega arith
 
-  smallest-in : (before : List Rule) → ascending (before ++ (rule true why ∷ after)) ≡ true → reply (before ++ (rule true why ∷ after)) ≤ number why
+  smallest-in : (before : List Rule) → ascending (before ++ (rule true why ∷ after)) ≡ true → turn (reply (before ++ (rule true why ∷ after))) ≤ turn (number why)
   unfolding reply verdictNumber
   smallest-in [] up = rw (verdict-applies (rule true why) after refl) (omega arith)
   smallest-in (r ∷ rs) up = go (r .applies) refl (smallest-in rs (ascending-parts r (rs ++ (rule true why ∷ after)) up .1))
     where
-      go : (a : Bool) → r .applies ≡ a → reply (rs ++ (rule true why ∷ after)) ≤ number why
-          → reply ((r ∷ rs) ++ (rule true why ∷ after)) ≤ number why
+      go : (a : Bool) → r .applies ≡ a → turn (reply (rs ++ (rule true why ∷ after))) ≤ turn (number why)
+          → turn (reply ((r ∷ rs) ++ (rule true why ∷ after))) ≤ turn (number why)
       go true h more = let p = ascending-parts r (rs ++ (rule true why ∷ after)) up in
           rw (verdict-applies r (rs ++ (rule true why ∷ after)) h) (least (number (r .why)) rs (p .0) (p .1))
       go false h more = rw (verdict-kept r (rs ++ (rule true why ∷ after)) h) more
 
--- Where the numbers never fall, the reply is at most the number of every rule that applies.
+-- Where the turns never fall, the reply has the first turn of all rules that apply.
 pub smallest : (rules : List Rule) → ascending rules ≡ true → (before after : List Rule) (why : Refusal)
-    → rules ≡ before ++ (rule true why ∷ after) → reply rules ≤ number why
+    → rules ≡ before ++ (rule true why ∷ after) → turn (reply rules) ≤ turn (number why)
 smallest rules up before after why e = rw e (smallest-in after why before (rw e at up))
 
 -- The same after one rule that is looked at first and does not apply.
 pub smallest-after : (first : Rule) (rules : List Rule) → ascending rules ≡ true → first .applies ≡ false
-    → (before after : List Rule) (why : Refusal) → rules ≡ before ++ (rule true why ∷ after) → reply (first ∷ rules) ≤ number why
+    → (before after : List Rule) (why : Refusal) → rules ≡ before ++ (rule true why ∷ after) → turn (reply (first ∷ rules)) ≤ turn (number why)
 unfolding reply
 smallest-after first rules up kept before after why e = rw (verdict-kept first rules kept) (smallest rules up before after why e)

@@ -1,4 +1,5 @@
--- When a reply is given (document 01, "Replies": "Each is given exactly then; where several apply the smallest number wins").
+-- When a reply is given (document 01, "Replies": "Each is given exactly then; where several apply the smallest number wins"; document 02, E7:
+-- 11 "is looked at after 3 and before 4").
 -- The rules of a call stand in the order in which they are looked at.
 --
 -- Follows rules n b       n is the reply that the rules give, and b the block beside it
@@ -6,12 +7,13 @@
 -- First rules why         a rule with the refusal `why` applies, and none before it does
 -- Given rules n b         reply n with block b: the number and the block of the first refusal that applies
 -- Exactly rules n b       a call that answers n with block b answers 0 exactly if no rule applies, and a refusal exactly if it is the first
--- ascending rules         the numbers of the list never fall
+-- turn n                  the place of reply n in the order in which rules are looked at
+-- ascending rules         the turns of the list never fall
 use mathlib.Core.Path.{_≡_}
 use mathlib.Core.Bool.{Bool, true, false, cond}
 use mathlib.Core.List.{List, [], _∷_, _++_}
-use Prim.Native.Nat.{ℕ, _<_}
-use lib.Dec.{leb}
+use Prim.Native.Nat.{ℕ, _*_, _<_}
+use lib.Dec.{eqb, leb}
 use Rattle.replies.specs.declared.Refusal.{Refusal}
 use Rattle.replies.specs.Replies.{number, block, Rule, rule, reply, replyBlock}
 
@@ -41,10 +43,14 @@ pub record Exactly (rules : List Rule) (n b : ℕ) : Type 0 where
   pub when : (why : Refusal) → First rules why → (n ≡ number why) × (b ≡ block why)
   pub only : 0 < n → Given rules n b
 
--- A rule whose number is at most that of the next.
+-- By its number, but that 11 is looked at after 3 and before 4 (document 02, E7).
+unfoldable pub turn : ℕ → ℕ
+turn n = cond (eqb n 11) 7 (2 * n)
+
+-- A rule whose turn is at most that of the next.
 unfoldable pub atMost : ℕ → List Rule → Bool
 atMost n [] = true
-atMost n (r ∷ rs) = leb n (number (r .why))
+atMost n (r ∷ rs) = leb (turn n) (turn (number (r .why)))
 
 unfoldable pub ascending : List Rule → Bool
 ascending [] = true

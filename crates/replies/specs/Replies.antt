@@ -29,6 +29,7 @@ number refusal.OutOfRange = 7
 number refusal.RemainderTooWide = 8
 number (refusal.Uncorrectable b) = 9
 number refusal.ClaimWrong = 10
+number refusal.MarkOutside = 11
 
 unfoldable pub block : Refusal → ℕ
 block refusal.LevelTooHigh = 0
@@ -41,6 +42,7 @@ block refusal.OutOfRange = 0
 block refusal.RemainderTooWide = 0
 block (refusal.Uncorrectable b) = b
 block refusal.ClaimWrong = 0
+block refusal.MarkOutside = 0
 
 unfoldable pub verdictNumber : Verdict → ℕ
 verdictNumber Passed = 0

@@ -30,6 +30,8 @@ pub enum Refusal {
     Uncorrectable(u16),
     // 10: the claimed locations are wrong.
     ClaimWrong,
+    // 11: a mark that does not lie in the page, or zero bits of a layout record that are not zero.
+    MarkOutside,
 }
 
 // What looking at the rules of a call finds: all are kept, or the first that is broken.
@@ -53,6 +55,7 @@ pub fn refusal_number(refusal: Refusal) -> u8
         Refusal::RemainderTooWide => 8,
         Refusal::Uncorrectable(_) => 9,
         Refusal::ClaimWrong => 10,
+        Refusal::MarkOutside => 11,
     }
 }
 
@@ -71,5 +74,6 @@ pub fn refusal_block(refusal: Refusal) -> u16
         Refusal::RemainderTooWide => 0,
         Refusal::Uncorrectable(at) => at,
         Refusal::ClaimWrong => 0,
+        Refusal::MarkOutside => 0,
     }
 }

@@ -12,7 +12,9 @@ use lib.Bits.{bitXor, xor-lt}
 use lib.Dec.{eqb, leb}
 use borrow.Author.Tests.{leb-true, eqb-true}
 use Rattle.bits.specs.Bits.{bitAt, bitOf, run, Bytes}
-use Rattle.bits.proofs.Pages.{bitOf-digit, bytes-ext}
+use Rattle.bits.proofs.Pages.{bitAt-lt, bitOf-digit, bytes-ext}
+use Rattle.mark.specs.declared.Mark.{Mark}
+use Rattle.mark.specs.Mark.{place, streamBit}
 use Rattle.layout.specs.declared.Plan.{Plan}
 use Rattle.layout.specs.Plan.{level}
 use Rattle.algebra.specs.Word.{flip, differ}
@@ -24,12 +26,17 @@ use Rattle.roundtrip.specs.Mask.{named, fewBelow, allowed, overlaid}
 
 -- counting
 
-pub ones-none : (l : List ℕ) (s : ℕ) → 0 ≡ ones (run (bitOf l) s 0)
-unfolding ones run
-ones-none l s = refl
+pub bit-low : (l : List ℕ) (p : ℕ) {b : ℕ} → b ≡ bitAt l p → b < 2
+bit-low l p e = rw e (bitAt-lt l p)
 
-pub ones-next : (l : List ℕ) (s i : ℕ) {k : ℕ} → k ≡ ones (run (bitOf l) s i) → k + bitAt l (s + i) ≡ ones (run (bitOf l) s (i + 1))
-ones-next l s i e = rw (add-one i, run-last (bitOf l) s i, ones-last, bitOf-digit l (s + i), e)
+pub ones-none : (k : Mark) (l : List ℕ) (s : ℕ) → 0 ≡ ones (run (streamBit k l) s 0)
+unfolding ones run
+ones-none k l s = refl
+
+pub ones-next : (k : Mark) (l : List ℕ) (s i : ℕ) {n p : ℕ} → n ≡ ones (run (streamBit k l) s i) → p ≡ place k (s + i)
+    → n + bitAt l p ≡ ones (run (streamBit k l) s (i + 1))
+unfolding streamBit
+ones-next k l s i e f = rw (add-one i, run-last (streamBit k l) s i, ones-last, bitOf-digit l (place k (s + i)), e, f)
 
 -- limits of blocks
 

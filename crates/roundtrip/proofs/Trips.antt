@@ -120,9 +120,9 @@ overlaid-bit : (mask page : List ℕ) {n : ℕ} → length page ≡ n → (p : �
 unfolding overlaid
 overlaid-bit mask page e p l = bytes-bit _ (length page) p (omega arith)
 
-pageOf-length : (q : Plan) (d : List ℕ) → length (pageOf q d) ≡ q .size
+pageOf-length : (q : Plan) (lent d : List ℕ) → length (pageOf q lent d) ≡ q .size
 unfolding pageOf
-pageOf-length q d = bytes-length _ (q .size)
+pageOf-length q lent d = bytes-length _ (q .size)
 
 module _ (rec : List ℕ) (q : Plan) (h : Accepts rec q) (m d mask page m' d' c' : List ℕ) where
   -- a page that was not written
@@ -132,9 +132,9 @@ module _ (rec : List ℕ) (q : Plan) (h : Accepts rec q) (m d mask page m' d' c'
   trip-unwritten {r} {after} e n = go (eqb (writeReply q (length m) (length d) (length page)) 0) (e ∙ write-accepted rec q h m d page)
     where
       go : (b : Bool)
-          → writeEnded r 0 after ≡ cond b (writeEnded 0 0 (pageOf q (m ++ d))) (writeEnded (writeReply q (length m) (length d) (length page)) 0 page)
+          → writeEnded r 0 after ≡ cond b (writeEnded 0 0 (pageOf q page (m ++ d))) (writeEnded (writeReply q (length m) (length d) (length page)) 0 page)
           → roundEnded (Refused r) after m' d' c'
-          ≡ cond b (cond (allowed q mask) (roundRead q m d mask m' d' c') (roundEnded Mask (pageOf q (m ++ d)) m' d' c'))
+          ≡ cond b (cond (allowed q mask) (roundRead q m d mask page m' d' c') (roundEnded Mask (pageOf q page (m ++ d)) m' d' c'))
           (roundEnded (Refused (writeReply q (length m) (length d) (length page))) page m' d' c')
       go true e = absurd (n (ap (λ (w : Written). w .reply) e))
       go false e = rw (ap (λ (w : Written). w .reply) e, ap (λ (w : Written). w .page) e)
@@ -142,7 +142,7 @@ module _ (rec : List ℕ) (q : Plan) (h : Accepts rec q) (m d mask page m' d' c'
   -- what a page that was written has
   pub record Start (after : List ℕ) : Type 0 where
     pub reply : writeReply q (length m) (length d) (length page) ≡ 0
-    pub stands : after ≡ pageOf q (m ++ d)
+    pub stands : after ≡ pageOf q page (m ++ d)
 
   pub trip-written : {r : ℕ} {after : List ℕ} → writeEnded r 0 after ≡ writeOf rec m d page → r ≡ 0 → Start after
   unfolding writeIn
@@ -150,7 +150,7 @@ module _ (rec : List ℕ) (q : Plan) (h : Accepts rec q) (m d mask page m' d' c'
       go (eqb (writeReply q (length m) (length d) (length page)) 0) refl (e ∙ write-accepted rec q h m d page)
     where
       go : (b : Bool) → eqb (writeReply q (length m) (length d) (length page)) 0 ≡ b
-          → writeEnded r 0 after ≡ cond b (writeEnded 0 0 (pageOf q (m ++ d))) (writeEnded (writeReply q (length m) (length d) (length page)) 0 page)
+          → writeEnded r 0 after ≡ cond b (writeEnded 0 0 (pageOf q page (m ++ d))) (writeEnded (writeReply q (length m) (length d) (length page)) 0 page)
           → Start after
       go true x e = record { reply = eqb-true _ _ x; stands = ap (λ (w : Written). w .page) e }
       go false x e = never-zero _ x (sym (ap (λ (w : Written). w .reply) e) ∙ z)
@@ -162,12 +162,12 @@ module _ (rec : List ℕ) (q : Plan) (h : Accepts rec q) (m d mask page m' d' c'
 
   -- an allowed mask has the length of the written page
   pub trip-sizes : {after : List ℕ} → Start after → true ≡ allowed q mask → length mask ≡ length after
-  trip-sizes s n = rw (s .stands) (allowed-each q mask (sym n) .size ∙ sym (pageOf-length q (m ++ d)))
+  trip-sizes s n = rw (s .stands) (allowed-each q mask (sym n) .size ∙ sym (pageOf-length q page (m ++ d)))
 
   -- the page after an allowed mask reads back
   module _ (small : (i : ℕ) → getD m i 0 < 256) (small' : (i : ℕ) → getD d i 0 < 256) where
     abbrev damagedPage : List ℕ
-    damagedPage = overlaid mask (pageOf q (m ++ d))
+    damagedPage = overlaid mask (pageOf q page (m ++ d))
 
     trip-damaged : Allowed q mask → Fitting q m d page → WrittenAndDamaged rec q m d damagedPage (maskSets q mask)
     trip-damaged a f = record {
@@ -175,17 +175,17 @@ module _ (rec : List ℕ) (q : Plan) (h : Accepts rec q) (m d mask page m' d' c'
       lent = page;
       size = f .size;
       damaged = rw (write-done rec q h m d page payload (f .size))
-          (mask-damaged q (accepts-valid rec q h) (pageOf q (m ++ d)) damagedPage mask bytes-damaged bit-damaged (λ b l. unfold named in a .few b l));
+          (mask-damaged q (accepts-valid rec q h) (pageOf q page (m ++ d)) damagedPage mask bytes-damaged bit-damaged (λ b l. unfold named in a .few b l));
     }
       where
         payload : Payload q m d
         payload = record { metadata = record { count = f .metadata; small = small }; «data» = record { count = f .«data»; small = small' } }
 
         bytes-damaged : Bytes (q .size) damagedPage
-        bytes-damaged = overlaid-bytes mask (pageOf q (m ++ d)) (pageOf-length q (m ++ d))
+        bytes-damaged = overlaid-bytes mask (pageOf q page (m ++ d)) (pageOf-length q page (m ++ d))
 
-        bit-damaged : (p : ℕ) → p < 8 * q .size → bitOf damagedPage p ≡ turn (bitOf mask p) (bitOf (pageOf q (m ++ d)) p)
-        bit-damaged = overlaid-bit mask (pageOf q (m ++ d)) (pageOf-length q (m ++ d))
+        bit-damaged : (p : ℕ) → p < 8 * q .size → bitOf damagedPage p ≡ turn (bitOf mask p) (bitOf (pageOf q page (m ++ d)) p)
+        bit-damaged = overlaid-bit mask (pageOf q page (m ++ d)) (pageOf-length q page (m ++ d))
 
     abbrev flipped : List ℕ
     flipped = run (named q mask) 0 (q .blocks)
@@ -225,7 +225,7 @@ module _ (rec : List ℕ) (q : Plan) (h : Accepts rec q) (m d mask page m' d' c'
     abbrev ended : Back → Round
     ended b = roundEnded (cond (eqb (b .reply) 0) Done (Refused (b .reply))) damagedPage (b .metadata) (b .«data») (b .counts)
 
-    trip-read : Allowed q mask → Fitting q m d page → ended (backOf rec damagedPage m' d' c') ≡ roundRead q m d mask m' d' c'
+    trip-read : Allowed q mask → Fitting q m d page → ended (backOf rec damagedPage m' d' c') ≡ roundRead q m d mask page m' d' c'
     unfolding backOf backBy roundRead roundTaken
     trip-read a f = rw (trip-looked a f, trip-taken a f) (go (eqb looking 0) refl (eqb taking 0) refl)
       where

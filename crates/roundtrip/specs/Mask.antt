@@ -3,7 +3,7 @@
 -- named q mask b           how many covered bits of block b a mask names
 -- fewBelow q mask n        the mask names at most t bits of each of the first n blocks, t the block's own level
 -- allowed q mask           the mask has the length of a page, and names at most t covered bits of each block
--- overlaid mask page       the page with the named bits flipped, those of the tail included
+-- overlaid mask page       the page with the named bits flipped, those of the tail and of the factory's mark included
 use mathlib.Core.Bool.{Bool, true, false, cond}
 use mathlib.Core.List.{List}
 use Prim.Native.Nat.{ℕ, zero, suc}

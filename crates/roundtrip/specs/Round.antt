@@ -54,25 +54,25 @@ backBy look take metadata «data» =
 unfoldable pub backOf : (rec page metadata body counts : List ℕ) → Back
 backOf rec page metadata body counts = backBy (lookOf rec page counts) (takeOf rec page metadata body) metadata body
 
--- m and d are written; m', d' and c' are lent to look and take into. With outputs of another length nothing is taken.
-unfoldable pub roundTaken : Plan → (m d mask m' d' : List ℕ) → Round
-roundTaken q m d mask m' d' =
+-- m and d are written over the page that is lent; m', d' and c' are lent to look and take into. With outputs of another length nothing is taken.
+unfoldable pub roundTaken : Plan → (m d mask page m' d' : List ℕ) → Round
+roundTaken q m d mask page m' d' =
     cond (eqb (takeReply q (q .size) (length m') (length d')) 0)
-    (roundEnded Done (overlaid mask (pageOf q (m ++ d))) m d (run (named q mask) 0 (q .blocks)))
-    (roundEnded (Refused (takeReply q (q .size) (length m') (length d'))) (overlaid mask (pageOf q (m ++ d))) m' d' (run (named q mask) 0 (q .blocks)))
+    (roundEnded Done (overlaid mask (pageOf q page (m ++ d))) m d (run (named q mask) 0 (q .blocks)))
+    (roundEnded (Refused (takeReply q (q .size) (length m') (length d'))) (overlaid mask (pageOf q page (m ++ d))) m' d' (run (named q mask) 0 (q .blocks)))
 
 -- With counts of another length nothing is looked at or taken. The page is left damaged in each case.
-unfoldable pub roundRead : Plan → (m d mask m' d' c' : List ℕ) → Round
-roundRead q m d mask m' d' c' =
+unfoldable pub roundRead : Plan → (m d mask page m' d' c' : List ℕ) → Round
+roundRead q m d mask page m' d' c' =
     cond (eqb (lookReply q (q .size) (length c')) 0)
-    (roundTaken q m d mask m' d')
-    (roundEnded (Refused (lookReply q (q .size) (length c'))) (overlaid mask (pageOf q (m ++ d))) m' d' c')
+    (roundTaken q m d mask page m' d')
+    (roundEnded (Refused (lookReply q (q .size) (length c'))) (overlaid mask (pageOf q page (m ++ d))) m' d' c')
 
 -- A page that is not written stays as it was lent. Under a mask that is not allowed the page is left as it was written.
 unfoldable pub roundIn : Plan → (m d mask page m' d' c' : List ℕ) → Round
 roundIn q m d mask page m' d' c' =
     cond (eqb (writeReply q (length m) (length d) (length page)) 0)
-    (cond (allowed q mask) (roundRead q m d mask m' d' c') (roundEnded Mask (pageOf q (m ++ d)) m' d' c'))
+    (cond (allowed q mask) (roundRead q m d mask page m' d' c') (roundEnded Mask (pageOf q page (m ++ d)) m' d' c'))
     (roundEnded (Refused (writeReply q (length m) (length d) (length page))) page m' d' c')
 
 unfoldable pub roundFor : Acceptance → (m d mask page m' d' c' : List ℕ) → Round

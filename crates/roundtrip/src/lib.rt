@@ -8,7 +8,7 @@
 // 1. round.rt has the page written.
 // 2. mask.rt counts the covered bits that the mask names in each block. More than t in one, or a mask of another length than the
 //    page, ends the call.
-// 3. mask.rt flips every bit that the mask names, those of the tail included.
+// 3. mask.rt flips every bit that the mask names, those of the tail and of the factory's mark included.
 // 4. round.rt has the page looked at, and then taken.
 mod mask;
 mod round;

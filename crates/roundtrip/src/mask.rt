@@ -4,24 +4,28 @@ use layout::Plan;
 use layout::block_covered;
 use layout::block_shape;
 use layout::block_start;
+use mark::Mark;
+use mark::place;
 ghost use mathlib.Core.Path.{_≡_};
-ghost use Prim.Native.Nat.{_+_, _<_};
+ghost use Prim.Native.Nat.{_+_, _*_, _<_};
 ghost use lib.ListN.{length};
 ghost use lib.Dec.{leb};
-ghost use Rattle.bits.specs.Bits.{bitOf, run};
+ghost use Rattle.bits.specs.Bits.{run};
+ghost use Rattle.mark.specs.Mark.{streamBit};
 ghost use Rattle.layout.specs.Plan.{level};
 ghost use Rattle.code.specs.Word.{ones};
 ghost use Rattle.roundtrip.specs.Mask.{overlaid, named, fewBelow, allowed};
 
-// The number of ones of n bits from a position on.
-fn ones_at(mask: &[u8], position: usize, n: usize) -> usize
-    requires { ⌜ position + n < 18446744073709551616 ⌝ }
-    ensures { λ r. ⌜ r ≡ ones (run (bitOf (now (mask .entry))) position n) ⌝ }
+// The number of ones of n bits of the stream from a position on.
+fn ones_at(mark: Mark, mask: &[u8], position: usize, n: usize) -> usize
+    requires { ⌜ position + n + 8 * mark .length < 18446744073709551616 ⌝ }
+    ensures { λ r. ⌜ r ≡ ones (run (streamBit mark (now (mask .entry))) position n) ⌝ }
 {
     let mut count = 0;
     let mut i = 0;
     while i < n {
-        let bit = bit_at(mask, position + i);
+        let at = place(mark, position + i);
+        let bit = bit_at(mask, at);
         count += bit as usize;
         i += 1;
     }
@@ -35,7 +39,7 @@ fn block_allowed(plan: Plan, mask: &[u8], block: u16) -> bool
     let position = block_start(plan, block);
     let n = block_covered(plan, block);
     let shape = block_shape(plan, block);
-    let count = ones_at(mask, position, n);
+    let count = ones_at(plan.mark, mask, position, n);
     count <= shape.level as usize
 }
 

@@ -43,6 +43,7 @@ pub bit-says : (a : BitAnswer) → Says (bitNumbers a) (bitWord a)
 unfolding bitNumbers bitWord
 bit-says (bit.InBlock b e) = done-says _ _ (omega arith)
 bit-says bit.Tail = done-says _ _ (omega arith)
+bit-says bit.Mark = done-says _ _ (omega arith)
 bit-says (bit.Refused r) = refused-says r
 
 pub position-says : (a : PositionAnswer) → Says (positionNumbers a) (positionWord a)
@@ -50,7 +51,7 @@ unfolding positionNumbers positionWord
 position-says (position.Position p) = done-says _ _ (omega arith)
 position-says (position.Refused r) = refused-says r
 
--- Kind and value of a covered bit, of a tail bit and of a position.
+-- Kind and value of a covered bit, of a bit of the tail and of the mark, and of a position.
 
 pub bit-kind : (b e : ℕ) → kindIn (bitWord (bit.InBlock b e)) ≡ 0
 unfolding bitWord
@@ -71,6 +72,14 @@ tail-kind = done-kind _ (omega arith)
 pub tail-value : valueIn (bitWord bit.Tail) ≡ 0
 unfolding bitWord
 tail-value = done-value _ (omega arith)
+
+pub mark-kind : kindIn (bitWord bit.Mark) ≡ 2
+unfolding bitWord
+mark-kind = done-kind _ (omega arith)
+
+pub mark-value : valueIn (bitWord bit.Mark) ≡ 0
+unfolding bitWord
+mark-value = done-value _ (omega arith)
 
 pub position-value : (p : ℕ) → valueIn (positionWord (position.Position p)) ≡ p
 unfolding positionWord

@@ -51,7 +51,7 @@ pub extern "C" fn rudderfig_check_layout(words: &[u8]) -> u64
     }
 }
 
-// Where does the page bit at `position` belong? Kind 0: block times 2^16 plus exponent. Kind 1: in the tail.
+// Where does the page bit at `position` belong? Kind 0: block times 2^16 plus exponent. Kind 1: in the tail. Kind 2: in the mark.
 #[no_mangle]
 pub extern "C" fn rudderfig_locate_bit(words: &[u8], position: u64) -> u64
     ensures { λ r. ⌜ r ≡ bitWord (bitAnswer (now (words .entry)) position) ⌝ }
@@ -59,6 +59,7 @@ pub extern "C" fn rudderfig_locate_bit(words: &[u8], position: u64) -> u64
     match page_bits::locate_bit(words, position) {
         BitAnswer::InBlock { block, exponent } => done(0, 0x10000 * block as u32 + exponent as u32),
         BitAnswer::Tail => done(1, 0),
+        BitAnswer::Mark => done(2, 0),
         BitAnswer::Refused(refusal) => refused(layout::refusal_reply(refusal), 0),
     }
 }

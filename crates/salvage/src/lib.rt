@@ -8,10 +8,16 @@
 // in place of every ruined block, and then the messages of these are put. That the counts of the other blocks are as they were is looked
 // at once more.
 use bit_writing::copy::copy_bits;
-use bit_writing::fill::fill_ones;
 use layout::Plan;
+use mark::Mark;
 use page_lines::Answer;
 use page_lines::RUINED;
+use page_runs::read::copy_out;
+use page_runs::write::fill_ones;
+ghost use mathlib.Core.Bool.{true};
+ghost use mathlib.Core.Path.{_≡_};
+ghost use Prim.Native.Nat.{_<_};
+ghost use Rattle.mark.specs.Mark.{InStream};
 
 // The message of a block, as bits of the payload.
 pub struct Place {
@@ -37,20 +43,37 @@ pub fn place_of(plan: Plan, b: u16) -> Place {
     }
 }
 
+// Whether n bits of the stream from a position on, and the mark, lie in a page.
+fn lies_in(mark: Mark, page: &[u8], start: usize, n: usize) -> bool
+    requires { ⌜ (start < 1125899906842624) × (n < 4294967296) ⌝ }
+    ensures { λ r. ⌜ (r ≡ true → InStream mark (now (page .entry)) start n) ⌝ }
+{
+    let offset = mark.offset as usize;
+    let length = mark.length as usize;
+    let size = page.len();
+    if 65536 < size {
+        return false;
+    }
+    if size < offset + length {
+        return false;
+    }
+    if 8 * size < start + n + 8 * length {
+        return false;
+    }
+    true
+}
+
 // Writes ones over block b where it is ruined.
 fn cover(plan: Plan, page: &mut [u8], counts: &[u8; 256], b: u16) {
     if !is_ruined(plan, counts, b) {
         return;
     }
+    let mark = plan.mark;
     let start = layout::block_start(plan, b);
     let n = layout::block_covered(plan, b);
-    if 65536 < page.len() {
-        return;
+    if lies_in(mark, page, start, n) {
+        fill_ones(mark, page, start, n);
     }
-    if 8 * page.len() < start + n {
-        return;
-    }
-    fill_ones(page, start, n);
 }
 
 // Writes ones over every ruined block.
@@ -98,13 +121,10 @@ fn put(plan: Plan, raw: bool, page: &[u8], metadata: &mut [u8], data: &mut [u8],
         payload::fill(metadata, data, at, n);
         return;
     }
-    if 65536 < page.len() {
-        return;
+    let mark = plan.mark;
+    if lies_in(mark, page, start, n) {
+        copy_out(mark, page, start, metadata, data, at, n);
     }
-    if 8 * page.len() < start + n {
-        return;
-    }
-    payload::copy_to(page, start, metadata, data, at, n);
 }
 
 // Puts the message of block b where it is ruined.

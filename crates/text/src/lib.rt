@@ -3,7 +3,7 @@
 //   parse_number      a number in decimal, or in hexadecimal after 0x
 //   parse_bytes       bytes in hexadecimal, two digits each
 //   hex_byte          a byte in hexadecimal
-//   layout_record     the layout record of two words
+//   layout_record     the layout record of three words
 //   plus, times, larger   of two numbers
 //   natural           a number that is not below 0
 //   without_prefix    the digits after 0x

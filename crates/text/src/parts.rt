@@ -3,9 +3,9 @@ ghost use mathlib.Core.Path.{_≡_};
 ghost use lib.ListN.{take};
 ghost use Rattle.text.specs.Parts.{recordOf, plusOf, largerOf};
 
-// The layout record of two words of 32 bits, word 0 first, most significant byte first.
-pub fn layout_record(first: u32, second: u32) -> [u8; 8]
-    ensures { λ r. ⌜ r ≡ recordOf first second ⌝ }
+// The layout record of three words of 32 bits, word 0 first, most significant byte first.
+pub fn layout_record(first: u32, second: u32, third: u32) -> [u8; 12]
+    ensures { λ r. ⌜ r ≡ recordOf first second third ⌝ }
 {
     [
         (first / 16777216) as u8,
@@ -16,6 +16,10 @@ pub fn layout_record(first: u32, second: u32) -> [u8; 8]
         (second / 65536 % 256) as u8,
         (second / 256 % 256) as u8,
         (second % 256) as u8,
+        (third / 16777216) as u8,
+        (third / 65536 % 256) as u8,
+        (third / 256 % 256) as u8,
+        (third % 256) as u8,
     ]
 }
 

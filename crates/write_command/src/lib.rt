@@ -1,16 +1,19 @@
 // The command write of the tool: a page, or an image of many, from files that hold the metadata and the data of all pages, one after
 // the other.
+use arguments::Options;
 use layout::Plan;
+use libc::ENOENT;
 use page_write::WriteAnswer;
 use plans::Planned;
 use replies::refusal_number;
 use streams::Filled;
 
-// The descriptors of metadata, data and page. One below 0 is an empty file.
+// The descriptors of metadata, data, the page that is written and the file that stands in its place. One below 0 is an empty file.
 struct Run {
     metadata: i32,
     data: i32,
     page: i32,
+    before: i32,
 }
 
 // What an image came to so far: its pages, whether to go on, whether all is right, and the file that failed, of which errno says why.
@@ -96,6 +99,26 @@ fn put(run: Run, image: Image, page: &[u8]) -> Image {
     stopped(image, Failed::Page)
 }
 
+fn erase(page: &mut [u8]) {
+    let ones = [255u8; 65536];
+    text::put_all(page, 0, text::front(&ones, page.len()));
+}
+
+// Puts to the buffer what the next page is written over, since it keeps the mark of that: the page that stands in its place or, where none
+// does, ones, as erased flash has. Says whether that is done.
+fn lay(plan: Plan, run: Run, page: &mut [u8]) -> bool {
+    if plan.mark.length == 0 {
+        return true;
+    }
+    let Filled::Bytes(n) = fill(run.before, page) else {
+        return false;
+    };
+    if n < page.len() {
+        erase(page);
+    }
+    true
+}
+
 fn write_from(
     out: &mut [u8; 32768],
     record: &[u8],
@@ -106,6 +129,9 @@ fn write_from(
     data: &[u8],
     page: &mut [u8],
 ) -> Image {
+    if !lay(plan, run, page) {
+        return stopped(image, Failed::Page);
+    }
     match page_write::write_page(record, metadata, data, page) {
         WriteAnswer::Done => put(run, image, page),
         WriteAnswer::Refused(refusal) => refused(
@@ -152,6 +178,34 @@ fn is_end(image: Image, m: usize, d: usize) -> bool {
     false
 }
 
+// The next page, of which m bytes of metadata and d of data were read, or the end.
+fn write_read(
+    out: &mut [u8; 32768],
+    record: &[u8],
+    plan: Plan,
+    run: Run,
+    image: Image,
+    metadata: &[u8],
+    m: usize,
+    data: &[u8],
+    d: usize,
+    page: &mut [u8],
+) -> Image {
+    if is_end(image, m, d) {
+        return last(out, plan, run, image);
+    }
+    write_from(
+        out,
+        record,
+        plan,
+        run,
+        image,
+        text::front(metadata, m),
+        text::front(data, d),
+        page,
+    )
+}
+
 // The next page, from buffers that are as long as the metadata and the data of a page.
 fn one(
     out: &mut [u8; 32768],
@@ -169,19 +223,7 @@ fn one(
     let Filled::Bytes(d) = fill(run.data, data) else {
         return stopped(image, Failed::Data);
     };
-    if is_end(image, m, d) {
-        return last(out, plan, run, image);
-    }
-    write_from(
-        out,
-        record,
-        plan,
-        run,
-        image,
-        text::front(metadata, m),
-        text::front(data, d),
-        page,
-    )
+    write_read(out, record, plan, run, image, metadata, m, data, d, page)
 }
 
 // Writes page after page, as far as the files go.
@@ -275,6 +317,28 @@ fn input(out: &mut [u8; 32768], path: &[u8]) -> i32 {
     fd
 }
 
+// The file that stands in the place of a page with a mark: -1 where there is none, and -2 where an error was printed.
+fn standing(out: &mut [u8; 32768], plan: Plan, path: &[u8]) -> i32 {
+    if plan.mark.length == 0 {
+        return -1;
+    }
+    if files::is_dash(path) {
+        return -1;
+    }
+    if files::is_direct(path) {
+        return -1;
+    }
+    let fd = os::open_read(path);
+    if fd >= 0 {
+        return fd;
+    }
+    if os::errno() == ENOENT {
+        return -1;
+    }
+    say::bad_output(out, path);
+    -2
+}
+
 fn write_run(
     out: &mut [u8; 32768],
     record: &[u8],
@@ -292,6 +356,7 @@ fn write_run(
     complain(out, failed, metadata, data, page);
     files::close_input(run.metadata);
     files::close_input(run.data);
+    files::close_input(run.before);
     finish(out, plan, run, image, page);
 }
 
@@ -311,6 +376,10 @@ fn write_paths(
     if d < -1 {
         return;
     }
+    let b = standing(out, plan, page);
+    if b < -1 {
+        return;
+    }
     let p = files::begin(out, page, arguments::run_number());
     if p < 0 {
         return;
@@ -319,51 +388,46 @@ fn write_paths(
         metadata: m,
         data: d,
         page: p,
+        before: b,
     };
     write_run(out, record, plan, run, metadata, data, page);
 }
 
-fn write_under(out: &mut [u8; 32768], at: usize, record: &[u8], plan: Plan) {
+fn write_under(out: &mut [u8; 32768], options: Options, record: &[u8], plan: Plan) {
     let mut metadata = io::buffer();
-    let m = os::arg(arguments::place(at, 2), &mut metadata);
+    let m = os::arg(arguments::place(options.at, 2), &mut metadata);
     if !arguments::whole(out, b"METADATA") {
         return;
     }
     let mut data = io::buffer();
-    let d = os::arg(arguments::place(at, 3), &mut data);
+    let d = os::arg(arguments::place(options.at, 3), &mut data);
     if !arguments::whole(out, b"DATA") {
         return;
     }
     let mut page = io::buffer();
-    let p = os::arg(arguments::place(at, 4), &mut page);
+    let p = os::arg(arguments::place(options.at, 4), &mut page);
     if !arguments::whole(out, b"PAGE") {
         return;
     }
     write_paths(out, record, plan, &metadata[..m], &data[..d], &page[..p]);
 }
 
-// nandpage write WORD0 WORD1 METADATA DATA PAGE
+// nandpage write [--mark WORD2] WORD0 WORD1 METADATA DATA PAGE
 pub fn write(out: &mut [u8; 32768]) {
-    let options = arguments::find_options(out, 0);
+    let options = arguments::find_options(out, arguments::MARK);
     if !options.good {
         return;
     }
-    let at = options.at;
     if !arguments::are(
         out,
-        at,
+        options.at,
         5,
-        b"usage: nandpage write WORD0 WORD1 METADATA DATA PAGE",
+        b"usage: nandpage write [--mark WORD2] WORD0 WORD1 METADATA DATA PAGE",
     ) {
         return;
     }
-    let Planned::Under {
-        first,
-        second,
-        plan,
-    } = plans::plan_of_words(out, at)
-    else {
+    let Planned::Under { words, plan } = plans::plan_of_words(out, options) else {
         return;
     };
-    write_under(out, at, &text::layout_record(first, second), plan);
+    write_under(out, options, &arguments::record_of(words), plan);
 }

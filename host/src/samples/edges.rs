@@ -1,5 +1,5 @@
-//! The edges of the rules for erased and for ruined blocks (document 02, E1 and E6), and how often a
-//! call meets them.
+//! The edges of the rules for erased and for ruined blocks and for marks (document 02, E1, E6 and E7), and how
+//! often a call meets them.
 
 use crate::call::Call;
 use crate::layout::{Layout, check_layout};
@@ -7,8 +7,8 @@ use crate::outcome::{Outcome, outcome, zeros};
 use crate::page::block_word;
 
 /// The edges: of a block, where t is above 0 if it is not said to be 0; of a page; of the lengths beside
-/// a page.
-pub const EDGES: [&str; 23] = [
+/// a page; of the mark.
+pub const EDGES: [&str; 33] = [
     "erased with no zero",
     "erased with t zeros",
     "ruined with t + 1 zeros",
@@ -32,10 +32,23 @@ pub const EDGES: [&str; 23] = [
     "block with t = 0 behind a ruined one",
     "ruined block beside counts of a wrong length",
     "ruined block beside metadata or data of a wrong length",
+    "mark of length 0 behind the first byte",
+    "mark of 255 bytes",
+    "mark at the first byte",
+    "mark at the last byte",
+    "mark inside the metadata",
+    "mark inside the data",
+    "mark inside a parity",
+    "mark between two blocks",
+    "mark beside a byte of two blocks",
+    "mark before the tail or inside it",
 ];
 
 const OF_BLOCK: usize = 11;
 const OF_PAGE: usize = 10;
+const OF_LENGTHS: usize = 2;
+/// How many edges a mark has: the last ones.
+pub const OF_MARK: usize = 10;
 
 /// How often a call meets each edge: looking at a page and taking it count for each of its blocks, judging
 /// a block for that block. Where another length is wrong only that edge is met, and any other call and
@@ -62,19 +75,24 @@ pub fn edges(call: &Call) -> [usize; EDGES.len()] {
         met[edge] = found.contains(&Outcome::Ruined) as usize;
         return met;
     }
+    add(
+        &mut met[OF_BLOCK + OF_PAGE + OF_LENGTHS..],
+        mark_edges(&layout),
+    );
     for ((number, word), found) in blocks.zip(&words).zip(&found) {
-        let block = block_edges(&layout, number, word, found);
-        met.iter_mut()
-            .zip(block)
-            .for_each(|(count, edge)| *count += edge as usize);
+        add(&mut met, block_edges(&layout, number, word, found));
     }
     if judged.is_none() {
-        met[OF_BLOCK..]
-            .iter_mut()
-            .zip(page_edges(&layout, &found))
-            .for_each(|(count, edge)| *count = edge as usize);
+        add(&mut met[OF_BLOCK..], page_edges(&layout, &found));
     }
     met
+}
+
+/// Counts the edges that are met.
+pub fn add(met: &mut [usize], edges: impl IntoIterator<Item = bool>) {
+    for (times, edge) in met.iter_mut().zip(edges) {
+        *times += edge as usize;
+    }
 }
 
 /// The layout and the page of a call that decides blocks, and the block if it is one alone.
@@ -161,5 +179,28 @@ fn page_edges(layout: &Layout, found: &[Outcome]) -> [bool; OF_PAGE] {
         before(&ruined, &erased),
         before(&ruined, &worn),
         before(&ruined, &plain),
+    ]
+}
+
+/// The edges that the mark of an accepted layout meets.
+pub fn mark_edges(layout: &Layout) -> [bool; OF_MARK] {
+    let (mark, length) = (layout.mark_places(), layout.mark.length);
+    let is = |place: bool| length > 0 && place;
+    let inside = |from: usize, to: usize| is(from < mark.start && mark.start < to);
+    let metadata_end = 8 * layout.metadata_length;
+    let blocks = || (0..layout.blocks()).map(|number| (layout.start(number), layout.block(number)));
+    let borders = || blocks().skip(1).map(|(start, _)| start);
+    [
+        length == 0 && mark.start > 0,
+        length == 255,
+        is(mark.start == 0),
+        is(mark.end == 8 * layout.page_length),
+        inside(0, metadata_end),
+        blocks().any(|(start, block)| inside(start.max(metadata_end), start + block.message_bits)),
+        blocks()
+            .any(|(start, block)| inside(start + block.message_bits, start + block.covered_bits())),
+        borders().any(|border| is(border == mark.start)),
+        borders().any(|border| is(border % 8 != 0 && border.abs_diff(mark.start) < 8)),
+        is((layout.used_bits()..layout.stream_bits()).contains(&mark.start)),
     ]
 }

@@ -1,6 +1,6 @@
 //! Samples of pages with erased blocks (document 02, E1).
 
-use crate::bits::{bit, flip};
+use crate::bits::put;
 use crate::call::Call;
 use crate::decoder::errors_of_word;
 use crate::layout::{Block, Layout, LayoutWords};
@@ -79,11 +79,9 @@ impl WrittenPage {
 
     /// Makes a block all ones but for zeros at these exponents.
     fn put_zeros(&self, page: &mut [u8], block: usize, exponents: &[usize]) {
-        let (start, end) = (self.layout.start(block), self.layout.start(block + 1));
-        for position in start..end {
-            if bit(page, position) == exponents.contains(&(end - 1 - position)) {
-                flip(page, position);
-            }
+        let lowest_first = self.layout.block_places(block).into_iter().rev();
+        for (exponent, position) in lowest_first.enumerate() {
+            put(page, position, !exponents.contains(&exponent));
         }
     }
 }

@@ -3,9 +3,10 @@
 use crate::field::FieldChoice;
 use crate::layout::{Layout, LayoutWords, check_layout};
 use crate::random::Random;
+use crate::samples::marks;
 
-/// Records of every kind: cases of document 01, both sides of every limit, random ones, and other
-/// lengths than eight.
+/// Records of every kind: cases of document 01, both sides of every limit, random ones, some with a mark, and
+/// other lengths than eight and twelve.
 pub fn records(random: &mut Random) -> Vec<Vec<u8>> {
     let words = [
         document_cases(),
@@ -14,23 +15,21 @@ pub fn records(random: &mut Random) -> Vec<Vec<u8>> {
         many_blocks(),
         wild_later_fields(random),
         edge_fields(random),
-    ];
-    let mut records: Vec<Vec<u8>> = words
-        .concat()
-        .iter()
-        .map(|words| words.pack().to_vec())
-        .collect();
+    ]
+    .concat();
+    let mut records: Vec<Vec<u8>> = words.iter().map(|words| words.pack().to_vec()).collect();
     records.extend((0..100).map(|_| random.bytes(8)));
     let twice = [CASE_A.pack(), CASE_A.pack()].concat();
-    records.extend((0..=12).map(|length| twice[..length].to_vec()));
+    records.extend((0..=16).map(|length| twice[..length].to_vec()));
     records.extend([0, 1, 7, 9, 12].map(|length| random.bytes(length)));
+    records.extend(marks::records(&words, random));
     records
 }
 
 /// Numbers that a library might cut short.
 pub const HUGE: [u64; 4] = [1 << 32, (1 << 32) + 5, 1 << 63, u64::MAX];
 
-/// Positions at the edges of an accepted layout's blocks, tail and page.
+/// Positions at the edges of an accepted layout's blocks, mark, tail and page.
 pub fn positions(layout: &Layout, random: &mut Random) -> Vec<u64> {
     let page_bits = 8 * layout.page_length as u64;
     let mut positions = vec![
@@ -41,8 +40,18 @@ pub fn positions(layout: &Layout, random: &mut Random) -> Vec<u64> {
         random.pick(&HUGE),
     ];
     for block in [1, random.within(1, layout.blocks()), layout.blocks()] {
-        let start = layout.start(block) as u64;
-        positions.extend([start - 1, start]);
+        let around = layout.stream().skip(layout.start(block) - 1).take(2);
+        positions.extend(around.map(|position| position as u64));
+    }
+    if layout.mark.length > 0 {
+        let mark = layout.mark_places();
+        let edges = [
+            mark.start.saturating_sub(1),
+            mark.start,
+            mark.end - 1,
+            mark.end,
+        ];
+        positions.extend(edges.map(|position| position as u64));
     }
     positions.push(random.below(page_bits as usize) as u64);
     positions.push(page_bits + (1 << 32));

@@ -4,6 +4,7 @@ pub mod edges;
 pub mod erased;
 pub mod fragments;
 pub mod layouts;
+pub mod marks;
 pub mod pages;
 pub mod pieces;
 pub mod remainders;

@@ -1,10 +1,11 @@
 //! Samples of calls about pages.
 
-use crate::bits::{bit, flip};
+use crate::bits::{bit, flip, put};
 use crate::call::Call;
-use crate::layout::{Layout, LayoutWords, check_layout};
+use crate::layout::{Layout, LayoutRecord, LayoutWords, check_layout};
 use crate::page::write_page;
 use crate::random::Random;
+use crate::samples::marks::outside;
 
 /// What each byte of a lent output holds before a sampled call.
 pub const BEFORE: u8 = 0xA5;
@@ -19,9 +20,9 @@ pub struct WrittenPage {
 }
 
 impl WrittenPage {
-    /// The page of a random payload under accepted layout words.
-    pub fn new(words: LayoutWords, random: &mut Random) -> WrittenPage {
-        let record = words.pack().to_vec();
+    /// The page of a random payload under an accepted layout.
+    pub fn new(record: impl Into<LayoutRecord>, random: &mut Random) -> WrittenPage {
+        let record = record.into().pack();
         let layout = check_layout(&record).unwrap();
         let metadata = random.bytes(layout.metadata_length);
         let data = random.bytes(layout.data_length());
@@ -84,7 +85,7 @@ impl WrittenPage {
         }
     }
 
-    /// The page with at most t flips in each block, often just t, and with any tail.
+    /// The page with at most t flips in each block, often just t, and with any tail and mark.
     pub fn damaged(&self, random: &mut Random) -> Vec<u8> {
         let mut page = self.page.clone();
         for block in 0..self.layout.blocks() {
@@ -171,10 +172,8 @@ impl WrittenPage {
 
 /// Puts a block back as it was written.
 fn restore(page: &mut [u8], written: &WrittenPage, block: usize) {
-    for position in written.layout.start(block)..written.layout.start(block + 1) {
-        if bit(page, position) != bit(&written.page, position) {
-            flip(page, position);
-        }
+    for position in written.layout.block_places(block) {
+        put(page, position, bit(&written.page, position));
     }
 }
 
@@ -189,14 +188,14 @@ pub fn damage(
     let mut exponents = random.distinct(count, layout.block(block).covered_bits());
     exponents.sort();
     for exponent in &exponents {
-        flip(page, layout.start(block + 1) - 1 - exponent);
+        flip(page, layout.code_place(block, *exponent));
     }
     exponents
 }
 
-/// Turns over tail bits at random.
+/// Turns over bits of the tail and of the mark at random.
 pub fn damage_tail(page: &mut [u8], layout: &Layout, random: &mut Random) {
-    for position in layout.used_bits()..8 * layout.page_length {
+    for position in layout.tail_places().chain(layout.mark_places()) {
         if random.chance(2) {
             flip(page, position);
         }
@@ -260,38 +259,52 @@ fn spoil_length(buffer: &mut Vec<u8>, random: &mut Random) {
     }
 }
 
-/// Another length, or another field: mostly one that gives reply 1, 2, 3 or 4.
+/// Another length, or another field: mostly one that gives reply 1, 2, 3, 4 or 11.
 fn spoil_record(record: &mut Vec<u8>, random: &mut Random) {
-    let Ok(eight) = record.as_slice().try_into() else {
+    let Some(LayoutRecord { words, mark }) = LayoutRecord::unpack(record) else {
         return;
     };
-    let words = LayoutWords::unpack(eight);
-    let spoilt = match random.below(10) {
+    let spoilt = match random.below(12) {
         0 => return record.truncate(random.below(8)),
-        1 => return record.extend(&words.pack()[..random.within(1, 4)]),
-        2 => LayoutWords {
+        1 => return record.resize(random.within(9, 11), 0),
+        2 | 3 => LayoutRecord {
+            words,
+            mark: Some(outside(words.page_size, random)),
+        },
+        field => LayoutRecord {
+            words: spoilt_words(words, field, random),
+            mark,
+        },
+    };
+    *record = spoilt.pack();
+}
+
+/// Layout words with another field.
+fn spoilt_words(words: LayoutWords, field: usize, random: &mut Random) -> LayoutWords {
+    match field {
+        4 => LayoutWords {
             ecc0: 0x15,
             ..words
         },
-        3 => LayoutWords {
+        5 => LayoutWords {
             eccn: 0x1F,
             ..words
         },
-        4 => LayoutWords {
+        6 => LayoutWords {
             meta_size: 0,
             data0_size: 0,
             ..words
         },
-        5 => LayoutWords {
+        7 => LayoutWords {
             datan_size: 0,
             ..words
         },
-        6 => LayoutWords {
+        8 => LayoutWords {
             ecc0: 0x14,
             data0_size: 1023,
             ..words
         },
-        7 => LayoutWords {
+        9 => LayoutWords {
             eccn: 1,
             datan_size: 1023,
             ..words
@@ -300,8 +313,7 @@ fn spoil_record(record: &mut Vec<u8>, random: &mut Random) {
             page_size: words.page_size.saturating_sub(random.within(1, 12) as u16),
             ..words
         },
-    };
-    *record = spoilt.pack().to_vec();
+    }
 }
 
 fn spoil_block(block: &mut u64, record: &[u8], random: &mut Random) {

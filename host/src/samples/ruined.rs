@@ -36,7 +36,7 @@ impl WrittenPage {
     fn ruin(&self, page: &mut [u8], block: usize, random: &mut Random) {
         let code = self.layout.block(block).code();
         while outcome(code, &block_word(&self.layout, page, block)) != Outcome::Ruined {
-            for position in self.layout.start(block)..self.layout.start(block + 1) {
+            for position in self.layout.block_places(block) {
                 if random.chance(2) {
                     flip(page, position);
                 }

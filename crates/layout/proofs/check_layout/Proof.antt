@@ -1,20 +1,26 @@
 -- `layout::check_layout` meets its contract.
-use mathlib.Core.Path.{ap, ap₂, _∙_}
-use borrow.Author.Tests.{ne-eqb}
+use mathlib.Core.Path.{sym, ap, ap₂, _∙_}
+use borrow.Author.Tests.{not-true, not-false}
 use borrow.Author.Needs.{needs}
 use Rattle.layout.specs.Record.{layoutOf}
 use Rattle.layout.specs.Plan.{layoutFor, planOf}
 use Rattle.layout.specs.Acceptance.{findingOf, acceptance}
 use Rattle.layout.proofs.Findings.{kept-accepted, broken-refused}
+use Rattle.layout.proofs.Records.{record-long}
 use Rattle.layout.proofs.check_layout.Statement.{statement}
 use Rattle.layout.proofs.check_layout.Tie as tie
 
+record-length-requires : tie.Need-record-length-requires
+record-length-requires c κs = search needs
+
 returns : tie.Need-returns
 unfolding acceptance
-returns c = simp (ne-eqb _ _ (c .if1 .taken))
+returns c = rw (sym (c .before .record-length .ensures) ∙ not-true _ (c .if1 .taken))
 
 fields-in-requires : tie.Need-fields-in-requires
-fields-in-requires c κs = search needs
+fields-in-requires c κs =
+    let right = sym (c .before .record-length .ensures) ∙ not-false _ (c .if1 .left) in
+    (right, record-long _ right)
 
 layout-for-requires : tie.Need-layout-for-requires
 layout-for-requires c κs = search needs
@@ -40,7 +46,7 @@ returns-2 c =
     let parsed = made .before in
     let layout = made .layout-for .ensures ∙ ap layoutFor (parsed .fields-in .ensures) in
     let finding = found .finding-of .ensures ∙ ap₂ findingOf (parsed .fields-in .ensures) (planned .plan-of .ensures ∙ ap planOf layout) in
-    kept-accepted _ (parsed .before .if1 .left) finding layout (c .enum-told .given .1)
+    kept-accepted _ (sym (parsed .before .before .record-length .ensures) ∙ not-false _ (parsed .before .if1 .left)) finding layout (c .enum-told .given .1)
 
 returns-3 : tie.Need-returns-3
 unfolding layoutOf
@@ -51,12 +57,13 @@ returns-3 c =
     let parsed = made .before in
     let layout = made .layout-for .ensures ∙ ap layoutFor (parsed .fields-in .ensures) in
     let finding = found .finding-of .ensures ∙ ap₂ findingOf (parsed .fields-in .ensures) (planned .plan-of .ensures ∙ ap planOf layout) in
-    broken-refused _ (parsed .before .if1 .left) finding (c .before .reason .given .1)
+    broken-refused _ (sym (parsed .before .before .record-length .ensures) ∙ not-false _ (parsed .before .if1 .left)) finding (c .before .reason .given .1)
 
 pub check-layout-spec : {M : Type 1} → statement M
 check-layout-spec =
     tie.close
     (tie.spec
+    record-length-requires
     returns
     fields-in-requires
     layout-for-requires

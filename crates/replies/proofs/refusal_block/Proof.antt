@@ -35,6 +35,9 @@ enum-known-refusal c = search needs
 enum-told-9 : tie.Need-enum-told-9
 enum-told-9 c = search needs
 
+enum-told-10 : tie.Need-enum-told-10
+enum-told-10 c = search needs
+
 returns : tie.Need-returns
 unfolding block
 returns c = sym (ap block (c .enum-told .given .1))
@@ -75,6 +78,10 @@ returns-10 : tie.Need-returns-10
 unfolding block
 returns-10 c = sym (ap block (c .enum-told9 .given .1))
 
+returns-11 : tie.Need-returns-11
+unfolding block
+returns-11 c = sym (ap block (c .enum-told10 .given .1))
+
 pub refusal-block-spec : {M : Type 1} → statement M
 refusal-block-spec =
     tie.close
@@ -89,6 +96,7 @@ refusal-block-spec =
     enum-told-8
     enum-known-refusal
     enum-told-9
+    enum-told-10
     returns
     returns-2
     returns-3
@@ -98,4 +106,5 @@ refusal-block-spec =
     returns-7
     returns-8
     returns-9
-    returns-10)
+    returns-10
+    returns-11)

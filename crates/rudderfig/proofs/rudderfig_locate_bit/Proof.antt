@@ -39,6 +39,12 @@ enum-told c = search needs
 done-requires-2 : tie.Need-done-requires-2
 done-requires-2 c κs = search needs
 
+enum-told-2 : tie.Need-enum-told-2
+enum-told-2 c = search needs
+
+done-requires-3 : tie.Need-done-requires-3
+done-requires-3 c κs = search needs
+
 enum-known-refusal : tie.Need-enum-known-refusal
 enum-known-refusal c = search needs
 
@@ -63,6 +69,12 @@ returns-2 c =
 returns-3 : tie.Need-returns-3
 unfolding bitWord
 returns-3 c =
+    let told = c .before in
+    c .done3 .ensures ∙ simp (sym (told .before .before .locate-bit .ensures), told .enum-told2 .given .1)
+
+returns-4 : tie.Need-returns-4
+unfolding bitWord
+returns-4 c =
     let known = c .before .before .before in
     c .refused .ensures
     ∙ simp (c .before .refusal-reply .ensures, sym (known .before .before .locate-bit .ensures), known .refusal .given .1)
@@ -80,9 +92,12 @@ rudderfig-locate-bit-spec =
     done-requires
     enum-told
     done-requires-2
+    enum-told-2
+    done-requires-3
     enum-known-refusal
     refusal-reply-requires
     refused-requires
     returns
     returns-2
-    returns-3)
+    returns-3
+    returns-4)

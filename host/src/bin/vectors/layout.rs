@@ -1,7 +1,7 @@
 //! Vectors of layouts and page bits: kinds `L`, `P` and `B`.
 
 use crate::{Answer, Vectors};
-use model::layout::{Layout, LayoutWords};
+use model::layout::{Layout, LayoutRecord};
 use model::random::Random;
 use model::samples::layouts::{CASE_A, CASE_E, HUGE, code_bits, positions, records};
 use model::{BitPlace, Reply, bit_position, check_layout, locate_bit};
@@ -9,7 +9,8 @@ use model::{BitPlace, Reply, bit_position, check_layout, locate_bit};
 pub fn vectors() -> Vectors {
     let mut vectors = Vectors::default();
     let mut random = Random::new(0x1A40);
-    let records = records(&mut random);
+    let mut records = records(&mut random);
+    records.retain(|record| record.len() <= RECORD_PLACES);
     for record in &records {
         vectors.add(&head(b'L', record, 0, 0), layout_answer(record));
     }
@@ -23,7 +24,10 @@ pub fn vectors() -> Vectors {
         add_code_bit(&mut vectors, record, first, second);
     }
     let some = (0..60).map(|i| accepted[i * accepted.len() / 60].clone());
-    for record in some.chain([CASE_A.pack().to_vec(), CASE_E.pack().to_vec()]) {
+    let marked = accepted.iter().filter(|record| record.len() == 12);
+    let marked: Vec<Vec<u8>> = marked.step_by(4).cloned().collect();
+    let cases = [CASE_A.pack().to_vec(), CASE_E.pack().to_vec()];
+    for record in some.chain(marked).chain(cases) {
         let layout = check_layout(&record).unwrap();
         for position in positions(&layout, &mut random) {
             add_position(&mut vectors, &record, position);
@@ -34,6 +38,9 @@ pub fn vectors() -> Vectors {
     }
     vectors
 }
+
+/// The places for a record in the head of a vector.
+const RECORD_PLACES: usize = 12;
 
 /// The head of a vector: kind, record and two numbers.
 fn head(kind: u8, record: &[u8], first: u64, second: u64) -> Vec<u8> {
@@ -46,11 +53,11 @@ fn head(kind: u8, record: &[u8], first: u64, second: u64) -> Vec<u8> {
 }
 
 fn layout_answer(record: &[u8]) -> Answer {
-    let Ok(eight) = record.try_into() else {
+    let Some(record) = LayoutRecord::unpack(record) else {
         return Reply::BufferLength.into();
     };
-    let words = LayoutWords::unpack(eight);
-    let layout = Layout::from(words);
+    let words = record.words;
+    let layout = Layout::from(record);
     if let Some(reason) = layout.reason() {
         return Answer::from(reason.reply)
             .with(reason.part as u8)
@@ -71,6 +78,8 @@ fn layout_answer(record: &[u8]) -> Answer {
         .with(layout.later.map_or(0, |later| later.covered_bits()))
         .with(layout.used_bits())
         .with(layout.data_length())
+        .with(layout.mark.offset)
+        .with(layout.mark.length)
 }
 
 fn add_position(vectors: &mut Vectors, record: &[u8], position: u64) {
@@ -79,6 +88,7 @@ fn add_position(vectors: &mut Vectors, record: &[u8], position: u64) {
             Answer::done().with(1).with(block).with(exponent)
         }
         Ok(BitPlace::Tail) => Answer::done().with(0),
+        Ok(BitPlace::Mark) => Answer::done().with(2),
         Err(refusal) => refusal.into(),
     };
     vectors.add(&head(b'P', record, position, 0), answer);

@@ -10,19 +10,30 @@ mod locate;
 mod pages;
 mod roots;
 
+use model::reply::NUMBERS;
 use model::samples::edges::EDGES;
 use model::{Refusal, Reply};
 use std::fmt::Display;
 use std::process::ExitCode;
 
 /// Vectors in the making: the input's bytes, the output's lines, how many vectors got which reply,
-/// and how often they met which edge of the rules for erased and ruined blocks.
-#[derive(Default)]
+/// and how often they met which edge of the rules for erased and ruined blocks and for marks.
 pub struct Vectors {
     input: Vec<u8>,
     output: String,
-    replies: [usize; 11],
+    replies: [usize; NUMBERS],
     edges: [usize; EDGES.len()],
+}
+
+impl Default for Vectors {
+    fn default() -> Vectors {
+        Vectors {
+            input: Vec::new(),
+            output: String::new(),
+            replies: [0; NUMBERS],
+            edges: [0; EDGES.len()],
+        }
+    }
 }
 
 /// A line of output in the making: reply and block, then whatever follows.
@@ -121,7 +132,7 @@ fn main() -> ExitCode {
         }
     }
     let count: usize = vectors.replies.iter().sum();
-    println!("{count} vectors, by reply 0 to 10: {:?}", vectors.replies);
+    println!("{count} vectors, by reply 0 to 11: {:?}", vectors.replies);
     for (edge, times) in EDGES.iter().zip(vectors.edges).filter(|edge| edge.1 > 0) {
         println!("{times:6} {edge}");
     }

@@ -2,11 +2,12 @@
 
 use crate::{Answer, Vectors};
 use model::call::Call;
-use model::layout::{Layout, LayoutWords};
+use model::layout::{Layout, LayoutRecord, LayoutWords};
 use model::random::Random;
 use model::samples::edges::edges;
 use model::samples::erased::edge_layouts;
-use model::samples::layouts::accepted_words;
+use model::samples::layouts::{CASE_A, accepted_words};
+use model::samples::marks::marked;
 use model::samples::pages::{WrittenPage, spoil};
 use model::{Refusal, check_claim, check_layout, judge_block, look_page, take_page, write_page};
 
@@ -19,23 +20,39 @@ pub fn vectors() -> Vectors {
     for i in 0..200 {
         let most = [20, 40, 70, 120, 250][i % 5];
         let words = chosen_words(&mut random, i % 8, most);
-        add_page(&mut vectors, words, &mut random);
+        add_page(&mut vectors, words.into(), &mut random);
     }
     for words in [edge_layouts(); 4].concat() {
-        add_page(&mut vectors, words, &mut random);
+        add_page(&mut vectors, words.into(), &mut random);
     }
     for words in many_blocks(&mut random) {
-        add_page(&mut vectors, words, &mut random);
+        add_page(&mut vectors, words.into(), &mut random);
     }
     for words in large_words(&mut random) {
-        add_large_page(&mut vectors, words, &mut random);
+        add_large_page(&mut vectors, words.into(), &mut random);
     }
+    for record in marked_records(&mut random) {
+        add_page(&mut vectors, record, &mut random);
+    }
+    add_large_page(&mut vectors, marked(CASE_A, &mut random), &mut random);
     vectors
 }
 
+/// Small pages with marks.
+fn marked_records(random: &mut Random) -> Vec<LayoutRecord> {
+    let mut words: Vec<LayoutWords> = (0..50)
+        .map(|i| chosen_words(random, i % 8, [20, 40, 70][i % 3]))
+        .collect();
+    words.extend(edge_layouts());
+    words
+        .into_iter()
+        .map(|words| marked(words, random))
+        .collect()
+}
+
 /// The calls about a page, and some of them spoilt in one to three arguments.
-fn add_page(vectors: &mut Vectors, words: LayoutWords, random: &mut Random) {
-    let written = WrittenPage::new(words, random);
+fn add_page(vectors: &mut Vectors, record: LayoutRecord, random: &mut Random) {
+    let written = WrittenPage::new(record, random);
     let calls = written.calls(random);
     for call in &calls {
         add(vectors, call);
@@ -57,8 +74,8 @@ fn add_page(vectors: &mut Vectors, words: LayoutWords, random: &mut Random) {
 }
 
 /// A large page written, read with damage within t and past it, and read erased and ruined.
-fn add_large_page(vectors: &mut Vectors, words: LayoutWords, random: &mut Random) {
-    let written = WrittenPage::new(words, random);
+fn add_large_page(vectors: &mut Vectors, record: LayoutRecord, random: &mut Random) {
+    let written = WrittenPage::new(record, random);
     add(vectors, &written.write());
     let page = written.damaged(random);
     add(
@@ -66,7 +83,7 @@ fn add_large_page(vectors: &mut Vectors, words: LayoutWords, random: &mut Random
         &written.judge(page.clone(), written.layout.later_blocks),
     );
     add_read(vectors, &written, page);
-    if words.page_size < 5000 {
+    if written.layout.page_length < 5000 {
         let (page, block) = written.overdamaged(random);
         add(vectors, &written.judge(page.clone(), block));
         add_read(vectors, &written, page);

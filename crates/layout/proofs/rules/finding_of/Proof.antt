@@ -53,20 +53,45 @@ returns-3 c =
 enum-told-3 : tie.Need-enum-told-3
 enum-told-3 c = search needs
 
-room-rule-requires : tie.Need-room-rule-requires
-room-rule-requires c κs = search needs
+mark-rule-requires : tie.Need-mark-rule-requires
+mark-rule-requires c κs = search needs
+
+enum-known-mark : tie.Need-enum-known-mark
+enum-known-mark c = search needs
 
 returns-4 : tie.Need-returns-4
 unfolding findingOf
 returns-4 c =
-    let told3 = c .before in
+    let mark = c .before .before .before in
+    let told3 = mark .before in
     let lengths = told3 .before .before in
     let told2 = lengths .before in
     let messages = told2 .before .before in
     let told = messages .before in
     kept-found (told .before .before .levels .ensures) (told .enum-told .given .1)
     (kept-found (messages .messages .ensures) (told2 .enum-told2 .given .1)
-    (kept-found (lengths .lengths .ensures) (told3 .enum-told3 .given .1) (c .room-rule .ensures)))
+    (kept-found (lengths .lengths .ensures) (told3 .enum-told3 .given .1) (broken-found _ (mark .mark-rule .ensures) (c .before .mark .given .1))))
+
+enum-told-4 : tie.Need-enum-told-4
+enum-told-4 c = search needs
+
+room-rule-requires : tie.Need-room-rule-requires
+room-rule-requires c κs = search needs
+
+returns-5 : tie.Need-returns-5
+unfolding findingOf
+returns-5 c =
+    let told4 = c .before in
+    let mark = told4 .before .before in
+    let told3 = mark .before in
+    let lengths = told3 .before .before in
+    let told2 = lengths .before in
+    let messages = told2 .before .before in
+    let told = messages .before in
+    kept-found (told .before .before .levels .ensures) (told .enum-told .given .1)
+    (kept-found (messages .messages .ensures) (told2 .enum-told2 .given .1)
+    (kept-found (lengths .lengths .ensures) (told3 .enum-told3 .given .1)
+    (kept-found (mark .mark-rule .ensures) (told4 .enum-told4 .given .1) (c .room-rule .ensures))))
 
 pub finding-of-spec : {M : Type 1} → statement M
 finding-of-spec =
@@ -84,5 +109,9 @@ finding-of-spec =
     enum-known-length
     returns-3
     enum-told-3
+    mark-rule-requires
+    enum-known-mark
+    returns-4
+    enum-told-4
     room-rule-requires
-    returns-4)
+    returns-5)

@@ -1,4 +1,5 @@
 -- `layout::rules::room_rule` meets its contract.
+use mathlib.Core.Path.{_∙_}
 use borrow.Author.Needs.{needs}
 use Rattle.layout.specs.Acceptance.{roomRule}
 use Rattle.layout.proofs.rules.room_rule.Statement.{statement}
@@ -7,18 +8,15 @@ use Rattle.layout.proofs.rules.room_rule.Tie as tie
 cast-found : tie.Need-cast-found
 cast-found c = search needs
 
-cast-limit : tie.Need-cast-limit
-cast-limit c = search needs
-
-mul-limit : tie.Need-mul-limit
-mul-limit c = search needs
+page-room-requires : tie.Need-page-room-requires
+page-room-requires c κs = search needs
 
 test-requires : tie.Need-test-requires
 test-requires c κs = search needs
 
 returns : tie.Need-returns
 unfolding roomRule
-returns c = c .test .ensures
+returns c = c .test .ensures ∙ rw (c .before .page-room .ensures)
 
 pub room-rule-spec : {M : Type 1} → statement M
-room-rule-spec = tie.close (tie.spec cast-found cast-limit mul-limit test-requires returns)
+room-rule-spec = tie.close (tie.spec cast-found page-room-requires test-requires returns)

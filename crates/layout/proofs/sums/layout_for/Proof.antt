@@ -46,7 +46,7 @@ cast-metadata c = search needs
 returns : tie.Need-returns
 unfolding layoutFor planFor
 returns c =
-    let counted = c .before .before .before in
+    let counted = c .before .before .before .before in
     let later = counted .before in
     rw (counted .data-bytes .ensures, later .before .shape-of .ensures .0, later .later-shape .ensures .0)
 

@@ -1,8 +1,15 @@
 -- `layout::words::fields_in` meets its contract.
+use mathlib.Core.Path.{sym}
 use borrow.Author.Needs.{needs}
 use Rattle.layout.specs.Record.{fieldsIn}
 use Rattle.layout.proofs.words.fields_in.Statement.{statement}
 use Rattle.layout.proofs.words.fields_in.Tie as tie
+
+mark-in-requires : tie.Need-mark-in-requires
+mark-in-requires c κs = search needs
+
+zeros-in-requires : tie.Need-zeros-in-requires
+zeros-in-requires c κs = search needs
 
 shared-slice-read-fields-at : tie.Need-shared-slice-read-fields-at
 shared-slice-read-fields-at c = search needs
@@ -33,12 +40,16 @@ fields-at-requires c κs = search needs
 
 returns : tie.Need-returns
 unfolding fieldsIn
-returns c = c .fields-at .ensures
+returns c =
+    let zeros = c .before .before .before .before .before .before .before .before .before in
+    rw (sym (zeros .before .mark-in .ensures), sym (zeros .zeros-in .ensures)) (c .fields-at .ensures)
 
 pub fields-in-spec : {M : Type 1} → statement M
 fields-in-spec =
     tie.close
     (tie.spec
+    mark-in-requires
+    zeros-in-requires
     shared-slice-read-fields-at
     shared-slice-read-fields-at-2
     shared-slice-read-fields-at-3

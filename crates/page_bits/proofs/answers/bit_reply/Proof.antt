@@ -12,6 +12,9 @@ enum-told c = search needs
 enum-told-2 : tie.Need-enum-told-2
 enum-told-2 c = search needs
 
+enum-told-3 : tie.Need-enum-told-3
+enum-told-3 c = search needs
+
 enum-known-answer : tie.Need-enum-known-answer
 enum-known-answer c = search needs
 
@@ -27,8 +30,12 @@ unfolding bitNumbers done
 returns-2 c = sym (ap (λ (a : BitAnswer). bitNumbers a .reply) (c .enum-told2 .given .1))
 
 returns-3 : tie.Need-returns-3
+unfolding bitNumbers done
+returns-3 c = sym (ap (λ (a : BitAnswer). bitNumbers a .reply) (c .enum-told3 .given .1))
+
+returns-4 : tie.Need-returns-4
 unfolding bitNumbers refused
-returns-3 c = c .refusal-reply .ensures ∙ sym (ap (λ (a : BitAnswer). bitNumbers a .reply) (c .before .before .answer .given .1))
+returns-4 c = c .refusal-reply .ensures ∙ sym (ap (λ (a : BitAnswer). bitNumbers a .reply) (c .before .before .answer .given .1))
 
 pub bit-reply-spec : {M : Type 1} → statement M
 bit-reply-spec =
@@ -36,8 +43,10 @@ bit-reply-spec =
     (tie.spec
     enum-told
     enum-told-2
+    enum-told-3
     enum-known-answer
     refusal-reply-requires
     returns
     returns-2
-    returns-3)
+    returns-3
+    returns-4)

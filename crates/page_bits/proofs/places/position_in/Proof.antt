@@ -27,21 +27,26 @@ returns-2 c =
 block-start-requires : tie.Need-block-start-requires
 block-start-requires c κs = search needs
 
-sub-t7 : tie.Need-sub-t7
-sub-t7 c = search needs
+sub-at : tie.Need-sub-at
+sub-at c = search needs
 
-sub-t12 : tie.Need-sub-t12
-sub-t12 c = search needs
+sub-at-2 : tie.Need-sub-at-2
+sub-at-2 c = search needs
 
-add-t13 : tie.Need-add-t13
-add-t13 c = search needs
+add-at : tie.Need-add-at
+add-at c = search needs
+
+place-requires : tie.Need-place-requires
+place-requires c κs = search needs
 
 returns-3 : tie.Need-returns-3
 unfolding positionIn positionAt
 returns-3 c =
-    let length = c .before .before .block-covered .ensures .0 in
-    let low = rw length at (c .before .if2 .left) in
-    simp (lt-ltb _ _ (c .before .before .before .if1 .left), lt-ltb _ _ low, c .block-start .ensures .0, length)
+    let started = c .before .before in
+    let measured = started .before .before in
+    let length = measured .block-covered .ensures .0 in
+    let low = rw length at (started .before .if2 .left) in
+    simp (lt-ltb _ _ (measured .before .if1 .left), lt-ltb _ _ low, c .place .ensures, started .block-start .ensures .0, length)
 
 pub position-in-spec : {M : Type 1} → statement M
 position-in-spec =
@@ -53,7 +58,8 @@ position-in-spec =
     block-covered-requires
     returns-2
     block-start-requires
-    sub-t7
-    sub-t12
-    add-t13
+    sub-at
+    sub-at-2
+    add-at
+    place-requires
     returns-3)

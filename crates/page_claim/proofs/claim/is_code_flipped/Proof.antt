@@ -14,8 +14,8 @@ cast-level c = search needs
 cast-n : tie.Need-cast-n
 cast-n c = search needs
 
-copy-bits-requires : tie.Need-copy-bits-requires
-copy-bits-requires c κs = search needs
+copy-word-requires : tie.Need-copy-word-requires
+copy-word-requires c κs = search needs
 
 flip-claims-requires : tie.Need-flip-claims-requires
 flip-claims-requires c κs =
@@ -46,8 +46,8 @@ returns c =
     let copy = flip .before .before .before .before in
     let a = copy .before .before .before .before .before .before .before in
     let s = a .args .shape in
-    let w = copied-flipped (a .args .word .now) (a .args .page .now) (a .args .claims .now) _ (a .args .position) _ _ refl (omega arith)
-    (copy .copy-bits .ensures) (flip .flip-claims .ensures) in
+    let w = copied-flipped (a .args .mark) (a .args .word .now) (a .args .page .now) (a .args .claims .now) _ (a .args .position) _ _ refl (omega arith)
+    (copy .copy-word .ensures) (flip .flip-claims .ensures) in
     zero-decides (s .field) (s .level) _ (omega arith) (c .is-zero .ensures)
     (c .before .remainder-of .ensures ∙ ap (remainder (s .field) (s .level)) w)
 
@@ -57,7 +57,7 @@ is-code-flipped-spec =
     (tie.spec
     cast-level
     cast-n
-    copy-bits-requires
+    copy-word-requires
     flip-claims-requires
     slice-aggregate-make-table
     make-table-requires

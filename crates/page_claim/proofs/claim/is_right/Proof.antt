@@ -3,7 +3,7 @@ use Prim.Native.Nat.{_≤_, _<_}
 use mathlib.Core.Path.{_≡_, sym}
 use native.Mathlib.Omega.{arith}
 use borrow.Author.Tests.{not-true, not-false}
-use Rattle.bits.specs.Bits.{bitOf}
+use Rattle.mark.specs.Mark.{streamBit}
 use Rattle.bits.proofs.Decides.{decides-false}
 use Rattle.bits.proofs.Runs.{run-length}
 use borrow.Author.Needs.{needs}
@@ -25,7 +25,7 @@ within-requires c κs = search needs
 returns-2 : tie.Need-returns-2
 returns-2 c =
     let a = c .before .before .before .before .before .before .before .args in
-    let n = run-length (bitOf (a .page .now)) (a .position) (a .shape .covered) in
+    let n = run-length (streamBit (a .mark) (a .page .now)) (a .position) (a .shape .covered) in
     decides-false (λ r. c .before .within .ensures .fails (not-true _ (c .if2 .taken)) (λ i l. let k = r .below i l in omega arith))
 
 distinct-requires : tie.Need-distinct-requires
@@ -45,7 +45,7 @@ returns-4 c =
     let apart = c .before .before in
     let inside = apart .before .before in
     let a = inside .before .before .before .before .before .before in
-    let n = run-length (bitOf (a .args .page .now)) (a .args .position) (a .args .shape .covered) in
+    let n = run-length (streamBit (a .args .mark) (a .args .page .now)) (a .args .position) (a .args .shape .covered) in
     record {
       holds = λ y. record {
         distinct = apart .distinct .ensures .holds (not-false _ (c .before .if3 .left));

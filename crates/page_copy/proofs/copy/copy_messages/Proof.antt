@@ -13,17 +13,17 @@ use Rattle.page_copy.proofs.copy.copy_messages.Statement.{statement}
 use Rattle.page_copy.proofs.copy.copy_messages.Tie as tie
 
 abbrev Inv-loop : tie.InvT-loop
-Inv-loop plan page metadata₀ data₀ blocks b₀ metadata «data» b =
+Inv-loop plan page metadata₀ data₀ blocks mark b₀ metadata «data» b =
     (b ≤ blocks) × Joined metadata₀ data₀ metadata «data» (placed (metadata₀ ++ data₀) 0 (texts plan page b))
 
 abbrev μ-loop : tie.MeasureT-loop
-μ-loop plan page metadata₀ data₀ blocks b₀ metadata «data» b = blocks - b
+μ-loop plan page metadata₀ data₀ blocks mark b₀ metadata «data» b = blocks - b
 
 loop-holds : tie.Need-loop-holds Inv-loop μ-loop
 loop-holds c = (
   search needs,
-  joined-start _ _ _ _ (record { count = refl; small = λ i. c .before .slice-known .given i .fits })
-      (record { count = refl; small = λ i. c .slice-known2 .given i .fits }),
+  joined-start _ _ _ _ (record { count = refl; small = λ i. c .before .before .slice-known .given i .fits })
+      (record { count = refl; small = λ i. c .before .slice-known2 .given i .fits }),
 )
 
 block-shape-requires : tie.Need-block-shape-requires Inv-loop μ-loop
@@ -38,15 +38,15 @@ block-start-requires c κs = search needs
 message-start-requires : tie.Need-message-start-requires Inv-loop μ-loop
 message-start-requires c κs = search needs
 
-copy-to-requires : tie.Need-copy-to-requires Inv-loop μ-loop
-copy-to-requires c κs =
+copy-out-requires : tie.Need-copy-out-requires Inv-loop μ-loop
+copy-out-requires c κs =
     let s = c .before .before .before in
     let l = s .before .before .before .before .loop in
-    let a = s .before .before .before .before .before .before .before .before in
+    let a = s .before .before .before .before .before .before .before .before .before in
     let j = l .inv .1 in
     message-room _ _ (a .pre .0) _ (search needs) (j .metadata ∙ a .pre .1) (j .«data» ∙ a .pre .2)
     (s .block-start .ensures .0) (c .before .before .message-start .ensures .0) (ap (λ (x : Shape). x .message) (s .before .before .block-shape .ensures))
-    (omega arith)
+    (search needs)
 
 add-b : tie.Need-add-b Inv-loop μ-loop
 add-b c = search needs
@@ -61,7 +61,7 @@ loop-again c =
     let l = s .before .before .before .before .loop in (
       omega arith,
       joined-texts _ _ _ _ (l .b) (s .block-start .ensures .0) (k .before .before .before .message-start .ensures .0)
-          (ap (λ (x : Shape). x .message) (s .before .before .block-shape .ensures)) (l .inv .1) (k .copy-to .ensures),
+          (ap (λ (x : Shape). x .message) (s .before .before .block-shape .ensures)) (l .inv .1) (k .copy-out .ensures),
     )
 
 same-length : tie.Need-same-length Inv-loop μ-loop
@@ -73,7 +73,7 @@ same-length-2 c = search needs
 returns : tie.Need-returns Inv-loop μ-loop
 returns c =
     let l = c .before .loop in
-    let e : l .b ≡ c .before .before .before .before .before .args .plan .blocks = omega arith in
+    let e : l .b ≡ c .before .before .before .before .before .before .args .plan .blocks = omega arith in
     rw e at (l .inv .1)
 
 pub copy-messages-spec : {M : Type 1} → statement M
@@ -87,7 +87,7 @@ copy-messages-spec =
     cast-n
     block-start-requires
     message-start-requires
-    copy-to-requires
+    copy-out-requires
     add-b
     loop-less
     loop-again

@@ -1,10 +1,11 @@
 -- `page_decide::damaged::block_remainder` meets its contract.
-use mathlib.Core.Path.{_≡_, _∙_, ap, sym}
+use mathlib.Core.Path.{_≡_, refl, _∙_, ap, sym}
 use native.Mathlib.Omega.{arith}
 use borrow.Author.Needs.{needs}
 use denote.Ref.{now}
 use Rattle.layout.specs.declared.Shape.{Shape}
 use Rattle.layout.specs.Plan.{level}
+use Rattle.page_plan.proofs.Plans.{block-inside}
 use Rattle.page_theory.specs.Page.{blockWord}
 use Rattle.page_decide.specs.Scanning.{remainderAt}
 use Rattle.page_decide.proofs.Remainders.{remainderAt-none}
@@ -33,16 +34,19 @@ block-start-requires c κs = search needs
 block-covered-requires : tie.Need-block-covered-requires
 block-covered-requires c κs = search needs
 
-remainder-of-requires : tie.Need-remainder-of-requires
-remainder-of-requires c κs =
-    let s = c .before .before .before .before in
-    (rw (s .block-shape .ensures) (s .before .before .before .pre .1 .1), omega arith)
+remainder-in-requires : tie.Need-remainder-in-requires
+remainder-in-requires c κs =
+    let s = c .before .before .before .before .before in
+    let p = s .before .before .before .pre in (
+      rw (s .block-shape .ensures) (p .1 .1),
+      rw (c .block-covered .ensures .0) (block-inside _ (p .0 .plan) _ (p .1 .0) refl (p .0 .size) (search needs) (c .before .block-start .ensures .0)),
+    )
 
 returns-2 : tie.Need-returns-2
 unfolding remainderAt blockWord
 returns-2 c =
-    let s = c .before .before .before .before .before in
-    c .remainder-of .ensures
+    let s = c .before .before .before .before .before .before in
+    c .remainder-in .ensures
     ∙ rw (c .before .block-covered .ensures .0, c .before .before .block-start .ensures .0, s .block-shape .ensures)
 
 pub block-remainder-spec : {M : Type 1} → statement M
@@ -55,5 +59,5 @@ block-remainder-spec =
     returns
     block-start-requires
     block-covered-requires
-    remainder-of-requires
+    remainder-in-requires
     returns-2)

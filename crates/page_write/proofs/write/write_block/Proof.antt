@@ -1,7 +1,7 @@
 -- `page_write::write::write_block` meets its contract.
 use native.Mathlib.Omega.{arith}
 use Rattle.bits.proofs.Runs.{run-length}
-use Rattle.page_write.proofs.Writing.{encoded-placed}
+use Rattle.page_write.proofs.Writing.{encoded-put}
 use borrow.Author.Needs.{needs}
 use Rattle.page_write.proofs.write.write_block.Statement.{statement}
 use Rattle.page_write.proofs.write.write_block.Tie as tie
@@ -9,13 +9,13 @@ use Rattle.page_write.proofs.write.write_block.Tie as tie
 cast-n : tie.Need-cast-n
 cast-n c = search needs
 
-copy-from-requires : tie.Need-copy-from-requires
-copy-from-requires c κs =
+copy-in-requires : tie.Need-copy-in-requires
+copy-in-requires c κs =
     let a = c .before .before .before .before .before .before in
-    (a .pre .2, a .pre .3, record { ends = omega arith; fits = omega arith })
+    (a .pre .2, a .pre .3, record { inside = omega arith; ends = omega arith; fits = omega arith })
 
-put-parity-requires : tie.Need-put-parity-requires
-put-parity-requires c κs = search needs
+write-parity-requires : tie.Need-write-parity-requires
+write-parity-requires c κs = search needs
 
 same-length : tie.Need-same-length
 same-length c = search needs
@@ -26,8 +26,9 @@ returns c =
     let one = two .before .before .before .before in
     let s = one .before .before .before .before .before .before .before in
     let a = s .args in
-    encoded-placed (a .shape) (a .page .now) (a .position) _ (run-length _ _ _) (omega (arith, s .pre .4 .ends)) (one .copy-from .ensures) (two .put-parity .ensures)
+    encoded-put (a .shape) (a .mark) (a .page .now) (a .position) _ (run-length _ _ _)
+    (record { inside = omega arith; ends = omega arith; fits = omega arith }) (one .copy-in .ensures) (two .write-parity .ensures)
 
 pub write-block-spec : {M : Type 1} → statement M
 write-block-spec =
-    tie.close (tie.spec cast-n copy-from-requires put-parity-requires same-length returns)
+    tie.close (tie.spec cast-n copy-in-requires write-parity-requires same-length returns)

@@ -1,23 +1,23 @@
 -- `page_write::write::write_blocks` meets its contract. Before block b is written, the blocks below it stand in the page.
 use Prim.Native.Nat.{_-_, _≤_, _<_}
-use mathlib.Core.Path.{_≡_, refl, sym, _∙_, ap}
+use mathlib.Core.Path.{_≡_, refl, _∙_}
 use mathlib.Core.List.{_++_}
 use native.Mathlib.Omega.{arith}
 use borrow.Author.Needs.{needs}
-use Rattle.layout.specs.Plan.{shape, start, from}
-use Rattle.layout.proofs.Plans.{shape-zero, shape-later}
+use Rattle.layout.specs.Plan.{room, from}
+use Rattle.layout.proofs.Plans.{shape-later}
 use Rattle.page_theory.proofs.Writing.{used-room}
 use Rattle.page_plan.proofs.Plans.{block-inside}
-use Rattle.page_write.proofs.Writing.{message-lent, from-one, from-next, Streamed, streamed-start, streamed-size, streamed-next, streamed-end}
+use Rattle.page_write.proofs.Writing.{message-lent, from-one, from-next, page-put, Streamed, streamed-first, streamed-size, streamed-next, streamed-end}
 use Rattle.page_write.proofs.write.write_blocks.Statement.{statement}
 use Rattle.page_write.proofs.write.write_blocks.Tie as tie
 
 abbrev Inv-loop : tie.InvT-loop
-Inv-loop plan metadata «data» page₀ blocks later table at₀ block₀ page at block =
-    (0 < block) × (block ≤ blocks) × (at ≡ from plan block) × Streamed plan (metadata ++ «data») block page
+Inv-loop plan metadata «data» page₀ blocks later mark table at₀ block₀ page at block =
+    (0 < block) × (block ≤ blocks) × (at ≡ from plan block) × Streamed plan (metadata ++ «data») page₀ block page
 
 abbrev μ-loop : tie.MeasureT-loop
-μ-loop plan metadata «data» page₀ blocks later table at₀ block₀ page at block = blocks - block
+μ-loop plan metadata «data» page₀ blocks later mark table at₀ block₀ page at block = blocks - block
 
 slice-aggregate-write-first : tie.Need-slice-aggregate-write-first Inv-loop μ-loop
 slice-aggregate-write-first c = search needs
@@ -29,17 +29,11 @@ cast-at : tie.Need-cast-at Inv-loop μ-loop
 cast-at c = search needs
 
 loop-holds : tie.Need-loop-holds Inv-loop μ-loop
-unfolding from start
 loop-holds c =
-    let known = c .before .before .before .before .before .before .before .before .before in
-    let a = known .before .before .before in
+    let first = c .before .before .before .before in
+    let a = first .before .before .before .before .before .before .before .before .before in
     let q = a .args .plan in
-    let fresh = streamed-start q _ _ (record { count = refl; small = λ i. known .slice-known .given i .fits }) (a .pre .1 .size) in (
-      omega arith,
-      a .pre .0 .some,
-      from-one q,
-      streamed-next q _ (a .pre .0 .valid) 0 fresh (shape-zero q 0 refl) refl refl (c .before .before .before .before .write-first .ensures .0),
-    )
+    (omega arith, a .pre .0 .some, from-one q, streamed-first q _ _ (a .pre .1 .size) (first .write-first .ensures .0))
 
 block-start-requires : tie.Need-block-start-requires Inv-loop μ-loop
 block-start-requires c κs = search needs
@@ -51,7 +45,7 @@ write-block-requires : tie.Need-write-block-requires Inv-loop μ-loop
 write-block-requires c κs =
     let turn = c .before .before .before .before in
     let first = turn .before .before .before .before .before in
-    let a = first .before .before .before .before .before .before .before .before in
+    let a = first .before .before .before .before .before .before .before .before .before in
     let q = a .args .plan in
     let s = turn .loop in
     let h = a .pre .1 in
@@ -71,7 +65,7 @@ cast-at-2 c = search needs
 add-at : tie.Need-add-at Inv-loop μ-loop
 add-at c =
     let turn = c .before .before .before .before .before .before .before .before in
-    let a = turn .before .before .before .before .before .before .before .before .before .before .before .before .before in
+    let a = turn .before .before .before .before .before .before .before .before .before .before .before .before .before .before in
     let q = a .args .plan in
     let s = turn .loop in
     let h = a .pre .1 in
@@ -82,7 +76,7 @@ add-at c =
 add-block : tie.Need-add-block Inv-loop μ-loop
 add-block c =
     let turn = c .before .before .before .before .before .before .before .before in
-    let a = turn .before .before .before .before .before .before .before .before .before .before .before .before .before in
+    let a = turn .before .before .before .before .before .before .before .before .before .before .before .before .before .before in
     let x : a .args .plan .blocks < 65536 = search needs in
     let l = c .before .before .before .before .before .before .before .loop-test .taken in
     record { fits = omega arith }
@@ -93,7 +87,7 @@ loop-less c = search needs
 loop-again : tie.Need-loop-again Inv-loop μ-loop
 loop-again c =
     let turn = c .before .before .before .before .before .before .before .before in
-    let a = turn .before .before .before .before .before .before .before .before .before .before .before .before .before in
+    let a = turn .before .before .before .before .before .before .before .before .before .before .before .before .before .before in
     let q = a .args .plan in
     let s = turn .loop in
     let l = c .before .before .before .before .before .before .before .loop-test .taken in
@@ -107,45 +101,67 @@ loop-again c =
 cast-used : tie.Need-cast-used Inv-loop μ-loop
 cast-used c = search needs
 
-mul-fill-ones : tie.Need-mul-fill-ones Inv-loop μ-loop
-mul-fill-ones c =
-    let q = c .before .before .before .before .before .before .before .before .before .before .before .before .before .before .before .before .args .plan in
-    let n = streamed-size q _ _ (c .before .before .before .loop .inv .3) in
+cast-room : tie.Need-cast-room Inv-loop μ-loop
+cast-room c = search needs
+
+sub-room : tie.Need-sub-room Inv-loop μ-loop
+sub-room c =
+    let turn = c .before .before .before in
+    let a = turn .before .before .before .before .before .before .before .before .before .before .before .before .before .before in
+    let n = streamed-size (a .args .plan) _ _ (turn .loop .inv .3) in
+    let i = a .pre .0 .valid .inside in
+    omega arith
+
+mul-room : tie.Need-mul-room Inv-loop μ-loop
+mul-room c =
+    let turn = c .before .before .before in
+    let q = turn .before .before .before .before .before .before .before .before .before .before .before .before .before .before .args .plan in
+    let n = streamed-size q _ _ (turn .loop .inv .3) in
     let x : q .size < 65536 = search needs in
     record { fits = omega arith }
 
 sub-fill-ones : tie.Need-sub-fill-ones Inv-loop μ-loop
+unfolding room
 sub-fill-ones c =
-    let a = c .before .before .before .before .before .before .before .before .before .before .before .before .before .before .before .before in
+    let turn = c .before .before .before .before in
+    let a = turn .before .before .before .before .before .before .before .before .before .before .before .before .before .before in
     let q = a .args .plan in
-    let n = streamed-size q _ _ (c .before .before .before .loop .inv .3) in
+    let n = streamed-size q _ _ (turn .loop .inv .3) in
     let r = used-room q (a .pre .0 .valid) in
     omega arith
 
 fill-ones-requires : tie.Need-fill-ones-requires Inv-loop μ-loop
+unfolding room
 fill-ones-requires c κs =
-    let a = c .before .before .before .before .before .before .before .before .before .before .before .before .before .before .before .before in
+    let turn = c .before .before .before .before in
+    let a = turn .before .before .before .before .before .before .before .before .before .before .before .before .before .before in
     let q = a .args .plan in
-    let n = streamed-size q _ _ (c .before .before .before .loop .inv .3) in
+    let n = streamed-size q _ _ (turn .loop .inv .3) in
     let r = used-room q (a .pre .0 .valid) in
+    let i = a .pre .0 .valid .inside in
     let x : q .size < 65536 = search needs in
-    record { ends = omega arith; fits = omega arith }
+    record { inside = omega arith; ends = omega arith; fits = omega arith }
 
 same-length : tie.Need-same-length Inv-loop μ-loop
 same-length c =
     let done = c .before .before in
-    let a = done .before .before .before .before .before .before .before .before .before .before .before .before .before .before .before .before .before in
-    let n = streamed-size (a .args .plan) _ _ (done .before .before .before .before .loop .inv .3) in
+    let turn = done .before .before .before .before .before in
+    let a = turn .before .before .before .before .before .before .before .before .before .before .before .before .before .before in
+    let n = streamed-size (a .args .plan) _ _ (turn .loop .inv .3) in
     let m = a .pre .1 .size in
     search needs
 
 returns : tie.Need-returns Inv-loop μ-loop
 returns c =
     let done = c .before .before in
-    let a = done .before .before .before .before .before .before .before .before .before .before .before .before .before .before .before .before .before in
-    let s = done .before .before .before .before .loop in
-    let e : s .block ≡ a .args .plan .blocks = omega arith in
-    streamed-end (a .args .plan) _ (a .pre .0 .valid) (rw e at (s .inv .3)) refl (done .fill-ones .ensures)
+    let turn = done .before .before .before .before .before in
+    let first = turn .before .before .before .before .before in
+    let a = first .before .before .before .before .before .before .before .before .before in
+    let q = a .args .plan in
+    let s = turn .loop in
+    let e : s .block ≡ q .blocks = omega arith in
+    streamed-end q _ (a .pre .0 .valid) (rw e at (s .inv .3)) refl refl (done .fill-ones .ensures)
+    ∙ page-put q _ _ _ _ (first .write-first .ensures .0)
 
 pub write-blocks-spec : {M : Type 1} → statement M
 write-blocks-spec =
@@ -166,7 +182,9 @@ write-blocks-spec =
     loop-less
     loop-again
     cast-used
-    mul-fill-ones
+    cast-room
+    sub-room
+    mul-room
     sub-fill-ones
     fill-ones-requires
     same-length

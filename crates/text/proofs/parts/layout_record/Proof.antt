@@ -5,29 +5,41 @@ use borrow.Author.Needs.{needs}
 use Rattle.text.proofs.parts.layout_record.Statement.{statement}
 use Rattle.text.proofs.parts.layout_record.Tie as tie
 
-cast-t4 : tie.Need-cast-t4
-cast-t4 c = search needs
+cast-t5 : tie.Need-cast-t5
+cast-t5 c = search needs
 
-cast-t7 : tie.Need-cast-t7
-cast-t7 c = search needs
+cast-t8 : tie.Need-cast-t8
+cast-t8 c = search needs
 
-cast-t10 : tie.Need-cast-t10
-cast-t10 c = search needs
+cast-t11 : tie.Need-cast-t11
+cast-t11 c = search needs
 
-cast-t12 : tie.Need-cast-t12
-cast-t12 c = search needs
+cast-t13 : tie.Need-cast-t13
+cast-t13 c = search needs
 
-cast-t14 : tie.Need-cast-t14
-cast-t14 c = search needs
+cast-t15 : tie.Need-cast-t15
+cast-t15 c = search needs
 
-cast-t17 : tie.Need-cast-t17
-cast-t17 c = search needs
+cast-t18 : tie.Need-cast-t18
+cast-t18 c = search needs
 
-cast-t20 : tie.Need-cast-t20
-cast-t20 c = search needs
+cast-t21 : tie.Need-cast-t21
+cast-t21 c = search needs
 
-cast-t22 : tie.Need-cast-t22
-cast-t22 c = search needs
+cast-t23 : tie.Need-cast-t23
+cast-t23 c = search needs
+
+cast-t25 : tie.Need-cast-t25
+cast-t25 c = search needs
+
+cast-t28 : tie.Need-cast-t28
+cast-t28 c = search needs
+
+cast-t31 : tie.Need-cast-t31
+cast-t31 c = search needs
+
+cast-t33 : tie.Need-cast-t33
+cast-t33 c = search needs
 
 returns : tie.Need-returns
 unfolding recordOf
@@ -36,4 +48,17 @@ returns c = refl
 pub layout-record-spec : {M : Type 1} → statement M
 layout-record-spec =
     tie.close
-    (tie.spec cast-t4 cast-t7 cast-t10 cast-t12 cast-t14 cast-t17 cast-t20 cast-t22 returns)
+    (tie.spec
+    cast-t5
+    cast-t8
+    cast-t11
+    cast-t13
+    cast-t15
+    cast-t18
+    cast-t21
+    cast-t23
+    cast-t25
+    cast-t28
+    cast-t31
+    cast-t33
+    returns)

@@ -1,0 +1,2 @@
+-- The mark of a page, and the bit stream around it.
+pub mod Mark
