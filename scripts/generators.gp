@@ -8,7 +8,7 @@ generator(a, t) = {
 as_number(g) = subst(lift(g), variable(g), 2);
 rows(m, modulus) = {
   my(a = ffgen(modulus * Mod(1, 2), 'a));
-  forstep (t = 2, 40, 2, print(m, " ", t, " ", as_number(generator(a, t))))
+  forstep (t = 2, 62, 2, print(m, " ", t, " ", as_number(generator(a, t))))
 }
 rows(13, x^13 + x^4 + x^3 + x + 1);
 rows(14, x^14 + x^5 + x^3 + x + 1);

@@ -1,7 +1,9 @@
 #!/usr/bin/env python3
 """Computes the minimal polynomials and the generators of document 01, "The code", from their definition.
 
-    scripts/generators.py rows        the tables of crates/generators/src/lib.rt, as they stand there
+    scripts/generators.py thirteen    crates/generators/src/thirteen.rt, as it stands there
+    scripts/generators.py fourteen    crates/generators/src/fourteen.rt
+    scripts/generators.py lists       the lists of crates/generators/specs/Rows.antt
     scripts/generators.py minimals    the lists of crates/code/specs/Generator.antt
 
 A polynomial over GF(2) is a number: bit p is the coefficient of x^p. The generator of a level t is the polynomial of least degree that is zero
@@ -10,8 +12,10 @@ at a, a^2, .., a^(2t), so the product of the different minimal polynomials of th
 import sys
 
 FIELDS = {13: 0x201B, 14: 0x402B}  # x^13 + x^4 + x^3 + x + 1, x^14 + x^5 + x^3 + x + 1
-LEVELS = range(2, 41, 2)
-WORDS = 9  # of 64 bits in a row: 14 * 40 + 1 coefficients and a few to spare
+NAMES = {13: "thirteen", 14: "fourteen"}
+MOST = 31  # the highest level field, for t = 62
+WORDS = 14  # of 64 bits in a row: room for 14 * 62 + 1 coefficients
+ARMS = 6  # of a match: the checker sees by itself what is left after so many
 WIDTH = 60  # the longest row that the formatter leaves on one line
 
 
@@ -62,35 +66,92 @@ def minimals(m, t):
     return found
 
 
-def generator(m, t):
-    result = 1
-    for polynomial in minimals(m, t):
-        result = times(result, polynomial)
-    assert result.bit_length() == m * t + 1
-    return result
+def generators(m):
+    """The generators of t = 0, 2, .., 62, each in words of 64 bits, the lowest first."""
+    result, found = 1, []
+    polynomials = minimals(m, 2 * MOST)
+    for level_field in range(MOST + 1):
+        assert result.bit_length() == m * 2 * level_field + 1
+        found.append([result >> (64 * i) & (2**64 - 1) for i in range(WORDS)])
+        for polynomial in polynomials[2 * level_field : 2 * level_field + 2]:
+            result = times(result, polynomial)
+    return found
 
 
-def row(x):
-    """A number in words of 64 bits, the lowest first, as one row of a table in the formatter's layout."""
-    words = [x >> (64 * i) & (2**64 - 1) for i in range(WORDS)]
-    literals = [f"{word:#x}" if word else "0" for word in words]
-    line = ", ".join(literals)
+def literal(word):
+    return f"{word:#x}" if word > 9 else str(word)
+
+
+def array(row, indent):
+    """A row as an array in the formatter's layout."""
+    line = ", ".join(map(literal, row))
     if len(line) <= WIDTH:
-        return f"    [{line}],\n"
-    return "    [\n" + "".join(f"        {literal},\n" for literal in literals) + "    ],\n"
+        return f"[{line}]"
+    return "[\n" + "".join(f"{indent}    {literal(word)},\n" for word in row) + f"{indent}]"
 
 
-def rows():
-    return "\n".join(
-        f"const ROWS_{m}: [[u64; {WORDS}]; {len(LEVELS)}] = [\n" + "".join(row(generator(m, t)) for t in LEVELS) + "];\n" for m in FIELDS
+def first_name(ecc):
+    return "row" if ecc == 0 else f"row_from_{2 * ecc}" if ecc < MOST else f"row_of_{2 * MOST}"
+
+
+def function(m, rows, first):
+    """A function that answers the rows from one on by a match, and leaves those after them to the next."""
+    after = min(first + ARMS, MOST)
+    about = "The row of a level field: here those" if first == 0 else "Those" if first + 1 < after else "That"
+    levels = ", ".join(str(2 * ecc) for ecc in range(first, after))
+    asked = f"ecc ≤ {MOST}" if first == 0 else f"({first} ≤ ecc) × (ecc ≤ {MOST})"
+    arms = "".join(f"        {ecc} => {array(rows[ecc], ' ' * 8)},\n" for ecc in range(first, after))
+    return f"""
+// {about} of t = {levels}.
+{"pub " if first == 0 else ""}fn {first_name(first)}(ecc: usize) -> [u64; {WORDS}]
+    requires {{ ⌜ {asked} ⌝ }}
+    ensures {{ λ r. ⌜ r ≡ getD {NAMES[m]} ecc [] ⌝ }}
+{{
+    match ecc {{
+{arms}        _ => {first_name(after)}(ecc),
+    }}
+}}
+"""
+
+
+def code(m):
+    rows = generators(m)
+    return (
+        f"""// The generators for m = {m} as constants, by level field, as `scripts/generators.py {NAMES[m]}` prints them.
+ghost use mathlib.Core.Path.{{_≡_}};
+ghost use mathlib.Core.List.{{[]}};
+ghost use Prim.Native.Nat.{{_≤_}};
+ghost use lib.ListN.{{getD}};
+ghost use Rattle.generators.specs.Rows.{{{NAMES[m]}}};
+"""
+        + "".join(function(m, rows, first) for first in range(0, MOST, ARMS))
+        + f"""
+// That of t = {2 * MOST}.
+fn {first_name(MOST)}(ecc: usize) -> [u64; {WORDS}]
+    requires {{ ⌜ ecc ≡ {MOST} ⌝ }}
+    ensures {{ λ r. ⌜ r ≡ getD {NAMES[m]} ecc [] ⌝ }}
+{{
+    {array(rows[MOST], " " * 4)}
+}}
+"""
     )
 
 
 def lists():
+    """For each field its rows as one list of lists of words."""
+    found = []
+    for m, name in NAMES.items():
+        rows = ["(" + " ∷ ".join(map(literal, row)) + " ∷ [])" for row in generators(m)]
+        found.append(f"abbrev pub {name} : List (List ℕ)\n{name} =\n    " + "\n    ∷ ".join(rows) + "\n    ∷ []\n")
+    return "\n".join(found)
+
+
+def minimal_lists():
     return "\n".join(f"minimals{m}: " + " ∷ ".join(f"{x:#x}" for x in minimals(m, 62)) for m in FIELDS) + "\n"
 
 
 if __name__ == "__main__":
-    if sys.argv[1:] not in (["rows"], ["minimals"]):
+    printers = {"thirteen": lambda: code(13), "fourteen": lambda: code(14), "lists": lists, "minimals": minimal_lists}
+    if len(sys.argv) != 2 or sys.argv[1] not in printers:
         sys.exit(__doc__)
-    print(rows() if sys.argv[1] == "rows" else lists(), end="")
+    print(printers[sys.argv[1]](), end="")

@@ -88,7 +88,7 @@ pub fn parity_by_bits(
     at: usize,
     n: usize,
 ) -> Register
-    requires { ⌜ (t % 2 ≡ 0) × (0 < t) × (t ≤ 40) × (register (state .words) < 2 ^ (degree f * t)) × (at + n < 18446744073709551616) ⌝ }
+    requires { ⌜ (t % 2 ≡ 0) × (0 < t) × (t ≤ 62) × (register (state .words) < 2 ^ (degree f * t)) × (at + n < 18446744073709551616) ⌝ }
     ensures { λ r. ⌜ register (r .words)
         ≡ parityFrom (degree f * t) (generator f t) (register (state .words)) (run (bitOf (now (bytes .entry))) at n) ⌝ }
 {

@@ -8,9 +8,9 @@
 //   feed       runs of bits of a byte slice fed by a table: words of 64 bits, and the odd bits at the end in one step
 //   bitwise    the same bit by bit, with no table
 //
-// Both ways the register is moved up so that it fills four, nine or fourteen words, and moved down at the end. What a remainder is stands in the crates
-// `remainder` and `code`, what a table is in `division_table`; proofs/ has the laws: Steps (the steps by a table), Single (the steps bit by
-// bit), Level (what is moved up to whole words).
+// Both ways the register is moved up so that it fills four, nine or fourteen words, and moved down at the end. What a remainder is stands
+// in the crates `remainder` and `code`, what a table is in `division_table`; proofs/ has the laws: Steps (the steps by a table), Single (the
+// steps bit by bit), Level (what is moved up to whole words).
 pub mod bitwise;
 mod feed;
 pub mod runs;

@@ -5,7 +5,7 @@ use mathlib.Core.List.{List}
 use Prim.Native.Nat.{ℕ, _+_, _-_, _*_, _/_, _%_, _^_, _<_, _≤_}
 use native.Mathlib.Omega.{arith}
 use native.Mathlib.Decide.{decLt}
-use native.Mathlib.Nat.{mul-le-mul, one-mul}
+use native.Mathlib.Nat.{one-mul}
 use borrow.Author.Tests.{le-leb, lt-leb}
 use lib.Dec.{leb}
 use lib.ListN.{length}
@@ -15,7 +15,7 @@ use Rattle.field.specs.Field.{degree}
 use Rattle.code.specs.Generator.{generator}
 use Rattle.code.specs.Register.{low, register}
 use Rattle.code.proofs.Generator.{generator-monic}
-use Rattle.remainder.proofs.Fold.{degree-most}
+use Rattle.remainder.proofs.Fold.{parity-bits-below}
 use Rattle.remainder.proofs.Words.{Words, low-lt, register-mod}
 use Rattle.remainder.specs.Parity.{rest}
 use Rattle.remainder.proofs.Parity.{rest-one}
@@ -43,9 +43,6 @@ width-room d h = elim (decLt 256 d) [
   | no l ↦ rw (le-leb d 256 (omega arith)) (omega arith)
 ]
 
-pub level-degree : (f : Field) (t : ℕ) → t ≤ 62 → degree f * t ≤ 868
-level-degree f t l = mul-le-mul (degree-most f) l
-
 -- u words for the degree d of the level t
 module _ (f : Field) (t : ℕ) (most : t ≤ 62) {d u : ℕ} (ed : d ≡ degree f * t) (eu : u ≡ width d) where
   pub level-wide : RowWords u
@@ -56,7 +53,7 @@ module _ (f : Field) (t : ℕ) (most : t ≤ 62) {d u : ℕ} (ed : d ≡ degree 
 
   pub level-room : d ≤ 64 * u
   level-room =
-      let m = level-degree f t most in
+      let m = parity-bits-below f t most in
       rw eu (width-room d (omega arith))
 
 -- the generator moved up to fill them; its highest coefficient is left out, for which a register need not have room

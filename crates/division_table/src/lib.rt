@@ -45,7 +45,7 @@ pub fn row_words(degree: usize) -> usize
 
 // The generator of the level t moved up to fill the words of a row, without its highest coefficient.
 pub fn divisor_row(f: Field, t: usize) -> [u64; 14]
-    requires { ⌜ (t % 2 ≡ 0) × (t ≤ 40) ⌝ }
+    requires { ⌜ (t % 2 ≡ 0) × (t ≤ 62) ⌝ }
     ensures { λ r. ⌜ 2 ^ (64 * width (degree f * t)) + low r (width (degree f * t)) ≡ generator f t * 2 ^ gap (degree f * t) ⌝ }
 {
     let degree = parity_bits(f, t);
@@ -58,7 +58,7 @@ pub fn divisor_row(f: Field, t: usize) -> [u64; 14]
 
 // Makes the table of the generator of the level t. At t = 0 there is nothing to divide by, and none is made.
 pub fn make_table(f: Field, t: usize, table: &mut [u64])
-    requires { ⌜ (t % 2 ≡ 0) × (t ≤ 40) × (3600 ≤ length (now table)) ⌝ }
+    requires { ⌜ (t % 2 ≡ 0) × (t ≤ 62) × (3600 ≤ length (now table)) ⌝ }
     ensures { λ r. ⌜ Table f t (now (table .exit)) ⌝ }
 {
     if t == 0 {

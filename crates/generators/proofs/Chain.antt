@@ -1,4 +1,4 @@
--- A table of generators is tested once, by a chain: each row is the one before times the next two minimal polynomials.
+-- A list of generators is tested once, by a chain: each row is the one before times the next two minimal polynomials.
 use mathlib.Core.Path.{_≡_, refl, ap, _∙_}
 use mathlib.Core.Bool.{Bool, true, false, _&&_}
 use mathlib.Core.List.{List, [], _∷_}
@@ -12,7 +12,6 @@ use Rattle.field.specs.declared.Field.{Field}
 use Rattle.field.specs.Field.{degree}
 use Rattle.code.specs.Generator.{times, minimals, generator}
 use Rattle.code.specs.Register.{register}
-use Rattle.generators.specs.Rows.{Generators}
 use Rattle.code.proofs.Test.{and-left, and-right}
 
 unfoldable pub chained : Field → ℕ → List ℕ → List (List ℕ) → Bool
@@ -51,7 +50,7 @@ module _ (f : Field) where
       go c (suc k) l = let d : t + 2 * suc (suc k) ≡ suc (suc t) + 2 * suc k = omega arith in rw d (c k (omega arith))
 
   -- Row k is the generator of the level 2 (k + 1).
-  pub chained-rows : (rows : List (List ℕ)) → T (chained f 1 (minimals f) rows) → (k : ℕ) → k < length rows → register (getD rows k []) ≡ generator f (2 * (k + 1))
+  chained-rows : (rows : List (List ℕ)) → T (chained f 1 (minimals f) rows) → (k : ℕ) → k < length rows → register (getD rows k []) ≡ generator f (2 * (k + 1))
   chained-rows rows u k l =
       chained-from 1 0 (minimals f) rows (unfold generator in refl) (λ i. ap (λ n. getD (minimals f) n 0) (at i)) u k l
       ∙ (let e : 0 + 2 * suc k ≡ 2 * (k + 1) = omega arith in rw e)
@@ -59,5 +58,14 @@ module _ (f : Field) where
       at : (i : ℕ) → i ≡ 0 + i
       at i = omega arith
 
-  pub chained-generators : {rows : List (List ℕ)} → length rows ≡ 20 → T (chained f 1 (minimals f) rows) → Generators f rows
-  chained-generators {rows} l u = record { row = λ k m. chained-rows rows u k (omega arith) }
+-- A whole list begins with the generator of the level 0, which is 1.
+unfoldable pub tested : Field → List (List ℕ) → Bool
+tested f [] = true
+tested f (row ∷ rows) = eqb (register row) 1 && chained f 1 (minimals f) rows
+
+pub tested-rows : (f : Field) (rows : List (List ℕ)) → T (tested f rows) → (k : ℕ) → k < length rows → register (getD rows k []) ≡ generator f (2 * k)
+unfolding tested
+tested-rows f [] u k l = absurd (omega arith)
+tested-rows f (row ∷ rows) u zero l = eqb→eq (register row) 1 (and-left (eqb (register row) 1) (chained f 1 (minimals f) rows) u) ∙ (unfold generator in refl)
+tested-rows f (row ∷ rows) u (suc k) l =
+    chained-rows f rows (and-right (eqb (register row) 1) (chained f 1 (minimals f) rows) u) k (omega arith) ∙ ap (λ n. generator f (2 * n)) (add-one k)

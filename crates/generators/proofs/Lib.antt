@@ -1,3 +1,3 @@
--- The laws of the table of generators.
-mod Register
+-- The laws of the stored generators.
 mod Chain
+mod Stored

@@ -12,10 +12,10 @@ use Rattle.layout.specs.declared.Shape.{Shape}
 use Rattle.layout.specs.declared.Plan.{Plan}
 use Rattle.layout.specs.Plan.{Valid}
 
--- The stored generators are those of t = 0, 2, 4, .., 40 (document 01, "Layout words": t is twice the level field).
+-- The stored generators are those of t = 0, 2, 4, .., 62 (document 01, "Layout words": t is twice the level field).
 pub record Stored (s : Shape) : Type 0 where
   pub even : s .level % 2 ≡ 0
-  pub small : s .level ≤ 40
+  pub small : s .level ≤ 62
 
 -- A valid plan of at least one block, whose blocks have stored generators, and whose numbers are as small as those of a layout record.
 pub record Planned (q : Plan) : Type 0 where

@@ -19,7 +19,7 @@ ghost use Rattle.piece_parity.specs.Carried.{bitsOf, carried};
 
 // By the table of the level, which is made here.
 fn parity_by_table(f: Field, t: usize, state: Register, piece: &[u8], n: usize) -> Register
-    requires { ⌜ (t % 2 ≡ 0) × (0 < t) × (t ≤ 40) × (register (state .words) < 2 ^ (degree f * t)) ⌝ }
+    requires { ⌜ (t % 2 ≡ 0) × (0 < t) × (t ≤ 62) × (register (state .words) < 2 ^ (degree f * t)) ⌝ }
     ensures { λ r. ⌜ register (r .words)
         ≡ parityFrom (degree f * t) (generator f t) (register (state .words)) (run (bitOf (now (piece .entry))) 0 n) ⌝ }
 {
@@ -30,7 +30,7 @@ fn parity_by_table(f: Field, t: usize, state: Register, piece: &[u8], n: usize) 
 
 // The parity of some bits and of the bits of a piece after them, for the level t = 2 level. Where t = 0 there is none.
 pub fn carried(f: Field, level: usize, state: Register, piece: &[u8]) -> Register
-    requires { ⌜ (level ≤ 20) × (register (state .words) < 2 ^ (degree f * (2 * level))) × (0 < level → length (now piece) < 65536) ⌝ }
+    requires { ⌜ (level ≤ 31) × (register (state .words) < 2 ^ (degree f * (2 * level))) × (0 < level → length (now piece) < 65536) ⌝ }
     ensures { λ r. ⌜ register (r .words) ≡ carried f (2 * level) (register (state .words)) (bitsOf (now (piece .entry))) ⌝ }
 {
     if level == 0 {

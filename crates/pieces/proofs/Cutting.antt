@@ -67,7 +67,7 @@ bitsOf-append p q =
     rw n (run-append (bitOf (p ++ q)) 0 (8 * length p) (8 * length q) ∙ ap₂ _++_ first second)
 
 -- What is carried has room in fourteen words.
-room : (f : Field) (level x : ℕ) → level ≤ 20 → x < 2 ^ (degree f * (2 * level)) → register (wordsOf x) ≡ x
+room : (f : Field) (level x : ℕ) → level ≤ 31 → x < 2 ^ (degree f * (2 * level)) → register (wordsOf x) ≡ x
 room f level x h l =
     let b = parity-bits-below f (2 * level) (omega arith) in
     register-words x (lt-of-lt-of-le l (pow-mono {j = 896} (omega arith)))
@@ -80,7 +80,7 @@ module _ (f : Field) (s : State) (going : Going f s) where
 
   after-register : (p : List ℕ) → register (after f s p .words) ≡ carried f (2 * s .level) (register (s .words)) (bitsOf p)
   unfolding after
-  after-register p = room f (s .level) _ level-small (carried-below f (2 * s .level) (let l = level-small in omega arith) (register (s .words)) (bitsOf p) (going .below))
+  after-register p = room f (s .level) _ (let l = level-small in omega arith) (carried-below f (2 * s .level) (let l = level-small in omega arith) (register (s .words)) (bitsOf p) (going .below))
 
   after-going : (p : List ℕ) → s .fed + length p ≤ s .size → Going f (after f s p)
   unfolding after
@@ -163,7 +163,7 @@ module _ (f : Field) (level n : ℕ) (right : startReply f level n ≡ 0) where
 
   state-register : (l : List ℕ) → register (stateOf f level n l .words) ≡ remainder f (2 * level) (bitsOf l ++ replicate (degree f * (2 * level)) false)
   unfolding stateOf
-  state-register l = room f level _ low (below l)
+  state-register l = room f level _ (let h = low in omega arith) (below l)
 
   state-going : (l : List ℕ) → length l ≤ n → Going f (stateOf f level n l)
   unfolding stateOf
@@ -254,7 +254,7 @@ module _ (f : Field) (level n : ℕ) (right : startReply f level n ≡ 0) where
   cutting s ps b e k = rw (start-state s, feeds-state [] ps (omega arith)) (finish-state (joined ps) b e k)
 
 -- The last mt bits of a parity's bytes are the parity; the bits before them are zeros.
-pub parity-last : (f : Field) (level : ℕ) (l : List ℕ) → level ≤ 20
+pub parity-last : (f : Field) (level : ℕ) (l : List ℕ) → level ≤ 31
     → run (bitOf (parityIn f (2 * level) l)) (8 * bytesFor (degree f * (2 * level)) - degree f * (2 * level)) (degree f * (2 * level)) ≡ parity f (2 * level) (bitsOf l)
 unfolding parityIn bytesOf bytesFor parity
 parity-last f level l h =

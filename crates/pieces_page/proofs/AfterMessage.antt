@@ -91,4 +91,4 @@ module _ (rec : List ℕ) (q : Plan) (accepted : Accepts rec q) (m d page : List
 
     pub parity-after-message : run (bitOf (finished s (field q b) ecc ps buffer .parity)) (8 * length buffer - degree (field q b) * level q b) (degree (field q b) * level q b)
         ≡ run (streamBit (q .mark) (writeOf rec m d page .page)) (start q b + bits q b) (degree (field q b) * level q b)
-    parity-after-message = rw (stands, ended, room, ← given .bits, given .twice) (unfold calls.finished in parity-last (field q b) ecc (joined ps) low)
+    parity-after-message = rw (stands, ended, room, ← given .bits, given .twice) (unfold calls.finished in parity-last (field q b) ecc (joined ps) (let h = low in omega arith))

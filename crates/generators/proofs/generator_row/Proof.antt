@@ -1,37 +1,34 @@
--- `generators::generator_row` meets its contract: a row of the table is the generator of its level.
-use mathlib.Core.Path.{_≡_, _∙_}
-use Prim.Native.Nat.{ℕ, _+_, _-_, _*_}
-use native.Mathlib.Omega.{arith}
+-- `generators::generator_row` meets its contract: a stored row is the generator of its level.
+use mathlib.Core.Path.{ap, _∙_}
 use borrow.Author.Needs.{needs}
-use Rattle.code.specs.Generator.{generator}
-use Rattle.code.specs.Register.{register, low}
+use Rattle.field.specs.declared.Field.the-variants.{Thirteen, Fourteen}
+use Rattle.code.specs.Register.{register}
+use Rattle.generators.proofs.Stored.{row-generates}
 use Rattle.generators.proofs.generator_row.Statement.{statement}
 use Rattle.generators.proofs.generator_row.Tie as tie
 
+enum-told : tie.Need-enum-told
+enum-told c = search needs
+
+row-requires : tie.Need-row-requires
+row-requires c κs = search needs
+
+enum-told-2 : tie.Need-enum-told-2
+enum-told-2 c = search needs
+
+row-requires-2 : tie.Need-row-requires-2
+row-requires-2 c κs = search needs
+
 returns : tie.Need-returns
-unfolding register low generator
-returns c = rw (c .if1 .taken)
-
-rows-requires : tie.Need-rows-requires
-rows-requires c κs = search needs
-
-sub-k : tie.Need-sub-k
-sub-k c = search needs
-
-mul-widened : tie.Need-mul-widened
-mul-widened c = search needs
-
-array-copy-out-widened : tie.Need-array-copy-out-widened
-array-copy-out-widened c = search needs
-
-widened-requires : tie.Need-widened-requires
-widened-requires c κs = search needs
+returns c =
+    let a = c .before .before .before in
+    rw (c .before .enum-told .given .1) (ap register (c .row .ensures) ∙ row-generates Thirteen (a .args .ecc) (a .pre))
 
 returns-2 : tie.Need-returns-2
 returns-2 c =
-    let ecc : ℕ = c .before .before .before .before .args .ecc in
-    let e : 2 * (ecc - 1 + 1) ≡ 2 * ecc = omega arith in
-    c .widened .ensures ∙ c .before .before .rows .ensures .row (ecc - 1) (omega arith) ∙ rw e
+    let a = c .before .before .before in
+    rw (c .before .enum-told2 .given .1) (ap register (c .row2 .ensures) ∙ row-generates Fourteen (a .args .ecc) (a .pre))
 
 pub generator-row-spec : {M : Type 1} → statement M
-generator-row-spec = tie.close (tie.spec returns rows-requires sub-k mul-widened array-copy-out-widened widened-requires returns-2)
+generator-row-spec =
+    tie.close (tie.spec enum-told row-requires enum-told-2 row-requires-2 returns returns-2)

@@ -1,6 +1,6 @@
 use native.Mathlib.Omega.{arith}
 use borrow.Author.Needs.{needs}
-use Rattle.division_table.proofs.Level.{level-degree}
+use Rattle.remainder.proofs.Fold.{parity-bits-below}
 use Rattle.division.proofs.Level.{remainder-number, remainder-parts}
 use Rattle.division.proofs.runs.remainder_of.Statement.{statement}
 use Rattle.division.proofs.runs.remainder_of.Tie as tie
@@ -13,7 +13,7 @@ number-at-requires c κs =
     let b = c .before in
     let a = b .before .before .before in
     let e = b .parity-bits .ensures in
-    let m = level-degree (a .args .f) (a .args .t) (a .pre .0 .level) in
+    let m = parity-bits-below (a .args .f) (a .args .t) (a .pre .0 .level) in
     (omega arith, a .pre .1)
 
 returns : tie.Need-returns
@@ -34,7 +34,7 @@ number-at-requires-2 c κs =
     let b = c .before .before in
     let a = b .before .before .before in
     let e = b .parity-bits .ensures in
-    let m = level-degree (a .args .f) (a .args .t) (a .pre .0 .level) in
+    let m = parity-bits-below (a .args .f) (a .args .t) (a .pre .0 .level) in
     (omega arith, omega arith)
 
 added-requires : tie.Need-added-requires

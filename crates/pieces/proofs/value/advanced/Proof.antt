@@ -1,6 +1,7 @@
 use Rattle.pieces.specs.State.{after}
 use Rattle.pieces.proofs.Words.{words-number}
 use Rattle.pieces.proofs.Replies.{usable-going, usable-level, piece-short}
+use native.Mathlib.Omega.{arith}
 use borrow.Author.Needs.{needs}
 use Rattle.pieces.proofs.value.advanced.Statement.{statement}
 use Rattle.pieces.proofs.value.advanced.Tie as tie
@@ -8,7 +9,8 @@ use Rattle.pieces.proofs.value.advanced.Tie as tie
 carried-requires : tie.Need-carried-requires
 carried-requires c κs =
     let s = c .before .before in
-    (usable-level _ _ (s .pre .0), usable-going _ _ (s .pre .0) .below, λ l. piece-short _ _ (s .pre .0) _ (s .pre .1) l)
+    let l = usable-level _ _ (s .pre .0) in
+    (omega arith, usable-going _ _ (s .pre .0) .below, λ l. piece-short _ _ (s .pre .0) _ (s .pre .1) l)
 
 add-t11 : tie.Need-add-t11
 add-t11 c = search needs
