@@ -51,16 +51,21 @@ static const char *const side_names[SIDES] = { "ours", "O2", "O3" };
 
 struct layout {
 	const char *name;
+	uint64_t edition;
 	uint8_t record[8];
 	unsigned m, t, blocks, data_bytes, parity_bits, page_bytes;
 };
 
-/* A: m = 13, t = 16, 8 blocks of 512 bytes. B: m = 14, t = 40, 4 blocks of 1,024 bytes. No metadata, pages with no tail byte to spare. */
+/*
+ * A: m = 13, t = 16, 8 blocks of 512 bytes. B: m = 14, t = 40, 4 blocks of 1,024 bytes. C: m = 14, t = 60, 4 blocks of 1,024 bytes, in edition 2, which
+ * alone has levels above 40. No metadata, pages with no tail byte to spare.
+ */
 static struct layout make_layout(const char *name, unsigned m, unsigned t, unsigned blocks, unsigned data_bytes)
 {
 	struct layout l = { .name = name, .m = m, .t = t, .blocks = blocks, .data_bytes = data_bytes, .parity_bits = m * t };
 	unsigned half = (t / 2) << 11 | (m - 13) << 10 | data_bytes / 4;
 
+	l.edition = t > 40 ? 2 : 1;
 	l.page_bytes = (blocks * (8 * data_bytes + l.parity_bits) + 7) / 8;
 	l.record[0] = blocks - 1;
 	l.record[1] = 0;
@@ -103,7 +108,7 @@ static unsigned data_length(const struct bench *b)
 
 static uint64_t write_ours(struct bench *b)
 {
-	return rudderfig_write_page(b->l.record, 8, NULL, 0, b->data, data_length(b), b->clean, b->l.page_bytes);
+	return rudderfig_write_page(b->l.edition, b->l.record, 8, NULL, 0, b->data, data_length(b), b->clean, b->l.page_bytes);
 }
 
 static void write_kernel(struct bench *b, unsigned build)
@@ -117,12 +122,12 @@ static void write_kernel(struct bench *b, unsigned build)
 
 static uint64_t look_ours(struct bench *b)
 {
-	return rudderfig_look_page(b->l.record, 8, b->page, b->l.page_bytes, b->counts, b->l.blocks);
+	return rudderfig_look_page(b->l.edition, b->l.record, 8, b->page, b->l.page_bytes, b->counts, b->l.blocks);
 }
 
 static uint64_t take_ours(struct bench *b)
 {
-	return rudderfig_take_page(b->l.record, 8, b->page, b->l.page_bytes, NULL, 0, b->out, data_length(b));
+	return rudderfig_take_page(b->l.edition, b->l.record, 8, b->page, b->l.page_bytes, NULL, 0, b->out, data_length(b));
 }
 
 /* The zeros of some bytes, eight bytes at a time. Words of ones are passed over, and the count stops above `most`, as in the kernel's drivers. */
@@ -452,7 +457,7 @@ static void growth(void)
 
 int main(int argc, char **argv)
 {
-	static const unsigned flips_a[] = { 1, 4, 8, 16 }, flips_b[] = { 1, 4, 8, 16, 40 };
+	static const unsigned flips_a[] = { 1, 4, 8, 16 }, flips_b[] = { 1, 4, 8, 16, 40 }, flips_c[] = { 1, 4, 8, 16, 40, 60 };
 	const char *mode = argc == 2 ? argv[1] : "";
 	bool counting = strcmp(mode, "count") == 0;
 
@@ -464,5 +469,6 @@ int main(int argc, char **argv)
 		fail("usage: bench times | count | growth");
 	bench_layout(make_layout("A", 13, 16, 8, 512), flips_a, 4, counting);
 	bench_layout(make_layout("B", 14, 40, 4, 1024), flips_b, 5, counting);
+	bench_layout(make_layout("C", 14, 60, 4, 1024), flips_c, 6, counting);
 	return 0;
 }

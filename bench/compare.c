@@ -1,7 +1,8 @@
 /*
  * Compares this library with lib/bch.c of the Linux kernel, a program of other authors, on the same words.
  *
- *   compare [SEED [PAGES]]    PAGES pages and as many remainders for each of the forty codes (m = 13, 14; t = 2, 4, .., 40)
+ *   compare [SEED [PAGES]]    PAGES pages and as many remainders for each of the sixty-two codes (m = 13, 14; t = 2, 4, .., 62), those with t up to 40
+ *                             in edition 1 and the others in edition 2
  *
  * For each page: every block's parity, in the page and from its message in pieces, beside bch_encode's; then every block is damaged by 0 to t + 2
  * flips, and what rudderfig_judge_block, rudderfig_locate_errors, rudderfig_look_page and rudderfig_take_page answer stands beside bch_decode's. Then
@@ -25,10 +26,11 @@ void search_free(struct bch_control *bch);
 int search_decode(struct bch_control *bch, const uint8_t *data, unsigned int len, const uint8_t *recv_ecc, const uint8_t *calc_ecc,
 		  const unsigned int *syn, unsigned int *errloc);
 
-enum { MAX_BYTES = 2048, MAX_PARITY = 72, MAX_T = 40, MAX_PLACES = 128, MAX_BLOCKS = 4, REFUSED = -1 };
+enum { MAX_BYTES = 2048, MAX_PARITY = 112, MAX_T = 62, MAX_PLACES = 128, MAX_BLOCKS = 4, REFUSED = -1 };
 
 /* One of the codes, and what was compared of it. */
 struct code {
+	uint64_t edition;
 	unsigned m, t, parity_bits, parity_bytes, longest;
 	struct bch_control *kernel, *search;
 	unsigned long parities, near, ruined, remainders, wrong_lists;
@@ -160,7 +162,7 @@ static struct places by_rudderfig(const struct code *c, const struct word *w, co
 	uint64_t answer;
 
 	to_the_right(c, remainder, right);
-	answer = rudderfig_locate_errors(c->t / 2, c->m - 13, w->bits, right, c->parity_bytes, p.exponents, MAX_PLACES);
+	answer = rudderfig_locate_errors(c->edition, c->t / 2, c->m - 13, w->bits, right, c->parity_bytes, p.exponents, MAX_PLACES);
 	p.count = rudderfig_reply(answer) == RUDDERFIG_DONE ? (int)rudderfig_value(answer) : REFUSED;
 	if (p.count == REFUSED && rudderfig_reply(answer) != RUDDERFIG_UNCORRECTABLE)
 		differ(c, w, "rudderfig_locate_errors did not take the word");
@@ -280,7 +282,7 @@ static void compare_pieces(struct code *c, const struct word *w, const uint8_t *
 {
 	struct rudderfig_parity pieces;
 	uint8_t found[MAX_PARITY], wanted[MAX_PARITY];
-	uint64_t answer = rudderfig_parity_start(&pieces, c->t / 2, c->m - 13, w->bytes);
+	uint64_t answer = rudderfig_parity_start(&pieces, c->edition, c->t / 2, c->m - 13, w->bytes);
 
 	for (unsigned fed = 0; fed < w->bytes && rudderfig_reply(answer) == RUDDERFIG_DONE;) {
 		unsigned piece = below(w->bytes - fed + 1);
@@ -300,7 +302,7 @@ static void compare_written(struct code *c, struct page *p)
 {
 	const uint8_t *data = p->data;
 	uint8_t wanted[MAX_BYTES], parity[MAX_PARITY];
-	uint64_t answer = rudderfig_write_page(p->record, 8, p->metadata, p->metadata_bytes, p->data, data_length(p), p->bytes, p->page_bytes);
+	uint64_t answer = rudderfig_write_page(c->edition, p->record, 8, p->metadata, p->metadata_bytes, p->data, data_length(p), p->bytes, p->page_bytes);
 
 	if (rudderfig_reply(answer) != RUDDERFIG_DONE)
 		differ(c, &p->words[0], "the page was not written");
@@ -345,7 +347,7 @@ static struct places compare_block(struct code *c, struct page *p, unsigned b)
 	struct word *w = &p->words[b];
 	struct places ours;
 	uint8_t remainder[MAX_PARITY];
-	uint64_t answer = rudderfig_judge_block(p->record, 8, p->bytes, p->page_bytes, b);
+	uint64_t answer = rudderfig_judge_block(c->edition, p->record, 8, p->bytes, p->page_bytes, b);
 
 	take_word(p->bytes, p->starts[b], w);
 	remainder_of(c, w, remainder);
@@ -375,7 +377,7 @@ static bool names_lowest(const struct page *p, const struct places *found, uint6
 static void compare_look(struct code *c, struct page *p, const struct places *found)
 {
 	uint8_t counts[MAX_BLOCKS];
-	uint64_t answer = rudderfig_look_page(p->record, 8, p->bytes, p->page_bytes, counts, p->blocks);
+	uint64_t answer = rudderfig_look_page(c->edition, p->record, 8, p->bytes, p->page_bytes, counts, p->blocks);
 
 	if (!names_lowest(p, found, answer))
 		differ(c, &p->words[0], "looking at the page does not answer by its lowest ruined block");
@@ -388,7 +390,7 @@ static void compare_look(struct code *c, struct page *p, const struct places *fo
 static void compare_take(struct code *c, struct page *p, const struct places *found)
 {
 	uint8_t metadata[256], data[MAX_BLOCKS * MAX_BYTES], *out = data;
-	uint64_t answer = rudderfig_take_page(p->record, 8, p->bytes, p->page_bytes, metadata, p->metadata_bytes, data, data_length(p));
+	uint64_t answer = rudderfig_take_page(c->edition, p->record, 8, p->bytes, p->page_bytes, metadata, p->metadata_bytes, data, data_length(p));
 
 	if (!names_lowest(p, found, answer))
 		differ(c, &p->words[0], "taking the page does not answer by its lowest ruined block");
@@ -439,7 +441,7 @@ static void open_code(struct code *c, unsigned m, unsigned t)
 {
 	unsigned polynomial = m == 13 ? 0x201B : 0x402B;
 
-	*c = (struct code){ .m = m, .t = t, .parity_bits = m * t, .parity_bytes = (m * t + 7) / 8 };
+	*c = (struct code){ .edition = t > 40 ? 2 : 1, .m = m, .t = t, .parity_bits = m * t, .parity_bytes = (m * t + 7) / 8 };
 	c->kernel = bch_init(m, t, polynomial, false);
 	c->search = search_init(m, t, polynomial, false);
 	if (!c->kernel || !c->search || c->kernel->ecc_bits != c->parity_bits) {

@@ -9,6 +9,9 @@
  * For callers of rudderfig_read_page, which is gone: call rudderfig_look_page for the counts, then rudderfig_take_page for metadata and data, and
  * test both replies; after reply 9 the counts no longer hold what they held, but the count of every block, 255 for a ruined one.
  *
+ * For callers of a header in which no call has an edition: hand in 1 before the record or the level field, in rudderfig_parity_start behind the state,
+ * and every answer is as it was. The calls on fragments, rudderfig_parity_feed and rudderfig_parity_finish stay as they are.
+ *
  *
  * The answer word
  *
@@ -21,8 +24,8 @@
  *
  * On a refusal kind and value are 0, and every lent buffer is byte for byte as it was, but for the counts of rudderfig_look_page that replies 9:
  * document 02, E6, has amended document 01 so in this one case. Of several reasons the smallest number is given, but 11 is looked at after 3 and
- * before 4; only a field choice that is not offered (7) comes before everything else, and the length of a layout record (6) before what the record
- * says.
+ * before 4; only an edition or a field choice that is not offered (7) comes before everything else, and the length of a layout record (6) before what
+ * the record says.
  *
  *
  * What is lent
@@ -32,6 +35,10 @@
  * A buffer that the call may write does not overlap any other buffer of the call. Nothing is kept after the call, and nothing is shared between
  * calls: there are no variables outside the stack and no heap, so calls may run at the same time on different buffers.
  * Numbers are taken at 64 bits and never cut: a block number of 2^32 is out of range.
+ *
+ * The edition, 1 or 2, says which level fields there are: up to 0x14 in edition 1, up to 0x1F in edition 2. t is twice the level field, so at most 40 or
+ * 62. The edition is part of the layout: a page is read under the one that it was written under. Another edition is 7, looked at before the length of
+ * the record too.
  *
  * A layout record is two 32-bit words in eight bytes, or three in twelve, word 0 first, each most significant byte first. The third word tells where
  * the factory's bad-block mark stands in the page: its offset (16 bits) and its length (8 bits), both in bytes, and eight zero bits. Eight bytes mean
@@ -79,13 +86,13 @@ typedef uint64_t rudderfig_length;
 
 enum rudderfig_reply_number {
     RUDDERFIG_DONE = 0,
-    RUDDERFIG_LEVEL_TOO_HIGH = 1,      /* a level field above 0x14; for fragments, one that the locator does not have */
+    RUDDERFIG_LEVEL_TOO_HIGH = 1,      /* a level field above 0x14, in edition 2 above 0x1F; for fragments, one that the locator does not have */
     RUDDERFIG_EMPTY_MESSAGE = 2,       /* a block with an empty message; a remainder of a code with no message */
     RUDDERFIG_BLOCK_TOO_LONG = 3,      /* a block with t > 0 longer than 2^m - 1 bits */
     RUDDERFIG_PAGE_TOO_SMALL = 4,      /* the blocks need more than 8 * (PAGE_SIZE - mark length) bits */
     RUDDERFIG_PAGE_LENGTH = 5,         /* the lent page has another length than PAGE_SIZE */
     RUDDERFIG_BUFFER_LENGTH = 6,       /* another lent buffer has a wrong length */
-    RUDDERFIG_OUT_OF_RANGE = 7,        /* a block number, page bit, exponent or field choice outside its range */
+    RUDDERFIG_OUT_OF_RANGE = 7,        /* an edition, block number, page bit, exponent or field choice outside its range */
     RUDDERFIG_REMAINDER_TOO_WIDE = 8,  /* a remainder, or fragments, with a one above bit mt - 1 */
     RUDDERFIG_UNCORRECTABLE = 9,       /* no codeword within t flips, and not erased; for a page the lowest such block is named */
     RUDDERFIG_CLAIM_WRONG = 10,        /* the claimed locations are wrong */
@@ -141,30 +148,32 @@ static inline int rudderfig_is_erased(uint32_t count) { return count >= 128 && c
 static inline unsigned rudderfig_zeros(uint32_t count) { return rudderfig_is_erased(count) ? count - 128 : 0; }
 
 /*
- * Is this layout acceptable? Reads the record. Replies 0 to 4, 6 and 11; no value.
+ * Is this layout acceptable? Reads the record. Replies 0 to 4, 6, 11, and 7 for another edition; no value.
  */
-uint64_t rudderfig_check_layout(const uint8_t *record, rudderfig_length record_len);
+uint64_t rudderfig_check_layout(uint64_t edition, const uint8_t *record, rudderfig_length record_len);
 
 /*
  * Where does the page bit at `position` belong? Reads the record.
  * Kind 0: a covered bit, the value is located block << 16 | exponent. Kind 1: in the tail after the last block, the value is 0. Kind 2: in the mark,
- * the value is 0. Replies 0 to 4, 6, 11, and 7 for a position of 8 * PAGE_SIZE or more.
+ * the value is 0. Replies 0 to 4, 6, 11, and 7 for another edition or a position of 8 * PAGE_SIZE or more.
  */
-uint64_t rudderfig_locate_bit(const uint8_t *record, rudderfig_length record_len, uint64_t position);
+uint64_t rudderfig_locate_bit(uint64_t edition, const uint8_t *record, rudderfig_length record_len, uint64_t position);
 
 /*
  * Where does the coefficient of x^exponent of a block lie? Reads the record. The value is the position in the page.
- * Replies 0 to 4, 6, 11, and 7 for a block that the layout does not have or an exponent of the block's length or more.
+ * Replies 0 to 4, 6, 11, and 7 for another edition, a block that the layout does not have or an exponent of the block's length or more.
  */
-uint64_t rudderfig_bit_position(const uint8_t *record, rudderfig_length record_len,
+uint64_t rudderfig_bit_position(uint64_t edition,
+                                const uint8_t *record, rudderfig_length record_len,
                                 uint64_t block, uint64_t exponent);
 
 /*
  * Writes a page: every block with its parity, the tail bits as ones. Reads record, metadata and data; writes all of `page` but the mark's bytes, and
  * only on reply 0. The mark's bytes keep what they held: to leave the factory's mark in flash as it is, lend a page that has it there, as read from
- * the chip, or bytes of 0xFF, which program nothing. Replies 0 to 6 and 11; no value.
+ * the chip, or bytes of 0xFF, which program nothing. Replies 0 to 6, 11, and 7 for another edition; no value.
  */
-uint64_t rudderfig_write_page(const uint8_t *record, rudderfig_length record_len,
+uint64_t rudderfig_write_page(uint64_t edition,
+                              const uint8_t *record, rudderfig_length record_len,
                               const uint8_t *metadata, rudderfig_length metadata_len,
                               const uint8_t *data, rudderfig_length data_len,
                               uint8_t *page, rudderfig_length page_len);
@@ -172,29 +181,32 @@ uint64_t rudderfig_write_page(const uint8_t *record, rudderfig_length record_len
 /*
  * Looks at a page: one count a block, before anything is taken. Reads record and page; writes all of `counts`, on reply 0 and on reply 9. counts[b] is
  * the number of covered bits, data or parity, in which block b and the codeword within t flips of it differ; 128 plus its zeros where the block is
- * erased; 255 where it is ruined. Replies 0 to 6, 11, and 9 with the lowest ruined block: the one refusal of this header that writes, the counts of
- * all blocks, those behind a ruined one too. 1 to 6 and 11 write nothing. A page of all ones is never refused. No value.
+ * erased; 255 where it is ruined. Replies 0 to 6, 11, 7 for another edition, and 9 with the lowest ruined block: the one refusal of this header that
+ * writes, the counts of all blocks, those behind a ruined one too. 1 to 7 and 11 write nothing. A page of all ones is never refused. No value.
  */
-uint64_t rudderfig_look_page(const uint8_t *record, rudderfig_length record_len,
+uint64_t rudderfig_look_page(uint64_t edition,
+                             const uint8_t *record, rudderfig_length record_len,
                              const uint8_t *page, rudderfig_length page_len,
                              uint8_t *counts, rudderfig_length counts_len);
 
 /*
  * Takes metadata and data out of a page: of each block the message of the codeword within t flips of it, or bytes of 0xFF where it is erased. Reads
- * record and page; writes all of `metadata` and `data`, and only on reply 0, once every block is decided. Replies 0 to 6, 11, and 9 with the lowest
- * ruined block, as looking at the same page does; no value. A look need not come before it.
+ * record and page; writes all of `metadata` and `data`, and only on reply 0, once every block is decided. Replies 0 to 6, 11, 7 for another
+ * edition, and 9 with the lowest ruined block, as looking at the same page does; no value. A look need not come before it.
  */
-uint64_t rudderfig_take_page(const uint8_t *record, rudderfig_length record_len,
+uint64_t rudderfig_take_page(uint64_t edition,
+                             const uint8_t *record, rudderfig_length record_len,
                              const uint8_t *page, rudderfig_length page_len,
                              uint8_t *metadata, rudderfig_length metadata_len,
                              uint8_t *data, rudderfig_length data_len);
 
 /*
  * Judges one block of a page. Reads record and page, of the page no other bits than the block's; writes nothing. The value is the count that looking
- * at the page gives for it: its flips, or 128 plus its zeros. Replies 0 to 6, 11, 7 for a block that the layout does not have, and 9, with that block and
- * no value, where it is ruined.
+ * at the page gives for it: its flips, or 128 plus its zeros. Replies 0 to 6, 11, 7 for another edition or a block that the layout does not have, and
+ * 9, with that block and no value, where it is ruined.
  */
-uint64_t rudderfig_judge_block(const uint8_t *record, rudderfig_length record_len,
+uint64_t rudderfig_judge_block(uint64_t edition,
+                               const uint8_t *record, rudderfig_length record_len,
                                const uint8_t *page, rudderfig_length page_len,
                                uint64_t block);
 
@@ -202,19 +214,20 @@ uint64_t rudderfig_judge_block(const uint8_t *record, rudderfig_length record_le
  * From a remainder alone, which bits are wrong? t is twice level_field, field_choice 0 is m = 13 and 1 is m = 14, n is the code's length in bits.
  * The remainder has exactly (m * t + 7) / 8 bytes, highest coefficient first, right-aligned. Reads it; writes, on reply 0 only, the exponents of
  * the wrong bits, the highest first, to the first places of `places`, which has at least t: so they run forward through a page. The value is
- * how many; places after them keep what they held. Replies 0; 7 first of all for another field choice; 1; 2 where t = 0 or n is at most m * t; 3 for n above 2^m - 1; 6; 8; and 9,
- * with block 0, where there is no such set of at most t exponents.
+ * how many; places after them keep what they held. Replies 0; 7 first of all for another edition or field choice; 1; 2 where t = 0 or n is at most
+ * m * t; 3 for n above 2^m - 1; 6; 8; and 9, with block 0, where there is no such set of at most t exponents.
  */
-uint64_t rudderfig_locate_errors(uint64_t level_field, uint64_t field_choice, uint64_t n,
+uint64_t rudderfig_locate_errors(uint64_t edition, uint64_t level_field, uint64_t field_choice, uint64_t n,
                                  const uint8_t *remainder, rudderfig_length remainder_len,
                                  uint16_t *places, rudderfig_length places_len);
 
 /*
  * Are these error locations of a block right? Accepted if they are distinct, each below the block's length, at most t, and flipping them gives a
  * codeword; they may stand in any order. So no claim on an erased block is right. Reads record, page and claims; writes nothing.
- * Replies 0 to 6, 11, 7 for a block that the layout does not have, and 10; no value.
+ * Replies 0 to 6, 11, 7 for another edition or a block that the layout does not have, and 10; no value.
  */
-uint64_t rudderfig_check_claim(const uint8_t *record, rudderfig_length record_len,
+uint64_t rudderfig_check_claim(uint64_t edition,
+                               const uint8_t *record, rudderfig_length record_len,
                                const uint8_t *page, rudderfig_length page_len,
                                uint64_t block,
                                const uint16_t *claims, rudderfig_length claims_len);
@@ -249,7 +262,8 @@ uint64_t rudderfig_import_fragments(uint64_t level_field,
  * Any bytes may be in it before rudderfig_parity_start, and it may be copied and thrown away at any time. No refusal and no finish changes it: a
  * piece that was refused can be followed by another, and a message can be finished twice. A state that no start has made does no harm: where its
  * numbers do not fit (a field choice, level field or length that a start refuses, more fed than the message has, a one above bit m * t - 1 of what
- * is carried) feeding and finishing refuse it with 7; where they fit, the call goes on with it as what its numbers say.
+ * is carried) feeding and finishing refuse it with 7; where they fit, the call goes on with it as what its numbers say. A state holds no edition: what
+ * a start in edition 2 accepts fits.
  */
 struct rudderfig_parity {
     uint64_t words[18];
@@ -257,10 +271,10 @@ struct rudderfig_parity {
 
 /*
  * Starts a block with a message of `length` bytes; t is twice level_field, 0 means no ECC, field_choice 0 is m = 13 and 1 is m = 14.
- * Writes the state, on reply 0 only. Replies 0; 7 first of all for another field choice; 1; 2 where the length is 0; 3 where t > 0 and the
+ * Writes the state, on reply 0 only. Replies 0; 7 first of all for another edition or field choice; 1; 2 where the length is 0; 3 where t > 0 and the
  * message with its m * t bits of parity is longer than 2^m - 1 bits. No value.
  */
-uint64_t rudderfig_parity_start(struct rudderfig_parity *state,
+uint64_t rudderfig_parity_start(struct rudderfig_parity *state, uint64_t edition,
                                 uint64_t level_field, uint64_t field_choice, uint64_t length);
 
 /*

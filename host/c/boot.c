@@ -1,8 +1,8 @@
 /*
  * The library as a boot loader has it: freestanding, with no C library, on a stack of its own that is as large as the header says, on x86-64, AArch64,
  * ARMv7-A and RISC-V. Writes a page of two blocks (case E of document 01), damages it, looks at it and takes it, then ruins it, takes a message in
- * pieces, reads an erased page, and writes and reads one around a factory's mark. The exit status is 0 where every byte is as it should be, and else
- * the number of the first step that was not.
+ * pieces, reads an erased page, writes and reads one around a factory's mark, and one of edition 2 with 62 flips. The exit status is 0 where every byte
+ * is as it should be, and else the number of the first step that was not.
  */
 #include "rudderfig.h"
 
@@ -45,18 +45,20 @@ static int same(const uint8_t *found, const uint8_t *wanted, size_t n)
     return i == n;
 }
 
+enum { EDITION = 1, STRONG_EDITION = 2 };
+
 static const uint8_t record[8] = {0x01, 0x00, 0x08, 0x01, 0x00, 0x0F, 0x08, 0x01};
 static const uint8_t payload[8] = {0x01, 0x23, 0x45, 0x67, 0x89, 0xAB, 0xCD, 0xEF};
 static const uint8_t written[15] = {0x01, 0x23, 0x45, 0x67, 0x32, 0x8F, 0xB5, 0x62, 0x6A, 0xF3, 0x7B, 0xC5, 0xFC, 0x52, 0x9F};
 
 static uint64_t look(const uint8_t *page, uint8_t *counts)
 {
-    return rudderfig_look_page(record, sizeof record, page, sizeof written, counts, 2);
+    return rudderfig_look_page(EDITION, record, sizeof record, page, sizeof written, counts, 2);
 }
 
 static uint64_t take(const uint8_t *page, uint8_t *data)
 {
-    return rudderfig_take_page(record, sizeof record, page, sizeof written, NULL, 0, data, sizeof payload);
+    return rudderfig_take_page(EDITION, record, sizeof record, page, sizeof written, NULL, 0, data, sizeof payload);
 }
 
 /* Looks at a page and then takes it: whether both are done. */
@@ -85,7 +87,7 @@ static int zeros_read_back(void)
     static const uint8_t zeros[15] = {[14] = 0x0F};
     static const uint16_t right[1] = {57}, twice[2] = {57, 57};
     uint8_t page[15], data[8] = {0}, counts[2] = {9, 9};
-    if (rudderfig_write_page(record, sizeof record, NULL, 0, data, sizeof data, page, sizeof page) != RUDDERFIG_DONE)
+    if (rudderfig_write_page(EDITION, record, sizeof record, NULL, 0, data, sizeof data, page, sizeof page) != RUDDERFIG_DONE)
         return 0;
     if (!same(page, zeros, sizeof page))
         return 0;
@@ -93,8 +95,8 @@ static int zeros_read_back(void)
     data[3] = 0xFF;
     if (!read_into(page, data, counts) || !same(data, zeros, sizeof data) || counts[0] != 1 || counts[1] != 0)
         return 0;
-    return rudderfig_check_claim(record, sizeof record, page, sizeof page, 0, right, 1) == RUDDERFIG_DONE
-        && rudderfig_check_claim(record, sizeof record, page, sizeof page, 0, twice, 2) == RUDDERFIG_CLAIM_WRONG;
+    return rudderfig_check_claim(EDITION, record, sizeof record, page, sizeof page, 0, right, 1) == RUDDERFIG_DONE
+        && rudderfig_check_claim(EDITION, record, sizeof record, page, sizeof page, 0, twice, 2) == RUDDERFIG_CLAIM_WRONG;
 }
 
 /* The message of block 0 in two pieces, with a refused piece and an early finish between them: the 26 bits that the page has after it, right-aligned. */
@@ -105,7 +107,7 @@ static int pieces_finish(void)
     uint8_t parity[4] = {0};
 
     memset(&state, 0xA5, sizeof state);
-    if (rudderfig_parity_feed(&state, payload, 1) != RUDDERFIG_OUT_OF_RANGE || rudderfig_parity_start(&state, 1, 0, 4) != RUDDERFIG_DONE)
+    if (rudderfig_parity_feed(&state, payload, 1) != RUDDERFIG_OUT_OF_RANGE || rudderfig_parity_start(&state, EDITION, 1, 0, 4) != RUDDERFIG_DONE)
         return 0;
     if (rudderfig_parity_feed(&state, payload, 3) != RUDDERFIG_DONE || rudderfig_parity_feed(&state, payload, 2) != RUDDERFIG_BUFFER_LENGTH)
         return 0;
@@ -138,17 +140,38 @@ static int mark_is_left_alone(void)
     uint8_t page[17], data[8], counts[2];
 
     memset(page, 0x3C, sizeof page);
-    if (rudderfig_write_page(marked, sizeof marked, NULL, 0, payload, sizeof payload, page, sizeof page) != RUDDERFIG_DONE)
+    if (rudderfig_write_page(EDITION, marked, sizeof marked, NULL, 0, payload, sizeof payload, page, sizeof page) != RUDDERFIG_DONE)
         return 0;
     if (!same(page, written, 7) || page[7] != 0x3C || page[8] != 0x3C || !same(page + 9, written + 7, 8))
         return 0;
-    if (!rudderfig_in_mark(rudderfig_locate_bit(marked, sizeof marked, 71)) || rudderfig_in_mark(rudderfig_locate_bit(marked, sizeof marked, 72)))
+    if (!rudderfig_in_mark(rudderfig_locate_bit(EDITION, marked, sizeof marked, 71)) || rudderfig_in_mark(rudderfig_locate_bit(EDITION, marked, sizeof marked, 72)))
         return 0;
     page[7] = 0x00;
     page[9] ^= 0x10;
-    if (rudderfig_look_page(marked, sizeof marked, page, sizeof page, counts, 2) != RUDDERFIG_DONE || counts[0] != 0 || counts[1] != 1)
+    if (rudderfig_look_page(EDITION, marked, sizeof marked, page, sizeof page, counts, 2) != RUDDERFIG_DONE || counts[0] != 0 || counts[1] != 1)
         return 0;
-    if (rudderfig_take_page(marked, sizeof marked, page, sizeof page, NULL, 0, data, sizeof data) != RUDDERFIG_DONE)
+    if (rudderfig_take_page(EDITION, marked, sizeof marked, page, sizeof page, NULL, 0, data, sizeof data) != RUDDERFIG_DONE)
+        return 0;
+    return same(data, payload, sizeof data);
+}
+
+/* One block of 4 bytes with m = 14 and t = 62, which edition 1 does not have: 62 flips are repaired. */
+static int strong_level_reads_back(void)
+{
+    static const uint8_t strong[8] = {0x00, 0x00, 0xFC, 0x01, 0x00, 0x71, 0x00, 0x00};
+    uint8_t page[113], data[4], count;
+
+    if (rudderfig_check_layout(EDITION, strong, sizeof strong) != RUDDERFIG_LEVEL_TOO_HIGH)
+        return 0;
+    if (rudderfig_write_page(STRONG_EDITION, strong, sizeof strong, NULL, 0, payload, sizeof data, page, sizeof page) != RUDDERFIG_DONE)
+        return 0;
+    for (size_t i = 0; i < 7; i++)
+        page[i] ^= 0xFF;
+    page[112] ^= 0xF0;
+    page[111] ^= 0x03;
+    if (rudderfig_look_page(STRONG_EDITION, strong, sizeof strong, page, sizeof page, &count, 1) != RUDDERFIG_DONE || count != 62)
+        return 0;
+    if (rudderfig_take_page(STRONG_EDITION, strong, sizeof strong, page, sizeof page, NULL, 0, data, sizeof data) != RUDDERFIG_DONE)
         return 0;
     return same(data, payload, sizeof data);
 }
@@ -158,17 +181,17 @@ static int boot(void)
     uint8_t page[15], data[8], counts[2];
     uint64_t answer;
 
-    if (rudderfig_check_layout(record, sizeof record) != RUDDERFIG_DONE || rudderfig_check_layout(NULL, 0) != RUDDERFIG_BUFFER_LENGTH)
+    if (rudderfig_check_layout(EDITION, record, sizeof record) != RUDDERFIG_DONE || rudderfig_check_layout(EDITION, NULL, 0) != RUDDERFIG_BUFFER_LENGTH)
         return 1;
-    answer = rudderfig_locate_bit(record, sizeof record, 59);
+    answer = rudderfig_locate_bit(EDITION, record, sizeof record, 59);
     if (rudderfig_in_tail(answer) || rudderfig_located_block(answer) != 1 || rudderfig_located_exponent(answer) != 56)
         return 2;
-    if (rudderfig_value(rudderfig_bit_position(record, sizeof record, 1, 56)) != 59)
+    if (rudderfig_value(rudderfig_bit_position(EDITION, record, sizeof record, 1, 56)) != 59)
         return 3;
-    if (!rudderfig_in_tail(rudderfig_locate_bit(record, sizeof record, 116)))
+    if (!rudderfig_in_tail(rudderfig_locate_bit(EDITION, record, sizeof record, 116)))
         return 4;
 
-    answer = rudderfig_write_page(record, sizeof record, NULL, 0, payload, sizeof payload, page, sizeof page);
+    answer = rudderfig_write_page(EDITION, record, sizeof record, NULL, 0, payload, sizeof payload, page, sizeof page);
     if (answer != RUDDERFIG_DONE || !same(page, written, sizeof page))
         return 5;
 
@@ -176,7 +199,7 @@ static int boot(void)
     page[0] ^= 0x81;
     page[7] ^= 0x10;
     page[14] ^= 0x0F;
-    if (rudderfig_value(rudderfig_judge_block(record, sizeof record, page, sizeof page, 0)) != 2)
+    if (rudderfig_value(rudderfig_judge_block(EDITION, record, sizeof record, page, sizeof page, 0)) != 2)
         return 6;
     if (!read_into(page, data, counts) || !same(data, payload, sizeof data) || counts[0] != 2 || counts[1] != 1)
         return 7;
@@ -192,7 +215,9 @@ static int boot(void)
         return 10;
     if (!erased_is_not_ruined())
         return 11;
-    return mark_is_left_alone() ? 0 : 12;
+    if (!mark_is_left_alone())
+        return 12;
+    return strong_level_reads_back() ? 0 : 13;
 }
 
 /* A stack of the size that the header names and what this program itself uses, between two filled areas that the calls must leave alone. */
@@ -303,5 +328,5 @@ int start(void)
     step = boot_on_own_stack(stack + sizeof stack - AROUND);
     if (step != 0)
         return step;
-    return untouched(stack) && untouched(stack + sizeof stack - AROUND) ? 0 : 13;
+    return untouched(stack) && untouched(stack + sizeof stack - AROUND) ? 0 : 14;
 }

@@ -10,14 +10,14 @@
 
 #include "rudderfig.h"
 
-enum { METADATA = 10, DATA = 4096, BLOCKS = 8, PAGE = 4314 };
+enum { EDITION = 1, METADATA = 10, DATA = 4096, BLOCKS = 8, PAGE = 4314 };
 
 static const uint8_t record[8] = {0x07, 0x0A, 0x40, 0x80, 0x10, 0xDA, 0x40, 0x80};
 static uint8_t metadata[METADATA], data[DATA], counts[BLOCKS], page[PAGE];
 
 static unsigned look(void)
 {
-    uint64_t answer = rudderfig_look_page(record, sizeof record, page, PAGE, counts, BLOCKS);
+    uint64_t answer = rudderfig_look_page(EDITION, record, sizeof record, page, PAGE, counts, BLOCKS);
 
     printf("look replies %u", rudderfig_reply(answer));
     if (rudderfig_reply(answer) == RUDDERFIG_UNCORRECTABLE)
@@ -36,7 +36,7 @@ static unsigned look(void)
 
 static unsigned take(void)
 {
-    uint64_t answer = rudderfig_take_page(record, sizeof record, page, PAGE, metadata, METADATA, data, DATA);
+    uint64_t answer = rudderfig_take_page(EDITION, record, sizeof record, page, PAGE, metadata, METADATA, data, DATA);
 
     printf("; take replies %u", rudderfig_reply(answer));
     return rudderfig_reply(answer);
@@ -48,7 +48,7 @@ int main(void)
 
     memset(metadata, 0x11, METADATA);
     memset(data, 0x22, DATA);
-    answer = rudderfig_write_page(record, sizeof record, metadata, METADATA, data, DATA, page, PAGE);
+    answer = rudderfig_write_page(EDITION, record, sizeof record, metadata, METADATA, data, DATA, page, PAGE);
     printf("written: write replies %u\n", rudderfig_reply(answer));
 
     page[100] ^= 0xFF;

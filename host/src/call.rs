@@ -8,40 +8,48 @@ use crate::random::Random;
 #[derive(Clone, Debug, PartialEq, Eq)]
 pub enum Call {
     CheckLayout {
+        edition: u64,
         record: Vec<u8>,
     },
     LocateBit {
+        edition: u64,
         record: Vec<u8>,
         position: u64,
     },
     BitPosition {
+        edition: u64,
         record: Vec<u8>,
         block: u64,
         exponent: u64,
     },
     WritePage {
+        edition: u64,
         record: Vec<u8>,
         metadata: Vec<u8>,
         data: Vec<u8>,
         page: Vec<u8>,
     },
     LookPage {
+        edition: u64,
         record: Vec<u8>,
         page: Vec<u8>,
         counts: Vec<u8>,
     },
     TakePage {
+        edition: u64,
         record: Vec<u8>,
         page: Vec<u8>,
         metadata: Vec<u8>,
         data: Vec<u8>,
     },
     JudgeBlock {
+        edition: u64,
         record: Vec<u8>,
         page: Vec<u8>,
         block: u64,
     },
     LocateErrors {
+        edition: u64,
         level_field: u64,
         field_choice: u64,
         n: u64,
@@ -49,6 +57,7 @@ pub enum Call {
         places: Vec<u16>,
     },
     CheckClaim {
+        edition: u64,
         record: Vec<u8>,
         page: Vec<u8>,
         block: u64,
@@ -66,6 +75,7 @@ pub enum Call {
     },
     ParityStart {
         state: Vec<u64>,
+        edition: u64,
         level_field: u64,
         field_choice: u64,
         length: u64,
@@ -85,12 +95,12 @@ pub const KINDS: usize = 14;
 
 /// The replies that each kind of call can give.
 pub const POSSIBLE: [&[usize]; KINDS] = [
-    &[0, 1, 2, 3, 4, 6, 11],
     &[0, 1, 2, 3, 4, 6, 7, 11],
     &[0, 1, 2, 3, 4, 6, 7, 11],
-    &[0, 1, 2, 3, 4, 5, 6, 11],
-    &[0, 1, 2, 3, 4, 5, 6, 9, 11],
-    &[0, 1, 2, 3, 4, 5, 6, 9, 11],
+    &[0, 1, 2, 3, 4, 6, 7, 11],
+    &[0, 1, 2, 3, 4, 5, 6, 7, 11],
+    &[0, 1, 2, 3, 4, 5, 6, 7, 9, 11],
+    &[0, 1, 2, 3, 4, 5, 6, 7, 9, 11],
     &[0, 1, 2, 3, 4, 5, 6, 7, 9, 11],
     &[0, 1, 2, 3, 6, 7, 8, 9],
     &[0, 1, 2, 3, 4, 5, 6, 7, 10, 11],
@@ -175,42 +185,70 @@ impl Call {
         };
         let number = |number: &u64| Argument::Number(*number);
         match self {
-            Call::CheckLayout { record } => vec![bytes(record)],
-            Call::LocateBit { record, position } => vec![bytes(record), number(position)],
+            Call::CheckLayout { edition, record } => vec![number(edition), bytes(record)],
+            Call::LocateBit {
+                edition,
+                record,
+                position,
+            } => vec![number(edition), bytes(record), number(position)],
             Call::BitPosition {
+                edition,
                 record,
                 block,
                 exponent,
-            } => vec![bytes(record), number(block), number(exponent)],
+            } => vec![
+                number(edition),
+                bytes(record),
+                number(block),
+                number(exponent),
+            ],
             Call::WritePage {
+                edition,
                 record,
                 metadata,
                 data,
                 page,
-            } => vec![bytes(record), bytes(metadata), bytes(data), bytes(page)],
+            } => vec![
+                number(edition),
+                bytes(record),
+                bytes(metadata),
+                bytes(data),
+                bytes(page),
+            ],
             Call::LookPage {
+                edition,
                 record,
                 page,
                 counts,
-            } => vec![bytes(record), bytes(page), bytes(counts)],
+            } => vec![number(edition), bytes(record), bytes(page), bytes(counts)],
             Call::TakePage {
+                edition,
                 record,
                 page,
                 metadata,
                 data,
-            } => vec![bytes(record), bytes(page), bytes(metadata), bytes(data)],
+            } => vec![
+                number(edition),
+                bytes(record),
+                bytes(page),
+                bytes(metadata),
+                bytes(data),
+            ],
             Call::JudgeBlock {
+                edition,
                 record,
                 page,
                 block,
-            } => vec![bytes(record), bytes(page), number(block)],
+            } => vec![number(edition), bytes(record), bytes(page), number(block)],
             Call::LocateErrors {
+                edition,
                 level_field,
                 field_choice,
                 n,
                 remainder,
                 places,
             } => vec![
+                number(edition),
                 number(level_field),
                 number(field_choice),
                 number(n),
@@ -218,11 +256,18 @@ impl Call {
                 list(places),
             ],
             Call::CheckClaim {
+                edition,
                 record,
                 page,
                 block,
                 claims,
-            } => vec![bytes(record), bytes(page), number(block), list(claims)],
+            } => vec![
+                number(edition),
+                bytes(record),
+                bytes(page),
+                number(block),
+                list(claims),
+            ],
             Call::ExportFragments {
                 level_field,
                 remainder,
@@ -235,11 +280,13 @@ impl Call {
             } => vec![number(level_field), words(fragments), bytes(remainder)],
             Call::ParityStart {
                 state,
+                edition,
                 level_field,
                 field_choice,
                 length,
             } => vec![
                 held(state),
+                number(edition),
                 number(level_field),
                 number(field_choice),
                 number(length),
@@ -252,7 +299,7 @@ impl Call {
     /// The byte buffers in the order in which the library takes them.
     fn bytes(&mut self) -> Vec<&mut Vec<u8>> {
         match self {
-            Call::CheckLayout { record }
+            Call::CheckLayout { record, .. }
             | Call::LocateBit { record, .. }
             | Call::BitPosition { record, .. } => vec![record],
             Call::WritePage {
@@ -260,17 +307,20 @@ impl Call {
                 metadata,
                 data,
                 page,
+                ..
             } => vec![record, metadata, data, page],
             Call::LookPage {
                 record,
                 page,
                 counts,
+                ..
             } => vec![record, page, counts],
             Call::TakePage {
                 record,
                 page,
                 metadata,
                 data,
+                ..
             } => vec![record, page, metadata, data],
             Call::JudgeBlock { record, page, .. } | Call::CheckClaim { record, page, .. } => {
                 vec![record, page]
@@ -360,22 +410,36 @@ impl Call {
         let mut lent = bytes.iter_mut().map(Guarded::lend);
         let mut next = || lent.next().unwrap();
         match *self {
-            Call::CheckLayout { .. } => library.check_layout(next()),
-            Call::LocateBit { position, .. } => library.locate_bit(next(), position),
+            Call::CheckLayout { edition, .. } => library.check_layout(edition, next()),
+            Call::LocateBit {
+                edition, position, ..
+            } => library.locate_bit(edition, next(), position),
             Call::BitPosition {
-                block, exponent, ..
-            } => library.bit_position(next(), block, exponent),
-            Call::WritePage { .. } => library.write_page(next(), next(), next(), next()),
-            Call::LookPage { .. } => library.look_page(next(), next(), next()),
-            Call::TakePage { .. } => library.take_page(next(), next(), next(), next()),
-            Call::JudgeBlock { block, .. } => library.judge_block(next(), next(), block),
+                edition,
+                block,
+                exponent,
+                ..
+            } => library.bit_position(edition, next(), block, exponent),
+            Call::WritePage { edition, .. } => {
+                library.write_page(edition, next(), next(), next(), next())
+            }
+            Call::LookPage { edition, .. } => library.look_page(edition, next(), next(), next()),
+            Call::TakePage { edition, .. } => {
+                library.take_page(edition, next(), next(), next(), next())
+            }
+            Call::JudgeBlock { edition, block, .. } => {
+                library.judge_block(edition, next(), next(), block)
+            }
             Call::LocateErrors {
+                edition,
                 level_field,
                 field_choice,
                 n,
                 ..
-            } => library.locate_errors(level_field, field_choice, n, next(), list),
-            Call::CheckClaim { block, .. } => library.check_claim(next(), next(), block, list),
+            } => library.locate_errors(edition, level_field, field_choice, n, next(), list),
+            Call::CheckClaim { edition, block, .. } => {
+                library.check_claim(edition, next(), next(), block, list)
+            }
             Call::ExportFragments { level_field, .. } => {
                 library.export_fragments(level_field, next(), fragments)
             }
@@ -383,11 +447,12 @@ impl Call {
                 library.import_fragments(level_field, fragments, next())
             }
             Call::ParityStart {
+                edition,
                 level_field,
                 field_choice,
                 length,
                 ..
-            } => library.parity_start(state, level_field, field_choice, length),
+            } => library.parity_start(state, edition, level_field, field_choice, length),
             Call::ParityFeed { .. } => library.parity_feed(state, next()),
             Call::ParityFinish { .. } => library.parity_finish(state, next()),
         }

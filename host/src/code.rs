@@ -12,8 +12,8 @@ pub struct Code<'a> {
     generator: Vec<bool>,
 }
 
-/// The highest level: twice the level field 0x14.
-pub const HIGHEST_LEVEL: usize = 40;
+/// The highest level: twice the level field 0x1F (document 02, E13).
+pub const HIGHEST_LEVEL: usize = 62;
 
 /// The code of a field choice and a level up to the highest.
 pub fn bch(choice: FieldChoice, t: usize) -> &'static Code<'static> {
@@ -36,7 +36,7 @@ impl<'a> Code<'a> {
         &self.generator
     }
 
-    /// The degree of the generator: m times t for the two fields and levels of document 01.
+    /// The degree of the generator: m times t for the two fields and every level of a level field.
     pub fn parity_length(&self) -> usize {
         self.generator.len() - 1
     }

@@ -9,11 +9,15 @@ use crate::random::Random;
 use crate::reply::NUMBERS;
 use crate::samples::erased::edge_layouts;
 use crate::samples::fragments::{round_trips, spoilt as spoilt_fragments};
-use crate::samples::layouts::{CASE_A, accepted_words, code_bits, positions, records};
+use crate::samples::layouts::{
+    CASE_A, accepted_words, code_bits, editions, positions, records, strong_words,
+};
 use crate::samples::marks::marked;
 use crate::samples::pages::{WrittenPage, damage_tail, spoil};
-use crate::samples::pieces::{Message, random_state, spoilt as spoilt_pieces};
-use crate::samples::remainders::{document_cases, random_remainder, spoilt, sums};
+use crate::samples::pieces::{
+    Message, levels as started_levels, random_state, spoilt as spoilt_pieces,
+};
+use crate::samples::remainders::{document_cases, levels, random_remainder, spoilt, sums};
 
 /// A library beside the model.
 pub struct Comparison<'a> {
@@ -57,7 +61,7 @@ impl<'a> Comparison<'a> {
         self.keeping = true;
     }
 
-    /// One round of calls of every kind, some 19,000.
+    /// One round of calls of every kind, some 26,000.
     pub fn round(&mut self) -> Result<(), Box<Difference>> {
         self.layouts()?;
         self.remainders()?;
@@ -98,28 +102,41 @@ impl<'a> Comparison<'a> {
     /// Layouts, and page bits in both directions.
     pub fn layouts(&mut self) -> Result<(), Box<Difference>> {
         for record in records(&mut self.random) {
-            self.perform(Call::CheckLayout {
-                record: record.clone(),
+            for edition in editions(&record, &mut self.random) {
+                self.layout(edition, &record)?;
+            }
+        }
+        Ok(())
+    }
+
+    /// Calls about one record: the layout, and some of its bits.
+    fn layout(&mut self, edition: u64, record: &[u8]) -> Result<(), Box<Difference>> {
+        self.perform(Call::CheckLayout {
+            edition,
+            record: record.to_vec(),
+        })?;
+        let (positions, code_bits) = match check_layout(edition, record) {
+            Ok(layout) => (
+                positions(&layout, &mut self.random),
+                code_bits(&layout, &mut self.random),
+            ),
+            Err(_) => (vec![0, u64::MAX], vec![(0, 0), (1, u64::MAX)]),
+        };
+        let first = self.random.below(4);
+        for position in positions.into_iter().skip(first).step_by(4) {
+            self.perform(Call::LocateBit {
+                edition,
+                record: record.to_vec(),
+                position,
             })?;
-            let (positions, code_bits) = match check_layout(&record) {
-                Ok(layout) => (
-                    positions(&layout, &mut self.random),
-                    code_bits(&layout, &mut self.random),
-                ),
-                Err(_) => (vec![0, u64::MAX], vec![(0, 0), (1, u64::MAX)]),
-            };
-            let first = self.random.below(4);
-            for position in positions.into_iter().skip(first).step_by(4) {
-                let record = record.clone();
-                self.perform(Call::LocateBit { record, position })?;
-            }
-            for (block, exponent) in code_bits.into_iter().skip(first).step_by(4) {
-                self.perform(Call::BitPosition {
-                    record: record.clone(),
-                    block,
-                    exponent,
-                })?;
-            }
+        }
+        for (block, exponent) in code_bits.into_iter().skip(first).step_by(4) {
+            self.perform(Call::BitPosition {
+                edition,
+                record: record.to_vec(),
+                block,
+                exponent,
+            })?;
         }
         Ok(())
     }
@@ -136,7 +153,10 @@ impl<'a> Comparison<'a> {
                     samples.push(random_remainder(choice, small, &mut self.random));
                 }
             }
+            let strong = self.random.within(0x15, 0x1F);
+            samples.extend(sums(choice, strong, &mut self.random));
         }
+        samples.extend(levels(&mut self.random));
         samples.extend((0..200).map(|_| spoilt(&mut self.random)));
         for sample in samples {
             self.perform_filled(sample.into())?;
@@ -168,6 +188,9 @@ impl<'a> Comparison<'a> {
             }
             let parity = vec![0; message.parity_bytes()];
             self.stated(Call::ParityFinish { state, parity })?;
+        }
+        for start in started_levels(&mut self.random) {
+            self.perform(start)?;
         }
         (0..150).try_for_each(|_| {
             let call = spoilt_pieces(&mut self.random);
@@ -220,6 +243,7 @@ impl<'a> Comparison<'a> {
         let look = self.perform(with_page(look, &ruined))?;
         self.perform(with_page(look, &damaged))?;
         if let Call::TakePage {
+            edition,
             record,
             page,
             metadata,
@@ -227,6 +251,7 @@ impl<'a> Comparison<'a> {
         } = self.perform(with_page(take, &ruined))?
         {
             self.perform(Call::WritePage {
+                edition,
                 record,
                 metadata,
                 data,
@@ -243,6 +268,7 @@ fn page_layouts(random: &mut Random) -> Vec<LayoutRecord> {
     for most_page_bytes in [20, 40, 70, 120, 250, 600] {
         plain.extend((0..20).map(|_| accepted_words(random, most_page_bytes)));
     }
+    plain.extend((0..10).map(|_| strong_words(random)));
     plain.extend([edge_layouts(); 5].concat());
     plain.push(accepted_words(random, 5000));
     plain.push(CASE_A);
@@ -254,12 +280,12 @@ fn page_layouts(random: &mut Random) -> Vec<LayoutRecord> {
     layouts
 }
 
-/// An accepted record from the edges: the longest blocks, the most blocks, the largest pages.
+/// A record that edition 2 accepts from the edges: the longest blocks, the most blocks, the largest pages.
 fn edge_record(random: &mut Random) -> LayoutRecord {
     let records = records(random);
     loop {
         let record = &records[random.below(records.len())];
-        if check_layout(record).is_ok() {
+        if check_layout(2, record).is_ok() {
             return LayoutRecord::unpack(record).unwrap();
         }
     }

@@ -10,11 +10,17 @@ pub struct Parity {
 }
 
 unsafe extern "C" {
-    pub fn rudderfig_check_layout(record: *const u8, record_len: usize) -> u64;
+    pub fn rudderfig_check_layout(edition: u64, record: *const u8, record_len: usize) -> u64;
 
-    pub fn rudderfig_locate_bit(record: *const u8, record_len: usize, position: u64) -> u64;
+    pub fn rudderfig_locate_bit(
+        edition: u64,
+        record: *const u8,
+        record_len: usize,
+        position: u64,
+    ) -> u64;
 
     pub fn rudderfig_bit_position(
+        edition: u64,
         record: *const u8,
         record_len: usize,
         block: u64,
@@ -22,6 +28,7 @@ unsafe extern "C" {
     ) -> u64;
 
     pub fn rudderfig_write_page(
+        edition: u64,
         record: *const u8,
         record_len: usize,
         metadata: *const u8,
@@ -33,6 +40,7 @@ unsafe extern "C" {
     ) -> u64;
 
     pub fn rudderfig_look_page(
+        edition: u64,
         record: *const u8,
         record_len: usize,
         page: *const u8,
@@ -42,6 +50,7 @@ unsafe extern "C" {
     ) -> u64;
 
     pub fn rudderfig_take_page(
+        edition: u64,
         record: *const u8,
         record_len: usize,
         page: *const u8,
@@ -53,6 +62,7 @@ unsafe extern "C" {
     ) -> u64;
 
     pub fn rudderfig_judge_block(
+        edition: u64,
         record: *const u8,
         record_len: usize,
         page: *const u8,
@@ -61,6 +71,7 @@ unsafe extern "C" {
     ) -> u64;
 
     pub fn rudderfig_locate_errors(
+        edition: u64,
         level_field: u64,
         field_choice: u64,
         n: u64,
@@ -71,6 +82,7 @@ unsafe extern "C" {
     ) -> u64;
 
     pub fn rudderfig_check_claim(
+        edition: u64,
         record: *const u8,
         record_len: usize,
         page: *const u8,
@@ -98,6 +110,7 @@ unsafe extern "C" {
 
     pub fn rudderfig_parity_start(
         state: *mut Parity,
+        edition: u64,
         level_field: u64,
         field_choice: u64,
         length: u64,

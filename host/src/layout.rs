@@ -1,13 +1,11 @@
 //! Layout records, the lengths and places of blocks, and Bits in both directions (document 01; document 02,
-//! E7).
+//! E7 and E13).
 
 use crate::code::{Code, bch};
+use crate::edition::Edition;
 use crate::field::FieldChoice;
 use crate::reply::{Refusal, Reply, refuse_by};
 use std::ops::Range;
-
-/// The highest level field; t is twice the field.
-pub const HIGHEST_LEVEL_FIELD: u64 = 0x14;
 
 /// The nine fields of the two layout words, as they are stored.
 #[derive(Clone, Copy, Debug, PartialEq, Eq)]
@@ -137,9 +135,12 @@ impl Block {
         self.message_bits + self.choice.field().m * self.t()
     }
 
-    /// The rules about one block, each with whether it is broken.
-    fn rules(&self, part: Part) -> [(bool, Reason); 3] {
-        let (level, highest) = (self.level_field as usize, HIGHEST_LEVEL_FIELD as usize);
+    /// The rules about one block in an edition, each with whether it is broken.
+    fn rules(&self, edition: Edition, part: Part) -> [(bool, Reason); 3] {
+        let (level, highest) = (
+            self.level_field as usize,
+            edition.highest_level_field() as usize,
+        );
         let (n, longest) = (self.covered_bits(), self.choice.field().order());
         let message = self.message_bits;
         let level_too_high = Reason::new(Reply::LevelTooHigh, part, level, highest);
@@ -263,11 +264,12 @@ impl Layout {
         ]
     }
 
-    /// The rule that refuses the layout, if one does: the reply that is looked at first, and block 0 first.
-    pub fn reason(&self) -> Option<Reason> {
-        let mut rules = self.block0.rules(Part::Block0).to_vec();
+    /// The rule that refuses the layout in an edition, if one does: the reply that is looked at first, and
+    /// block 0 first.
+    pub fn reason(&self, edition: Edition) -> Option<Reason> {
+        let mut rules = self.block0.rules(edition, Part::Block0).to_vec();
         if let Some(later) = self.later {
-            rules.extend(later.rules(Part::LaterBlock));
+            rules.extend(later.rules(edition, Part::LaterBlock));
         }
         rules.extend(self.mark_rules());
         let (needed, allowed) = (self.used_bits(), self.stream_bits());
@@ -309,11 +311,12 @@ impl Reason {
 }
 
 /// Is this layout acceptable? The record is the two layout words, and the mark's where there is a third, most
-/// significant byte first.
-pub fn check_layout(record: &[u8]) -> Result<Layout, Refusal> {
+/// significant byte first. The edition is looked at before the record's length.
+pub fn check_layout(edition: u64, record: &[u8]) -> Result<Layout, Refusal> {
+    let edition = Edition::from_number(edition).ok_or(Reply::OutOfRange)?;
     let record = LayoutRecord::unpack(record).ok_or(Reply::BufferLength)?;
     let layout = Layout::from(record);
-    match layout.reason() {
+    match layout.reason(edition) {
         Some(reason) => Err(reason.reply.into()),
         None => Ok(layout),
     }
@@ -328,8 +331,8 @@ pub enum BitPlace {
 }
 
 /// Where does a page bit belong?
-pub fn locate_bit(record: &[u8], position: u64) -> Result<BitPlace, Refusal> {
-    let layout = check_layout(record)?;
+pub fn locate_bit(edition: u64, record: &[u8], position: u64) -> Result<BitPlace, Refusal> {
+    let layout = check_layout(edition, record)?;
     refuse_by(&[(Reply::OutOfRange, position >= 8 * layout.page_length as u64)])?;
     let position = position as usize;
     let mark = layout.mark_places();
@@ -348,8 +351,13 @@ pub fn locate_bit(record: &[u8], position: u64) -> Result<BitPlace, Refusal> {
 }
 
 /// Where does a code bit lie?
-pub fn bit_position(record: &[u8], block: u64, exponent: u64) -> Result<usize, Refusal> {
-    let layout = check_layout(record)?;
+pub fn bit_position(
+    edition: u64,
+    record: &[u8],
+    block: u64,
+    exponent: u64,
+) -> Result<usize, Refusal> {
+    let layout = check_layout(edition, record)?;
     refuse_by(&[(Reply::OutOfRange, block > layout.later_blocks as u64)])?;
     let block = block as usize;
     let n = layout.block(block).covered_bits();

@@ -20,7 +20,8 @@
 //!
 //! - [`export_fragments`], [`import_fragments`]: a remainder to a hardware locator's fragments, and back.
 //!
-//! Each takes any arguments. `Ok` is reply 0; a [`Refusal`] holds the reply's number and block, and
+//! Each that takes a layout or a level field is handed the edition before it (document 02, E13), but for those
+//! on fragments. Each takes any arguments. `Ok` is reply 0; a [`Refusal`] holds the reply's number and block, and
 //! then every lent buffer keeps its content, but for the counts of a look that is refused with 9.
 //!
 //! The decoder is that of Peterson, Gorenstein and Zierler: the error locator solves a linear system
@@ -32,6 +33,7 @@ pub mod call;
 pub mod code;
 pub mod compare;
 pub mod decoder;
+pub mod edition;
 pub mod field;
 pub mod fragments;
 pub mod guarded;

@@ -11,26 +11,41 @@ use crate::reply::Refusal;
 /// bits 8 to 23, a kind in bits 24 to 31 and a value in bits 32 to 63; kind and value are 0 on a
 /// refusal.
 pub trait Library {
-    fn check_layout(&self, record: &[u8]) -> u64;
+    fn check_layout(&self, edition: u64, record: &[u8]) -> u64;
 
     /// Kind 0 is a covered bit, with the block times 2^16 plus the exponent; kind 1 is the tail, kind 2 the mark.
-    fn locate_bit(&self, record: &[u8], position: u64) -> u64;
+    fn locate_bit(&self, edition: u64, record: &[u8], position: u64) -> u64;
 
     /// The value is the position.
-    fn bit_position(&self, record: &[u8], block: u64, exponent: u64) -> u64;
+    fn bit_position(&self, edition: u64, record: &[u8], block: u64, exponent: u64) -> u64;
 
-    fn write_page(&self, record: &[u8], metadata: &[u8], data: &[u8], page: &mut [u8]) -> u64;
+    fn write_page(
+        &self,
+        edition: u64,
+        record: &[u8],
+        metadata: &[u8],
+        data: &[u8],
+        page: &mut [u8],
+    ) -> u64;
 
-    fn look_page(&self, record: &[u8], page: &[u8], counts: &mut [u8]) -> u64;
+    fn look_page(&self, edition: u64, record: &[u8], page: &[u8], counts: &mut [u8]) -> u64;
 
-    fn take_page(&self, record: &[u8], page: &[u8], metadata: &mut [u8], data: &mut [u8]) -> u64;
+    fn take_page(
+        &self,
+        edition: u64,
+        record: &[u8],
+        page: &[u8],
+        metadata: &mut [u8],
+        data: &mut [u8],
+    ) -> u64;
 
     /// The value is the block's count.
-    fn judge_block(&self, record: &[u8], page: &[u8], block: u64) -> u64;
+    fn judge_block(&self, edition: u64, record: &[u8], page: &[u8], block: u64) -> u64;
 
     /// The value is the number of exponents found.
     fn locate_errors(
         &self,
+        edition: u64,
         level_field: u64,
         field_choice: u64,
         n: u64,
@@ -38,13 +53,27 @@ pub trait Library {
         places: &mut [u16],
     ) -> u64;
 
-    fn check_claim(&self, record: &[u8], page: &[u8], block: u64, claims: &[u16]) -> u64;
+    fn check_claim(
+        &self,
+        edition: u64,
+        record: &[u8],
+        page: &[u8],
+        block: u64,
+        claims: &[u16],
+    ) -> u64;
 
     fn export_fragments(&self, level_field: u64, remainder: &[u8], fragments: &mut [u32]) -> u64;
 
     fn import_fragments(&self, level_field: u64, fragments: &[u32], remainder: &mut [u8]) -> u64;
 
-    fn parity_start(&self, state: &mut [u64], level: u64, choice: u64, length: u64) -> u64;
+    fn parity_start(
+        &self,
+        state: &mut [u64],
+        edition: u64,
+        level: u64,
+        choice: u64,
+        length: u64,
+    ) -> u64;
 
     fn parity_feed(&self, state: &mut [u64], piece: &[u8]) -> u64;
 
@@ -59,56 +88,80 @@ fn answer(outcome: Result<(u8, usize), Refusal>) -> u64 {
     }
 }
 
-/// The model of document 01.
+/// The model of documents 01 and 02.
 pub struct Model;
 
 impl Library for Model {
-    fn check_layout(&self, record: &[u8]) -> u64 {
-        answer(check_layout(record).map(|_| (0, 0)))
+    fn check_layout(&self, edition: u64, record: &[u8]) -> u64 {
+        answer(check_layout(edition, record).map(|_| (0, 0)))
     }
 
-    fn locate_bit(&self, record: &[u8], position: u64) -> u64 {
-        answer(locate_bit(record, position).map(|place| match place {
-            BitPlace::Covered { block, exponent } => (0, block << 16 | exponent),
-            BitPlace::Tail => (1, 0),
-            BitPlace::Mark => (2, 0),
-        }))
+    fn locate_bit(&self, edition: u64, record: &[u8], position: u64) -> u64 {
+        answer(
+            locate_bit(edition, record, position).map(|place| match place {
+                BitPlace::Covered { block, exponent } => (0, block << 16 | exponent),
+                BitPlace::Tail => (1, 0),
+                BitPlace::Mark => (2, 0),
+            }),
+        )
     }
 
-    fn bit_position(&self, record: &[u8], block: u64, exponent: u64) -> u64 {
-        answer(bit_position(record, block, exponent).map(|position| (0, position)))
+    fn bit_position(&self, edition: u64, record: &[u8], block: u64, exponent: u64) -> u64 {
+        answer(bit_position(edition, record, block, exponent).map(|position| (0, position)))
     }
 
-    fn write_page(&self, record: &[u8], metadata: &[u8], data: &[u8], page: &mut [u8]) -> u64 {
-        answer(write_page(record, metadata, data, page).map(|()| (0, 0)))
+    fn write_page(
+        &self,
+        edition: u64,
+        record: &[u8],
+        metadata: &[u8],
+        data: &[u8],
+        page: &mut [u8],
+    ) -> u64 {
+        answer(write_page(edition, record, metadata, data, page).map(|()| (0, 0)))
     }
 
-    fn look_page(&self, record: &[u8], page: &[u8], counts: &mut [u8]) -> u64 {
-        answer(look_page(record, page, counts).map(|()| (0, 0)))
+    fn look_page(&self, edition: u64, record: &[u8], page: &[u8], counts: &mut [u8]) -> u64 {
+        answer(look_page(edition, record, page, counts).map(|()| (0, 0)))
     }
 
-    fn take_page(&self, record: &[u8], page: &[u8], metadata: &mut [u8], data: &mut [u8]) -> u64 {
-        answer(take_page(record, page, metadata, data).map(|()| (0, 0)))
+    fn take_page(
+        &self,
+        edition: u64,
+        record: &[u8],
+        page: &[u8],
+        metadata: &mut [u8],
+        data: &mut [u8],
+    ) -> u64 {
+        answer(take_page(edition, record, page, metadata, data).map(|()| (0, 0)))
     }
 
-    fn judge_block(&self, record: &[u8], page: &[u8], block: u64) -> u64 {
-        answer(judge_block(record, page, block).map(|flips| (0, flips)))
+    fn judge_block(&self, edition: u64, record: &[u8], page: &[u8], block: u64) -> u64 {
+        answer(judge_block(edition, record, page, block).map(|flips| (0, flips)))
     }
 
     fn locate_errors(
         &self,
+        edition: u64,
         level_field: u64,
         field_choice: u64,
         n: u64,
         remainder: &[u8],
         places: &mut [u16],
     ) -> u64 {
-        let located = locate_errors(level_field, field_choice, n, remainder, places);
+        let located = locate_errors(edition, level_field, field_choice, n, remainder, places);
         answer(located.map(|size| (0, size)))
     }
 
-    fn check_claim(&self, record: &[u8], page: &[u8], block: u64, claims: &[u16]) -> u64 {
-        answer(check_claim(record, page, block, claims).map(|()| (0, 0)))
+    fn check_claim(
+        &self,
+        edition: u64,
+        record: &[u8],
+        page: &[u8],
+        block: u64,
+        claims: &[u16],
+    ) -> u64 {
+        answer(check_claim(edition, record, page, block, claims).map(|()| (0, 0)))
     }
 
     fn export_fragments(&self, level_field: u64, remainder: &[u8], fragments: &mut [u32]) -> u64 {
@@ -119,8 +172,15 @@ impl Library for Model {
         answer(import_fragments(level_field, fragments, remainder).map(|()| (0, 0)))
     }
 
-    fn parity_start(&self, state: &mut [u64], level: u64, choice: u64, length: u64) -> u64 {
-        answer(start_state(state, level, choice, length).map(|()| (0, 0)))
+    fn parity_start(
+        &self,
+        state: &mut [u64],
+        edition: u64,
+        level: u64,
+        choice: u64,
+        length: u64,
+    ) -> u64 {
+        answer(start_state(state, edition, level, choice, length).map(|()| (0, 0)))
     }
 
     fn parity_feed(&self, state: &mut [u64], piece: &[u8]) -> u64 {

@@ -1,5 +1,5 @@
 //! Writing pages, looking at them, taking their payload, judging blocks and checking claims (document 01;
-//! document 02, E1, E6 and E7).
+//! document 02, E1, E6, E7 and E13).
 
 use crate::bits::{bit, bits_of, bytes_of, put};
 use crate::code::flip_exponents;
@@ -10,12 +10,13 @@ use crate::reply::{Refusal, Reply, refuse_by};
 /// Writes the page of a payload: each block's message and parity, then a tail of ones. The mark keeps what the
 /// page held.
 pub fn write_page(
+    edition: u64,
     record: &[u8],
     metadata: &[u8],
     data: &[u8],
     page: &mut [u8],
 ) -> Result<(), Refusal> {
-    let layout = check_layout(record)?;
+    let layout = check_layout(edition, record)?;
     payload_lengths(&layout, page, metadata, data)?;
     let payload = bits_of(&[metadata, data].concat());
     let mut messages = payload.as_slice();
@@ -58,8 +59,13 @@ pub const RUINED: u8 = 255;
 
 /// Looks at a page: one count per block, and that of a ruined block is 255. Where a block is ruined the
 /// call is refused and names the lowest, and the counts are written all the same: no other refusal writes.
-pub fn look_page(record: &[u8], page: &[u8], counts: &mut [u8]) -> Result<(), Refusal> {
-    let layout = check_layout(record)?;
+pub fn look_page(
+    edition: u64,
+    record: &[u8],
+    page: &[u8],
+    counts: &mut [u8],
+) -> Result<(), Refusal> {
+    let layout = check_layout(edition, record)?;
     refuse_by(&[
         (Reply::PageLength, page.len() != layout.page_length),
         (Reply::BufferLength, counts.len() != layout.blocks()),
@@ -79,12 +85,13 @@ pub fn look_page(record: &[u8], page: &[u8], counts: &mut [u8]) -> Result<(), Re
 /// Takes metadata and data out of a page. Where a block is ruined the call is refused and names the
 /// lowest, and no byte changes.
 pub fn take_page(
+    edition: u64,
     record: &[u8],
     page: &[u8],
     metadata: &mut [u8],
     data: &mut [u8],
 ) -> Result<(), Refusal> {
-    let layout = check_layout(record)?;
+    let layout = check_layout(edition, record)?;
     payload_lengths(&layout, page, metadata, data)?;
     let mut payload = Vec::new();
     for number in 0..layout.blocks() {
@@ -99,8 +106,8 @@ pub fn take_page(
 }
 
 /// The count of one block.
-pub fn judge_block(record: &[u8], page: &[u8], block: u64) -> Result<usize, Refusal> {
-    let layout = check_layout(record)?;
+pub fn judge_block(edition: u64, record: &[u8], page: &[u8], block: u64) -> Result<usize, Refusal> {
+    let layout = check_layout(edition, record)?;
     refuse_by(&[
         (Reply::PageLength, page.len() != layout.page_length),
         (Reply::OutOfRange, block > layout.later_blocks as u64),
@@ -121,8 +128,14 @@ fn read_block(layout: &Layout, page: &[u8], number: usize) -> Result<(Vec<bool>,
 
 /// Are these error locations right? They are if they are distinct, each below n, at most t in
 /// number, and flipping them gives a codeword.
-pub fn check_claim(record: &[u8], page: &[u8], block: u64, claims: &[u16]) -> Result<(), Refusal> {
-    let layout = check_layout(record)?;
+pub fn check_claim(
+    edition: u64,
+    record: &[u8],
+    page: &[u8],
+    block: u64,
+    claims: &[u16],
+) -> Result<(), Refusal> {
+    let layout = check_layout(edition, record)?;
     refuse_by(&[
         (Reply::PageLength, page.len() != layout.page_length),
         (Reply::OutOfRange, block > layout.later_blocks as u64),

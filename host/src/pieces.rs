@@ -1,9 +1,9 @@
-//! A block's message in pieces (document 02, E4).
+//! A block's message in pieces (document 02, E4 and E13).
 
 use crate::bits::{bits_of, bytes_of};
 use crate::code::{Code, bch};
+use crate::edition::Edition;
 use crate::field::FieldChoice;
-use crate::layout::HIGHEST_LEVEL_FIELD;
 use crate::reply::{Refusal, Reply, refuse_by};
 
 /// The words of a state that a caller keeps: level field, field choice, message length, bytes fed, and
@@ -26,13 +26,20 @@ pub struct Pieces {
 
 impl Pieces {
     /// Starts a block with a message of so many bytes.
-    pub fn start(level_field: u64, field_choice: u64, length: u64) -> Result<Pieces, Refusal> {
-        let Some(choice) = FieldChoice::from_number(field_choice) else {
-            return Err(Refusal::from(Reply::OutOfRange));
-        };
+    pub fn start(
+        edition: u64,
+        level_field: u64,
+        field_choice: u64,
+        length: u64,
+    ) -> Result<Pieces, Refusal> {
+        let edition = Edition::from_number(edition).ok_or(Reply::OutOfRange)?;
+        let choice = FieldChoice::from_number(field_choice).ok_or(Reply::OutOfRange)?;
         let covered = 8 * length as u128 + choice.field().m as u128 * 2 * (level_field as u128);
         refuse_by(&[
-            (Reply::LevelTooHigh, level_field > HIGHEST_LEVEL_FIELD),
+            (
+                Reply::LevelTooHigh,
+                level_field > edition.highest_level_field(),
+            ),
             (Reply::EmptyMessage, length == 0),
             (
                 Reply::BlockTooLong,
@@ -85,11 +92,13 @@ struct Carried {
 }
 
 impl Carried {
-    /// Words that are not those of any block are out of range.
+    /// Words that are not those of any block are out of range. A state has no edition, and edition 2 has
+    /// every block that edition 1 has.
     fn of(words: &[u64]) -> Result<Carried, Refusal> {
         let unusable = Refusal::from(Reply::OutOfRange);
-        let block =
-            Pieces::start(words[LEVEL], words[CHOICE], words[LENGTH]).map_err(|_| unusable)?;
+        let edition = Edition::Second as u64;
+        let block = Pieces::start(edition, words[LEVEL], words[CHOICE], words[LENGTH])
+            .map_err(|_| unusable)?;
         let highest_first = words[CARRIED..].iter().rev();
         let bits: Vec<bool> = highest_first
             .flat_map(|word| (0..64).rev().map(move |k| word >> k & 1 == 1))
@@ -128,11 +137,12 @@ fn write_state(words: &mut [u64], fed: u64, parity: &[bool]) {
 /// Starts a block in a state that held anything.
 pub fn start_state(
     words: &mut [u64],
+    edition: u64,
     level_field: u64,
     field_choice: u64,
     length: u64,
 ) -> Result<(), Refusal> {
-    Pieces::start(level_field, field_choice, length)?;
+    Pieces::start(edition, level_field, field_choice, length)?;
     words[LEVEL] = level_field;
     words[CHOICE] = field_choice;
     words[LENGTH] = length;

@@ -1,4 +1,4 @@
-//! Cases A to L of document 01.
+//! Cases A to L of document 01, which are those of edition 1 (document 02, E13).
 
 use model::code::bch;
 use model::field::FieldChoice::{Fourteen, Thirteen};
@@ -17,7 +17,7 @@ fn one_block(metadata: u32, level_field: u32, gf: u32, units: u32) -> Vec<u8> {
 }
 
 fn reply(record: &[u8]) -> u8 {
-    check_layout(record).map_or_else(|refusal| refusal.number(), |_| 0)
+    check_layout(1, record).map_or_else(|refusal| refusal.number(), |_| 0)
 }
 
 fn case_e() -> Vec<u8> {
@@ -27,13 +27,13 @@ fn case_e() -> Vec<u8> {
 /// The page of case F.
 fn page_of_zeros() -> Vec<u8> {
     let mut page = vec![0xA5; 15];
-    assert_eq!(write_page(&case_e(), &[], &[0; 8], &mut page), Ok(()));
+    assert_eq!(write_page(1, &case_e(), &[], &[0; 8], &mut page), Ok(()));
     page
 }
 
 #[test]
 fn case_a() {
-    let layout = check_layout(&record(0x070A_4080, 0x10DA_4080)).unwrap();
+    let layout = check_layout(1, &record(0x070A_4080, 0x10DA_4080)).unwrap();
     assert_eq!(layout.later_blocks, 7);
     assert_eq!(layout.metadata_length, 10);
     assert_eq!((layout.block0.t(), layout.block0.choice), (16, Thirteen));
@@ -53,21 +53,21 @@ fn case_b() {
 
 #[test]
 fn case_c() {
-    let accepted = check_layout(&one_block(2, 0x14, 0, 239)).unwrap();
+    let accepted = check_layout(1, &one_block(2, 0x14, 0, 239)).unwrap();
     assert_eq!(accepted.used_bits(), 8184);
     assert_eq!(reply(&one_block(3, 0x14, 0, 239)), 3);
 }
 
 #[test]
 fn case_d() {
-    let accepted = check_layout(&one_block(1, 0x14, 1, 494)).unwrap();
+    let accepted = check_layout(1, &one_block(1, 0x14, 1, 494)).unwrap();
     assert_eq!(accepted.used_bits(), 16376);
     assert_eq!(reply(&one_block(2, 0x14, 1, 494)), 3);
 }
 
 #[test]
 fn case_e_places() {
-    let layout = check_layout(&case_e()).unwrap();
+    let layout = check_layout(1, &case_e()).unwrap();
     assert_eq!(layout.blocks(), 2);
     assert_eq!(layout.block(0).covered_bits(), 58);
     assert_eq!(layout.block(1).covered_bits(), 58);
@@ -76,13 +76,13 @@ fn case_e_places() {
     assert_eq!(8 * layout.page_length - layout.used_bits(), 4);
 
     let covered = |block, exponent| Ok(BitPlace::Covered { block, exponent });
-    assert_eq!(locate_bit(&case_e(), 0), covered(0, 57));
-    assert_eq!(locate_bit(&case_e(), 57), covered(0, 0));
-    assert_eq!(locate_bit(&case_e(), 58), covered(1, 57));
-    assert_eq!(locate_bit(&case_e(), 115), covered(1, 0));
-    assert_eq!(locate_bit(&case_e(), 116), Ok(BitPlace::Tail));
-    assert_eq!(locate_bit(&case_e(), 119), Ok(BitPlace::Tail));
-    assert_eq!(locate_bit(&case_e(), 120), Err(Reply::OutOfRange.into()));
+    assert_eq!(locate_bit(1, &case_e(), 0), covered(0, 57));
+    assert_eq!(locate_bit(1, &case_e(), 57), covered(0, 0));
+    assert_eq!(locate_bit(1, &case_e(), 58), covered(1, 57));
+    assert_eq!(locate_bit(1, &case_e(), 115), covered(1, 0));
+    assert_eq!(locate_bit(1, &case_e(), 116), Ok(BitPlace::Tail));
+    assert_eq!(locate_bit(1, &case_e(), 119), Ok(BitPlace::Tail));
+    assert_eq!(locate_bit(1, &case_e(), 120), Err(Reply::OutOfRange.into()));
 }
 
 #[test]
@@ -95,12 +95,12 @@ fn case_g() {
     let mut page = page_of_zeros();
     page[0] = 0x80;
     let (mut data, mut counts) = ([0xFF; 8], [0xFF; 2]);
-    assert_eq!(look_page(&case_e(), &page, &mut counts), Ok(()));
+    assert_eq!(look_page(1, &case_e(), &page, &mut counts), Ok(()));
     assert_eq!(counts, [1, 0]);
-    assert_eq!(take_page(&case_e(), &page, &mut [], &mut data), Ok(()));
+    assert_eq!(take_page(1, &case_e(), &page, &mut [], &mut data), Ok(()));
     assert_eq!(data, [0; 8]);
-    assert_eq!(judge_block(&case_e(), &page, 0), Ok(1));
-    assert_eq!(bit_position(&case_e(), 0, 57), Ok(0));
+    assert_eq!(judge_block(1, &case_e(), &page, 0), Ok(1));
+    assert_eq!(bit_position(1, &case_e(), 0, 57), Ok(0));
 }
 
 #[test]
@@ -139,6 +139,6 @@ fn case_l() {
     let mut page = page_of_zeros();
     page[0] = 0x80;
     let wrong = Err(Reply::ClaimWrong.into());
-    assert_eq!(check_claim(&case_e(), &page, 0, &[57, 57]), wrong);
-    assert_eq!(check_claim(&case_e(), &page, 0, &[57]), Ok(()));
+    assert_eq!(check_claim(1, &case_e(), &page, 0, &[57, 57]), wrong);
+    assert_eq!(check_claim(1, &case_e(), &page, 0, &[57]), Ok(()));
 }

@@ -1,6 +1,6 @@
 //! The fields, the generators and the decoder against the definitions.
 
-use model::code::{Code, bch, flip_exponents};
+use model::code::{Code, HIGHEST_LEVEL, bch, flip_exponents};
 use model::decoder::{errors_of_remainder, errors_of_word};
 use model::field::{Field, FieldChoice};
 use model::random::Random;
@@ -46,7 +46,7 @@ fn product_is_that_of_polynomials() {
 fn generator_is_of_least_degree() {
     for choice in FieldChoice::ALL {
         let field = choice.field();
-        for t in 0..=40 {
+        for t in 0..=HIGHEST_LEVEL {
             let code = bch(choice, t);
             assert!(code.generator()[0]);
             assert!(code.is_codeword(code.generator()));
@@ -63,7 +63,7 @@ fn generator_is_of_least_degree() {
 fn codewords_are_the_words_without_remainder() {
     let mut random = Random::new(2);
     for choice in FieldChoice::ALL {
-        for t in 0..=40 {
+        for t in 0..=HIGHEST_LEVEL {
             let code = bch(choice, t);
             let length = random.within(1, 1000);
             let message = random.bits(length);
@@ -90,7 +90,7 @@ fn damaged(code: &Code, n: usize, exponents: &[usize], random: &mut Random) -> V
 fn up_to_t_errors_are_found() {
     let mut random = Random::new(3);
     for choice in FieldChoice::ALL {
-        for t in 1..=40 {
+        for t in (1..=40).chain((42..=HIGHEST_LEVEL).step_by(4)) {
             let code = bch(choice, t);
             let longest = code.field.order();
             for n in [
@@ -117,7 +117,7 @@ fn up_to_t_errors_are_found() {
 fn more_than_t_errors_are_refused_or_lead_to_a_codeword() {
     let mut random = Random::new(4);
     for choice in FieldChoice::ALL {
-        for t in [1, 2, 3, 4, 8, 16, 40] {
+        for t in [1, 2, 3, 4, 8, 16, 40, HIGHEST_LEVEL] {
             let code = bch(choice, t);
             for n in [code.parity_length() + 8, code.field.order()] {
                 for count in [t + 1, t + 2, 2 * t, 2 * t + 1, n / 2] {

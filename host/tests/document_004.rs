@@ -18,7 +18,7 @@ fn remainder(hexadecimal: &str, t: usize) -> Vec<u8> {
 fn located(hexadecimal: &str, t: usize, n: usize) -> Result<Vec<u16>, u8> {
     let remainder = remainder(hexadecimal, t);
     let mut places = vec![0xFFFF; t];
-    let count = locate_errors(t as u64 / 2, 0, n as u64, &remainder, &mut places)
+    let count = locate_errors(1, t as u64 / 2, 0, n as u64, &remainder, &mut places)
         .map_err(|refusal| refusal.number())?;
     assert!(places[count..].iter().all(|&place| place == 0xFFFF));
     places.truncate(count);

@@ -22,7 +22,7 @@ type Read = Result<(Vec<u8>, Vec<u8>, Vec<u8>), Refusal>;
 impl Page {
     fn ones(words: LayoutWords) -> Page {
         let record = words.pack();
-        let layout = check_layout(&record).unwrap();
+        let layout = check_layout(2, &record).unwrap();
         let bytes = vec![0xFF; layout.page_length];
         Page {
             record,
@@ -44,20 +44,20 @@ impl Page {
     /// Metadata, data and counts, from looking and then taking.
     fn read(&self) -> Read {
         let mut counts = vec![0xA5; self.layout.blocks()];
-        let looked = look_page(&self.record, &self.bytes, &mut counts);
+        let looked = look_page(2, &self.record, &self.bytes, &mut counts);
         let mut metadata = vec![0xA5; self.layout.metadata_length];
         let mut data = vec![0xA5; self.layout.data_length()];
-        let taken = take_page(&self.record, &self.bytes, &mut metadata, &mut data);
+        let taken = take_page(2, &self.record, &self.bytes, &mut metadata, &mut data);
         assert_eq!(looked, taken);
         taken.map(|()| (metadata, data, counts))
     }
 
     fn judge(&self, block: usize) -> Result<usize, Refusal> {
-        judge_block(&self.record, &self.bytes, block as u64)
+        judge_block(2, &self.record, &self.bytes, block as u64)
     }
 
     fn claim(&self, block: usize, claims: &[u16]) -> Result<(), Refusal> {
-        check_claim(&self.record, &self.bytes, block as u64, claims)
+        check_claim(2, &self.record, &self.bytes, block as u64, claims)
     }
 }
 
@@ -130,15 +130,16 @@ fn a_page_half_erased_and_half_written() {
     assert_eq!(page.judge(7), Err(Refusal::uncorrectable(7)));
 }
 
-/// The highest level: the highest count is 168.
+/// The highest level of either edition: the highest counts are 168 and 190.
 #[test]
 fn the_highest_count() {
-    let words = edge_layouts()[4];
-    for block in 0..4 {
-        let page = Page::ones(words).zeros(block, 10..50);
-        assert_eq!(page.judge(block), Ok(168));
-        let page = page.zeros(block, [50]);
-        assert_eq!(page.judge(block), Err(Refusal::uncorrectable(block)));
+    for (words, t) in edge_layouts()[4..].iter().zip([40, 62]) {
+        for block in 0..4 {
+            let page = Page::ones(*words).zeros(block, 10..10 + t);
+            assert_eq!(page.judge(block), Ok(128 + t));
+            let page = page.zeros(block, [10 + t]);
+            assert_eq!(page.judge(block), Err(Refusal::uncorrectable(block)));
+        }
     }
 }
 
@@ -218,7 +219,7 @@ fn claims_and_locating_stay() {
     let shape = page.layout.block(3);
     let word = block_word(&page.layout, &page.bytes, 3);
     let remainder = model::bits::bytes_of(&shape.code().remainder(&word));
-    let located = locate_errors(8, 0, 4304, &remainder, &mut [0; 16]);
+    let located = locate_errors(2, 8, 0, 4304, &remainder, &mut [0; 16]);
     assert_eq!(located, Err(Reply::Uncorrectable.into()));
 }
 

@@ -22,7 +22,7 @@ fn compare(empty: EmptyPointer, rounds: u64, seed: u64) -> Vec<usize> {
     calls
 }
 
-/// RUDDERFIG_ROUNDS asks for more rounds than the usual eight, of some 19,000 calls each.
+/// RUDDERFIG_ROUNDS asks for more rounds than the usual eight, of some 26,000 calls each.
 #[test]
 fn exported_calls_are_those_of_the_model() {
     let rounds = std::env::var("RUDDERFIG_ROUNDS").map_or(8, |text| text.parse().unwrap());

@@ -1,5 +1,5 @@
 //! The comparison finds nothing against the model itself, provokes every reply, meets every edge of the
-//! rules for erased and ruined blocks and for marks, and finds faulty libraries out.
+//! rules for erased and ruined blocks, for marks and for the levels of edition 2, and finds faulty libraries out.
 
 mod faulty;
 
@@ -61,6 +61,12 @@ fn not_found(faults: &[Fault], compare: fn(&mut Comparison) -> bool) -> Vec<Faul
 #[test]
 fn faulty_libraries_are_found_out() {
     let layouts = [
+        Fault::FieldAboveTwentyAccepted,
+        Fault::HighestFieldRefused,
+        Fault::EditionAfterLength,
+        Fault::EditionCutShort,
+        Fault::BitForgetsEdition,
+        Fault::PositionForgetsEdition,
         Fault::RecordOfTwelveRefused,
         Fault::LongRecordTaken,
         Fault::MarkAtTheEndRefused,
@@ -76,6 +82,10 @@ fn faulty_libraries_are_found_out() {
         Fault::PositionInStream,
     ];
     let remainders = [
+        Fault::LocateForgetsEdition,
+        Fault::LocatedFieldAboveTwenty,
+        Fault::LocatedHighestFieldRefused,
+        Fault::LocateEditionNotLookedAt,
         Fault::PlacesAscending,
         Fault::PlacesAfterwardsCleared,
         Fault::PlaceWrittenOnRefusal,
@@ -87,11 +97,22 @@ fn faulty_libraries_are_found_out() {
         Fault::RemainderWrittenOnRefusal,
     ];
     let pieces = [
+        Fault::StartForgetsEdition,
+        Fault::StartedFieldAboveTwenty,
+        Fault::StartedHighestFieldRefused,
+        Fault::StartEditionNotLookedAt,
+        Fault::StateAboveTwentyRefused,
         Fault::StateWrittenOnRefusal,
         Fault::StateWrittenByFinish,
         Fault::PieceTakenInPart,
     ];
     let pages = [
+        Fault::WriteForgetsEdition,
+        Fault::LookForgetsEdition,
+        Fault::TakeForgetsEdition,
+        Fault::JudgeForgetsEdition,
+        Fault::ClaimForgetsEdition,
+        Fault::CountsEndAt168,
         Fault::NothingWritten,
         Fault::TailOfZeros,
         Fault::MarkWritten,

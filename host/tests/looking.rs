@@ -24,8 +24,8 @@ fn outputs(layout: &Layout, random: &mut Random) -> Outputs {
 
 /// Document 01's joint call, which reads metadata, data and counts at once and on any refusal leaves all
 /// of them as they were lent. It is kept here for one test alone.
-fn read_page(record: &[u8], page: &[u8], lent: &mut Outputs) -> Result<(), Refusal> {
-    let layout = check_layout(record)?;
+fn read_page(edition: u64, record: &[u8], page: &[u8], lent: &mut Outputs) -> Result<(), Refusal> {
+    let layout = check_layout(edition, record)?;
     let (metadata, data, counts) = lent;
     refuse_by(&[
         (Reply::PageLength, page.len() != layout.page_length),
@@ -83,9 +83,15 @@ fn looking_then_taking_is_the_joint_call_but_for_the_counts_under_9() {
         for page in pages {
             let lent = outputs(&written.layout, &mut random);
             let (mut joint, mut split) = (lent.clone(), lent.clone());
-            let read = read_page(&written.record, &page, &mut joint);
-            let looked = look_page(&written.record, &page, &mut split.2);
-            let taken = take_page(&written.record, &page, &mut split.0, &mut split.1);
+            let read = read_page(written.edition, &written.record, &page, &mut joint);
+            let looked = look_page(written.edition, &written.record, &page, &mut split.2);
+            let taken = take_page(
+                written.edition,
+                &written.record,
+                &page,
+                &mut split.0,
+                &mut split.1,
+            );
             assert_eq!((looked, taken), (read, read));
             assert_eq!((&split.0, &split.1), (&joint.0, &joint.1));
             if read.is_ok() {
@@ -108,11 +114,11 @@ fn looking_counts_every_block_as_judging_does() {
     for (written, pages) in sampled_pages(&mut random) {
         for page in pages {
             let mut counts = random.bytes(written.layout.blocks());
-            let looked = look_page(&written.record, &page, &mut counts);
+            let looked = look_page(written.edition, &written.record, &page, &mut counts);
             let mut lowest = None;
             for (block, &count) in counts.iter().enumerate() {
                 let t = written.layout.block(block).t();
-                match judge_block(&written.record, &page, block as u64) {
+                match judge_block(written.edition, &written.record, &page, block as u64) {
                     Ok(judged) => assert_eq!(count as usize, judged),
                     Err(refusal) => {
                         assert_eq!((count, refusal), (RUINED, Refusal::uncorrectable(block)));
@@ -128,7 +134,7 @@ fn looking_counts_every_block_as_judging_does() {
     }
 }
 
-/// A look and a take with one to three arguments spoilt: whatever is refused with 1 to 6 or 11 writes nothing,
+/// A look and a take with one to three arguments spoilt: whatever is refused with 1 to 7 or 11 writes nothing,
 /// be a block ruined or not.
 #[test]
 fn other_refusals_write_nothing() {
@@ -146,7 +152,7 @@ fn other_refusals_write_nothing() {
             replies[reply] += 1;
         }
     }
-    let others = [1, 2, 3, 4, 5, 6, 11];
+    let others = [1, 2, 3, 4, 5, 6, 7, 11];
     assert!(
         others.iter().all(|&reply| replies[reply] > 20),
         "{replies:?}"
@@ -181,14 +187,25 @@ impl Case {
 
     fn look(&self) -> (Result<(), Refusal>, Vec<u8>) {
         let mut counts = vec![BEFORE; self.written.layout.blocks()];
-        let looked = look_page(&self.written.record, &self.page, &mut counts);
+        let looked = look_page(
+            self.written.edition,
+            &self.written.record,
+            &self.page,
+            &mut counts,
+        );
         (looked, counts)
     }
 
     fn take(&self) -> (Result<(), Refusal>, Vec<u8>, Vec<u8>) {
         let mut metadata = vec![BEFORE; self.written.metadata.len()];
         let mut data = vec![BEFORE; self.written.data.len()];
-        let taken = take_page(&self.written.record, &self.page, &mut metadata, &mut data);
+        let taken = take_page(
+            self.written.edition,
+            &self.written.record,
+            &self.page,
+            &mut metadata,
+            &mut data,
+        );
         (taken, metadata, data)
     }
 
@@ -244,7 +261,7 @@ fn erased_blocks_before_and_behind_a_ruined_one() {
 #[test]
 fn blocks_without_ecc_beside_a_ruined_one() {
     let mut random = Random::new(66);
-    let [_, _, first, later, _] = edge_layouts();
+    let [_, _, first, later, ..] = edge_layouts();
     Case::new(first, &mut random)
         .erase(2)
         .damage(2, 3, &mut random)
@@ -269,17 +286,17 @@ fn lengths_come_before_a_ruined_block() {
     let wrong = Err(Reply::BufferLength.into());
     for length in [0, 1, 3, 255] {
         let mut counts = vec![BEFORE; length];
-        assert_eq!(look_page(record, page, &mut counts), wrong);
+        assert_eq!(look_page(1, record, page, &mut counts), wrong);
         assert_eq!(counts, vec![BEFORE; length]);
     }
     let mut counts = [BEFORE; 2];
     let short = Err(Reply::PageLength.into());
-    assert_eq!(look_page(record, &page[..14], &mut counts), short);
-    assert_eq!(look_page(&record[..7], page, &mut counts), wrong);
+    assert_eq!(look_page(1, record, &page[..14], &mut counts), short);
+    assert_eq!(look_page(1, &record[..7], page, &mut counts), wrong);
     assert_eq!(counts, [BEFORE; 2]);
     for (metadata, data) in [(1, 8), (0, 7), (0, 9), (0, 0)] {
         let mut lent = (vec![BEFORE; metadata], vec![BEFORE; data]);
-        assert_eq!(take_page(record, page, &mut lent.0, &mut lent.1), wrong);
+        assert_eq!(take_page(1, record, page, &mut lent.0, &mut lent.1), wrong);
         assert_eq!(lent, (vec![BEFORE; metadata], vec![BEFORE; data]));
     }
 }

@@ -1,6 +1,7 @@
 //! The factory's mark (document 02, E7).
 
 use model::bits::flip;
+use model::edition::Edition;
 use model::layout::{LayoutRecord, LayoutWords, MarkWord, Part, Reason};
 use model::random::Random;
 use model::samples::edges::{OF_MARK, add, mark_edges};
@@ -21,7 +22,7 @@ fn record(words: LayoutWords, offset: u16, length: u8, zero_bits: u8) -> Vec<u8>
 }
 
 fn reply(record: &[u8]) -> u8 {
-    check_layout(record).map_or_else(|refusal| refusal.number(), |_| 0)
+    check_layout(1, record).map_or_else(|refusal| refusal.number(), |_| 0)
 }
 
 /// The reply's number and the two numbers compared.
@@ -32,7 +33,7 @@ fn reason(record: &[u8]) -> (u8, usize, usize) {
         part,
         found,
         limit,
-    } = layout.reason().unwrap();
+    } = layout.reason(Edition::First).unwrap();
     assert_eq!((part, reply(record)), (Part::Page, rule as u8));
     (rule as u8, found, limit)
 }
@@ -142,7 +143,7 @@ fn a_page_of_mark_and_tail_is_refused() {
         for offset in [0, 1] {
             let record = record(but_one, offset, length, 0);
             let mut page = vec![0xA5; page_size as usize];
-            assert_eq!(write_page(&record, &[0x3C], &[], &mut page), Ok(()));
+            assert_eq!(write_page(1, &record, &[0x3C], &[], &mut page), Ok(()));
             let mut expected = vec![0xA5; page_size as usize];
             expected[if offset == 0 { length as usize } else { 0 }] = 0x3C;
             assert_eq!(page, expected);
@@ -167,13 +168,16 @@ fn precedence_of_marks() {
     let wrong = record(CASE_E, 16, 0, 0);
     let refused = Refusal::from(Reply::MarkOutside);
     assert_eq!((refused.number(), refused.block), (11, 0));
-    assert_eq!(locate_bit(&wrong, u64::MAX), Err(refused));
-    assert_eq!(bit_position(&wrong, 9, 0), Err(refused));
-    assert_eq!(write_page(&wrong, &[0], &[], &mut [0; 3]), Err(refused));
-    assert_eq!(look_page(&wrong, &[0; 3], &mut []), Err(refused));
-    assert_eq!(take_page(&wrong, &[0; 3], &mut [], &mut []), Err(refused));
-    assert_eq!(judge_block(&wrong, &[0; 3], 9), Err(refused));
-    assert_eq!(check_claim(&wrong, &[0; 3], 9, &[58]), Err(refused));
+    assert_eq!(locate_bit(1, &wrong, u64::MAX), Err(refused));
+    assert_eq!(bit_position(1, &wrong, 9, 0), Err(refused));
+    assert_eq!(write_page(1, &wrong, &[0], &[], &mut [0; 3]), Err(refused));
+    assert_eq!(look_page(1, &wrong, &[0; 3], &mut []), Err(refused));
+    assert_eq!(
+        take_page(1, &wrong, &[0; 3], &mut [], &mut []),
+        Err(refused)
+    );
+    assert_eq!(judge_block(1, &wrong, &[0; 3], 9), Err(refused));
+    assert_eq!(check_claim(1, &wrong, &[0; 3], 9, &[58]), Err(refused));
 }
 
 /// Under case E with a mark of two bytes: where each bit stands.
@@ -181,28 +185,28 @@ fn precedence_of_marks() {
 fn case_e_with_a_mark() {
     let covered = |block, exponent| Ok(BitPlace::Covered { block, exponent });
     let first = with_mark(CASE_E, 0, 2).pack();
-    assert_eq!(locate_bit(&first, 0), Ok(BitPlace::Mark));
-    assert_eq!(locate_bit(&first, 15), Ok(BitPlace::Mark));
-    assert_eq!(locate_bit(&first, 16), covered(0, 57));
-    assert_eq!(bit_position(&first, 0, 57), Ok(16));
-    assert_eq!(locate_bit(&first, 132), Ok(BitPlace::Tail));
+    assert_eq!(locate_bit(1, &first, 0), Ok(BitPlace::Mark));
+    assert_eq!(locate_bit(1, &first, 15), Ok(BitPlace::Mark));
+    assert_eq!(locate_bit(1, &first, 16), covered(0, 57));
+    assert_eq!(bit_position(1, &first, 0, 57), Ok(16));
+    assert_eq!(locate_bit(1, &first, 132), Ok(BitPlace::Tail));
 
     let parity = with_mark(CASE_E, 7, 2).pack();
-    assert_eq!(locate_bit(&parity, 55), covered(0, 2));
-    assert_eq!(locate_bit(&parity, 56), Ok(BitPlace::Mark));
-    assert_eq!(locate_bit(&parity, 71), Ok(BitPlace::Mark));
-    assert_eq!(locate_bit(&parity, 72), covered(0, 1));
-    assert_eq!(locate_bit(&parity, 74), covered(1, 57));
-    assert_eq!(bit_position(&parity, 1, 57), Ok(74));
+    assert_eq!(locate_bit(1, &parity, 55), covered(0, 2));
+    assert_eq!(locate_bit(1, &parity, 56), Ok(BitPlace::Mark));
+    assert_eq!(locate_bit(1, &parity, 71), Ok(BitPlace::Mark));
+    assert_eq!(locate_bit(1, &parity, 72), covered(0, 1));
+    assert_eq!(locate_bit(1, &parity, 74), covered(1, 57));
+    assert_eq!(bit_position(1, &parity, 1, 57), Ok(74));
 
     let last = with_mark(CASE_E, 15, 2).pack();
-    assert_eq!(locate_bit(&last, 119), Ok(BitPlace::Tail));
-    assert_eq!(locate_bit(&last, 120), Ok(BitPlace::Mark));
-    assert_eq!(locate_bit(&last, 135), Ok(BitPlace::Mark));
-    assert_eq!(locate_bit(&last, 136), Err(Reply::OutOfRange.into()));
+    assert_eq!(locate_bit(1, &last, 119), Ok(BitPlace::Tail));
+    assert_eq!(locate_bit(1, &last, 120), Ok(BitPlace::Mark));
+    assert_eq!(locate_bit(1, &last, 135), Ok(BitPlace::Mark));
+    assert_eq!(locate_bit(1, &last, 136), Err(Reply::OutOfRange.into()));
 
     let mut page = [0x5A; 17];
-    assert_eq!(write_page(&parity, &[], &[0; 8], &mut page), Ok(()));
+    assert_eq!(write_page(1, &parity, &[], &[0; 8], &mut page), Ok(()));
     let written = [vec![0; 7], vec![0x5A; 2], vec![0; 7], vec![0x0F]].concat();
     assert_eq!(page[..], written);
 }
@@ -214,25 +218,25 @@ fn bits_go_both_ways_around_a_mark() {
     let mut random = Random::new(71);
     for (sample, _) in samples(&mut random) {
         let record = sample.pack();
-        let layout = check_layout(&record).unwrap();
+        let layout = check_layout(2, &record).unwrap();
         let mut expected = layout.stream();
         for block in 0..layout.blocks() {
             for exponent in (0..layout.block(block).covered_bits()).rev() {
-                let position = bit_position(&record, block as u64, exponent as u64).unwrap();
+                let position = bit_position(2, &record, block as u64, exponent as u64).unwrap();
                 assert_eq!(expected.next(), Some(position));
                 let place = BitPlace::Covered { block, exponent };
-                assert_eq!(locate_bit(&record, position as u64), Ok(place));
+                assert_eq!(locate_bit(2, &record, position as u64), Ok(place));
             }
         }
         for position in expected {
-            assert_eq!(locate_bit(&record, position as u64), Ok(BitPlace::Tail));
+            assert_eq!(locate_bit(2, &record, position as u64), Ok(BitPlace::Tail));
         }
         let marked = |byte: usize| {
             let first = layout.mark.offset as usize;
             (first..first + layout.mark.length as usize).contains(&byte)
         };
         for position in 0..8 * layout.page_length {
-            let is_mark = locate_bit(&record, position as u64) == Ok(BitPlace::Mark);
+            let is_mark = locate_bit(2, &record, position as u64) == Ok(BitPlace::Mark);
             assert_eq!(is_mark, marked(position / 8));
         }
         assert_eq!(layout.stream().count(), layout.stream_bits());
@@ -253,8 +257,14 @@ fn a_page_around_a_mark_is_a_page_without() {
         let held = random.bytes(layout.page_length);
         let (mut page, mut cut) = (held.clone(), without_mark(&held, layout));
         let (metadata, data) = (&written.metadata, &written.data);
-        assert_eq!(write_page(&record, metadata, data, &mut page), Ok(()));
-        assert_eq!(write_page(&plain, metadata, data, &mut cut), Ok(()));
+        assert_eq!(
+            write_page(written.edition, &record, metadata, data, &mut page),
+            Ok(())
+        );
+        assert_eq!(
+            write_page(written.edition, &plain, metadata, data, &mut cut),
+            Ok(())
+        );
         assert_eq!(without_mark(&page, layout), cut);
         let mark = layout.mark_places();
         let bytes = mark.start / 8..mark.end / 8;
@@ -279,24 +289,30 @@ fn a_page_around_a_mark_is_a_page_without() {
 fn same_answers(written: &WrittenPage, page: &[u8], other_record: &[u8], other_page: &[u8]) {
     let look = |record: &[u8], page: &[u8]| {
         let mut counts = vec![0xA5; written.layout.blocks()];
-        (look_page(record, page, &mut counts), counts)
+        (
+            look_page(written.edition, record, page, &mut counts),
+            counts,
+        )
     };
     let take = |record: &[u8], page: &[u8]| {
         let mut taken = (vec![0xA5; written.metadata.len()], written.data.clone());
-        let reply = take_page(record, page, &mut taken.0, &mut taken.1);
+        let reply = take_page(written.edition, record, page, &mut taken.0, &mut taken.1);
         (reply, taken)
     };
     let record = &written.record;
     assert_eq!(look(record, page), look(other_record, other_page));
     assert_eq!(take(record, page), take(other_record, other_page));
     for block in 0..=written.layout.blocks() as u64 {
-        let judged = judge_block(record, page, block);
-        assert_eq!(judged, judge_block(other_record, other_page, block));
+        let judged = judge_block(written.edition, record, page, block);
+        assert_eq!(
+            judged,
+            judge_block(written.edition, other_record, other_page, block)
+        );
         for claims in [&[][..], &[0], &[7, 9]] {
-            let claimed = check_claim(record, page, block, claims);
+            let claimed = check_claim(written.edition, record, page, block, claims);
             assert_eq!(
                 claimed,
-                check_claim(other_record, other_page, block, claims)
+                check_claim(written.edition, other_record, other_page, block, claims)
             );
         }
     }
@@ -317,11 +333,20 @@ fn damage_around_a_mark_reads_back() {
         }
         damage_tail(&mut page, layout, &mut random);
         let mut counts = vec![0xA5; layout.blocks()];
-        assert_eq!(look_page(&written.record, &page, &mut counts), Ok(()));
+        assert_eq!(
+            look_page(written.edition, &written.record, &page, &mut counts),
+            Ok(())
+        );
         assert_eq!(counts, flips);
         let mut metadata = vec![0xA5; written.metadata.len()];
         let mut data = vec![0xA5; written.data.len()];
-        let taken = take_page(&written.record, &page, &mut metadata, &mut data);
+        let taken = take_page(
+            written.edition,
+            &written.record,
+            &page,
+            &mut metadata,
+            &mut data,
+        );
         assert_eq!(taken, Ok(()));
         assert_eq!((metadata, data), (written.metadata, written.data));
     }
@@ -336,14 +361,20 @@ fn eight_bytes_mean_no_mark() {
             let words = accepted_words(&mut random, most_page_bytes);
             let eight = WrittenPage::new(words, &mut random);
             let twelve = [eight.record.clone(), vec![0; 4]].concat();
-            let layout = check_layout(&eight.record).unwrap();
+            let layout = check_layout(eight.edition, &eight.record).unwrap();
             assert!(layout.stream().eq(0..8 * layout.page_length));
             let mut page = random.bytes(layout.page_length);
-            let reply = write_page(&twelve, &eight.metadata, &eight.data, &mut page);
+            let reply = write_page(
+                eight.edition,
+                &twelve,
+                &eight.metadata,
+                &eight.data,
+                &mut page,
+            );
             assert_eq!((reply, &page), (Ok(()), &eight.page));
             for position in (0..8 * layout.page_length as u64 + 2).step_by(5) {
-                let found = locate_bit(&eight.record, position);
-                assert_eq!(found, locate_bit(&twelve, position));
+                let found = locate_bit(eight.edition, &eight.record, position);
+                assert_eq!(found, locate_bit(eight.edition, &twelve, position));
                 assert_ne!(found, Ok(BitPlace::Mark));
             }
             let page = eight.overdamaged(&mut random).0;

@@ -14,7 +14,9 @@ fn written(random: &mut Random, most_page_bytes: usize) -> WrittenPage {
 fn word(written: &WrittenPage, block: usize) -> Vec<bool> {
     (0..written.layout.block(block).covered_bits() as u64)
         .rev()
-        .map(|exponent| bit_position(&written.record, block as u64, exponent).unwrap())
+        .map(|exponent| {
+            bit_position(written.edition, &written.record, block as u64, exponent).unwrap()
+        })
         .map(|position| bit(&written.page, position))
         .collect()
 }
@@ -43,22 +45,22 @@ fn bits_go_both_ways() {
     let mut random = Random::new(8);
     for _ in 0..40 {
         let record = accepted_words(&mut random, 200).pack();
-        let layout = check_layout(&record).unwrap();
+        let layout = check_layout(2, &record).unwrap();
         let mut position = 0;
         for block in 0..layout.blocks() {
             for exponent in (0..layout.block(block).covered_bits()).rev() {
                 let place = BitPlace::Covered { block, exponent };
-                assert_eq!(locate_bit(&record, position), Ok(place));
-                let found = bit_position(&record, block as u64, exponent as u64);
+                assert_eq!(locate_bit(2, &record, position), Ok(place));
+                let found = bit_position(2, &record, block as u64, exponent as u64);
                 assert_eq!(found, Ok(position as usize));
                 position += 1;
             }
             let n = layout.block(block).covered_bits() as u64;
-            let refused = bit_position(&record, block as u64, n);
+            let refused = bit_position(2, &record, block as u64, n);
             assert_eq!(refused, Err(Reply::OutOfRange.into()));
         }
         for position in position..8 * layout.page_length as u64 {
-            assert_eq!(locate_bit(&record, position), Ok(BitPlace::Tail));
+            assert_eq!(locate_bit(2, &record, position), Ok(BitPlace::Tail));
         }
     }
 }
@@ -68,6 +70,7 @@ fn damage_up_to_t_reads_back() {
     let mut random = Random::new(9);
     for _ in 0..150 {
         let WrittenPage {
+            edition,
             record,
             layout,
             metadata,
@@ -85,15 +88,21 @@ fn damage_up_to_t_reads_back() {
                 .rev()
                 .map(|&exponent| exponent as u16)
                 .collect();
-            assert_eq!(check_claim(&record, &page, block as u64, &claims), Ok(()));
-            assert_eq!(judge_block(&record, &page, block as u64), Ok(count));
+            assert_eq!(
+                check_claim(edition, &record, &page, block as u64, &claims),
+                Ok(())
+            );
+            assert_eq!(
+                judge_block(edition, &record, &page, block as u64),
+                Ok(count)
+            );
             flips.push(count as u8);
         }
         damage_tail(&mut page, &layout, &mut random);
         let mut counts = random.bytes(layout.blocks());
-        assert_eq!(look_page(&record, &page, &mut counts), Ok(()));
+        assert_eq!(look_page(edition, &record, &page, &mut counts), Ok(()));
         let mut taken = (random.bytes(metadata.len()), random.bytes(data.len()));
-        let reply = take_page(&record, &page, &mut taken.0, &mut taken.1);
+        let reply = take_page(edition, &record, &page, &mut taken.0, &mut taken.1);
         assert_eq!(reply, Ok(()));
         assert_eq!((taken, counts), ((metadata, data), flips));
     }
@@ -109,27 +118,27 @@ fn precedence_in_page_calls() {
     let good = 0x0100_0801_000F_0801_u64.to_be_bytes();
     let refused = 0x0100_A801_000F_0801_u64.to_be_bytes();
     let (page, ruined) = ([0; 15], [0x55; 15]);
-    assert_eq!(number(judge_block(&good[..7], &page[..3], 9)), 6);
-    assert_eq!(number(judge_block(&refused, &page[..3], 9)), 1);
-    assert_eq!(number(judge_block(&good, &page[..3], 9)), 5);
-    assert_eq!(number(judge_block(&good, &ruined, 2)), 7);
+    assert_eq!(number(judge_block(1, &good[..7], &page[..3], 9)), 6);
+    assert_eq!(number(judge_block(1, &refused, &page[..3], 9)), 1);
+    assert_eq!(number(judge_block(1, &good, &page[..3], 9)), 5);
+    assert_eq!(number(judge_block(1, &good, &ruined, 2)), 7);
     assert_eq!(
-        judge_block(&good, &ruined, 1),
+        judge_block(1, &good, &ruined, 1),
         Err(Refusal::uncorrectable(1))
     );
-    assert_eq!(number(check_claim(&good, &page[..3], 9, &[58])), 5);
-    assert_eq!(number(check_claim(&good, &page, 1 << 32, &[58])), 7);
-    assert_eq!(number(check_claim(&good, &page, 1, &[58])), 10);
-    assert_eq!(number(check_claim(&good, &page, 1, &[])), 0);
-    assert_eq!(number(look_page(&good[..7], &page[..3], &mut [])), 6);
-    assert_eq!(number(look_page(&refused, &page[..3], &mut [])), 1);
-    assert_eq!(number(look_page(&good, &page[..3], &mut [])), 5);
-    assert_eq!(number(look_page(&good, &ruined, &mut [0; 1])), 6);
-    assert_eq!(number(look_page(&good, &ruined, &mut [0; 3])), 6);
-    assert_eq!(number(look_page(&good, &ruined, &mut [0; 2])), 9);
+    assert_eq!(number(check_claim(1, &good, &page[..3], 9, &[58])), 5);
+    assert_eq!(number(check_claim(1, &good, &page, 1 << 32, &[58])), 7);
+    assert_eq!(number(check_claim(1, &good, &page, 1, &[58])), 10);
+    assert_eq!(number(check_claim(1, &good, &page, 1, &[])), 0);
+    assert_eq!(number(look_page(1, &good[..7], &page[..3], &mut [])), 6);
+    assert_eq!(number(look_page(1, &refused, &page[..3], &mut [])), 1);
+    assert_eq!(number(look_page(1, &good, &page[..3], &mut [])), 5);
+    assert_eq!(number(look_page(1, &good, &ruined, &mut [0; 1])), 6);
+    assert_eq!(number(look_page(1, &good, &ruined, &mut [0; 3])), 6);
+    assert_eq!(number(look_page(1, &good, &ruined, &mut [0; 2])), 9);
     let take = |record, page, metadata: usize, data: usize| {
         let (mut metadata, mut data) = (vec![0; metadata], vec![0; data]);
-        number(take_page(record, page, &mut metadata, &mut data))
+        number(take_page(1, record, page, &mut metadata, &mut data))
     };
     assert_eq!(take(&good[..7], &page[..3], 1, 0), 6);
     assert_eq!(take(&refused, &page[..3], 1, 0), 1);
@@ -138,8 +147,8 @@ fn precedence_in_page_calls() {
     assert_eq!(take(&good, &ruined, 0, 7), 6);
     assert_eq!(take(&good, &ruined, 0, 9), 6);
     assert_eq!(take(&good, &ruined, 0, 8), 9);
-    assert_eq!(number(write_page(&good, &[], &[0; 9], &mut [0; 14])), 5);
-    assert_eq!(number(write_page(&good, &[], &[0; 9], &mut [0; 15])), 6);
+    assert_eq!(number(write_page(1, &good, &[], &[0; 9], &mut [0; 14])), 5);
+    assert_eq!(number(write_page(1, &good, &[], &[0; 9], &mut [0; 15])), 6);
 }
 
 #[test]
@@ -147,6 +156,7 @@ fn precedence_in_locating() {
     let mut places = [7; 2];
     let mut locate = |level, choice, n, remainder: &[u8], length: usize| {
         let reply = number(locate_errors(
+            1,
             level,
             choice,
             n,

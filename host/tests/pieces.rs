@@ -11,7 +11,7 @@ use model::layout::check_layout;
 use model::pieces::Pieces;
 use model::random::Random;
 use model::reply::Refusal;
-use model::samples::layouts::{CASE_A, accepted_words};
+use model::samples::layouts::{CASE_A, accepted_words, strong_words};
 use model::samples::pages::WrittenPage;
 
 /// The places of the words of a state, in the order of crates/pieces/src/lib.rt: level field,
@@ -21,6 +21,17 @@ const CHOICE: usize = 1;
 const LENGTH: usize = 2;
 const FED: usize = 3;
 const CARRIED: usize = 4;
+
+/// An edition and a level field.
+type Level = (u64, u64);
+
+/// An edition that has a level field.
+fn in_edition(level: u64, random: &mut Random) -> Level {
+    match level {
+        ..=20 => (random.pick(&[1, 2]), level),
+        _ => (2, level),
+    }
+}
 
 /// A state between guard places.
 struct State {
@@ -45,10 +56,16 @@ impl State {
         answer
     }
 
-    fn start(&mut self, random: &mut Random, level: u64, choice: u64, length: u64) -> u64 {
+    fn start(
+        &mut self,
+        random: &mut Random,
+        (edition, level): Level,
+        choice: u64,
+        length: u64,
+    ) -> u64 {
         // SAFETY: the pointer is to WORDS words.
         self.lend(random, |state| unsafe {
-            rudderfig_parity_start(state, level, choice, length)
+            rudderfig_parity_start(state, edition, level, choice, length)
         })
     }
 
@@ -85,21 +102,21 @@ fn number(outcome: Result<(), Refusal>) -> u64 {
 }
 
 /// Starts in both; where it is refused, the state must be as it was.
-fn start(random: &mut Random, level: u64, choice: u64, length: u64) -> Option<(State, Pieces)> {
+fn start(random: &mut Random, level: Level, choice: u64, length: u64) -> Option<(State, Pieces)> {
     let mut state = State::new(random);
     let before = state.words;
-    let model = Pieces::start(level, choice, length);
+    let model = Pieces::start(level.0, level.1, choice, length);
     let answer = state.start(random, level, choice, length);
     match model {
         Ok(model) => {
-            assert_eq!(answer, 0, "start {level} {choice} {length}");
+            assert_eq!(answer, 0, "start {level:?} {choice} {length}");
             Some((state, model))
         }
         Err(refusal) => {
             assert_eq!(
                 answer,
                 refusal.number() as u64,
-                "start {level} {choice} {length}"
+                "start {level:?} {choice} {length}"
             );
             assert_eq!(state.words, before);
             None
@@ -153,7 +170,7 @@ fn feed_cut(random: &mut Random, state: &mut State, model: &mut Pieces, message:
 fn any_cutting_gives_the_parity() {
     let mut random = Random::new(41);
     for choice in FieldChoice::ALL {
-        for level in 0..=20usize {
+        for level in 0..=31usize {
             let parity = choice.field().m * 2 * level;
             let longest = (choice.field().order() - parity) / 8;
             for length in [
@@ -164,8 +181,9 @@ fn any_cutting_gives_the_parity() {
                 random.within(1, 40),
             ] {
                 let message = random.bytes(length);
+                let level = in_edition(level as u64, &mut random);
                 let (mut state, mut model) =
-                    start(&mut random, level as u64, choice as u64, length as u64).unwrap();
+                    start(&mut random, level, choice as u64, length as u64).unwrap();
                 finish(&mut random, &mut state, &model, model.parity_bytes());
                 feed_cut(&mut random, &mut state, &mut model, &message);
                 let bytes = model.parity_bytes();
@@ -189,6 +207,7 @@ fn starts_are_refused_as_a_block_is() {
         20,
         21,
         31,
+        32,
         255,
         256,
         1 << 32,
@@ -205,19 +224,22 @@ fn starts_are_refused_as_a_block_is() {
             }
             lengths.extend([1 << 61, (1 << 61) + 1, 1 << 63]);
             for length in lengths {
-                start(&mut random, level, choice, length);
+                for edition in [1, 2, 0, 3, u64::MAX] {
+                    start(&mut random, (edition, level), choice, length);
+                }
             }
         }
     }
     // With no ECC a message may be of any length, and pieces only count.
-    let (mut state, mut model) = start(&mut random, 0, 7 % 2, u64::MAX).unwrap();
+    let (mut state, mut model) = start(&mut random, (1, 0), 7 % 2, u64::MAX).unwrap();
     feed(&mut random, &mut state, &mut model, &[1, 2, 3]);
     assert_eq!(state.words[FED], 3);
 }
 
-/// Whether the words of a state are those of some block: the calls look at all of them.
+/// Whether the words of a state are those of some block, in edition 2 since a state has none: the calls look
+/// at all of them.
 fn usable(words: &[u64; WORDS]) -> bool {
-    let Ok(model) = Pieces::start(words[LEVEL], words[CHOICE], words[LENGTH]) else {
+    let Ok(model) = Pieces::start(2, words[LEVEL], words[CHOICE], words[LENGTH]) else {
         return false;
     };
     let bits = model.code().parity_length();
@@ -240,7 +262,7 @@ fn any_state_gets_an_answer() {
             state.words = [0; WORDS];
         }
         if round % 4 < 2 {
-            state.words[LEVEL] = random.below(24) as u64;
+            state.words[LEVEL] = random.below(35) as u64;
             state.words[CHOICE] = random.below(3) as u64;
             state.words[LENGTH] = random.below(400) as u64;
             let near = random.below(40) as u64;
@@ -266,7 +288,7 @@ fn any_state_gets_an_answer() {
         }
         assert!(feeds != 0 || usable(&after_feed.words));
         seen[feeds as usize] += 1;
-        let length = random.below(80);
+        let length = random.below(115);
         let mut parity = random.bytes(length);
         let held = parity.clone();
         let reply = state.finish(&mut random, &mut parity);
@@ -286,6 +308,7 @@ fn the_parity_is_the_one_in_a_written_page() {
         .flat_map(|bytes| (0..12).map(move |_| bytes))
         .map(|bytes| accepted_words(&mut random, bytes))
         .collect();
+    layouts.extend((0..12).map(|_| strong_words(&mut random)));
     layouts.push(CASE_A);
     for words in layouts {
         let written = WrittenPage::new(words, &mut random);
@@ -293,6 +316,7 @@ fn the_parity_is_the_one_in_a_written_page() {
         // SAFETY: each pointer comes with the length of the slice it was taken from.
         let answer = unsafe {
             rudderfig_write_page(
+                written.edition,
                 written.record.as_ptr(),
                 written.record.len(),
                 written.metadata.as_ptr(),
@@ -305,14 +329,14 @@ fn the_parity_is_the_one_in_a_written_page() {
         };
         assert_eq!(answer, 0);
         let page = bits_of(&page);
-        let layout = check_layout(&written.record).unwrap();
+        let layout = check_layout(written.edition, &written.record).unwrap();
         let payload = [written.metadata.clone(), written.data.clone()].concat();
         let mut at = 0;
         for number in 0..layout.blocks() {
             let block = layout.block(number);
             let message = &payload[at..at + block.message_bits / 8];
             at += message.len();
-            let level = block.level_field as u64;
+            let level = (written.edition, block.level_field as u64);
             let length = message.len() as u64;
             let (mut state, mut model) =
                 start(&mut random, level, block.choice as u64, length).unwrap();

@@ -1,9 +1,10 @@
 //! Damage past the level (document 02, E14): a written block with t > 0 in which e bits flipped, e
-//! more than t and at most 2t, is ruined, or erased, or read with at least 2t + 1 - e flips.
+//! more than t and at most 2t, is ruined, or erased, or read with at least 2t + 1 - e flips. It holds in both
+//! editions: a block has a level, and the levels above 40 are those of edition 2 (E13).
 //!
 //! `cargo test --test worn -- --nocapture` prints how often each came: the table of docs/AUDIT.md.
 
-use model::code::{Code, bch, flip_exponents};
+use model::code::{Code, HIGHEST_LEVEL, bch, flip_exponents};
 use model::decoder::errors_of_word;
 use model::field::FieldChoice;
 use model::layout::Block;
@@ -68,20 +69,40 @@ fn past_level(t: usize, random: &mut Random) -> usize {
     random.within(t + 1, 2 * t)
 }
 
+/// Blocks with a message of so many bytes, each with e bits turned over at random.
+fn random_damage(code: &Code, bytes: usize, random: &mut Random) -> Tally {
+    let mut tally = Tally::default();
+    for _ in 0..ROUNDS {
+        let codeword = written(code, &random.bits(8 * bytes));
+        let e = past_level(code.t, random);
+        let exponents = random.distinct(e, codeword.len());
+        tally.add(code, &codeword, &exponents);
+    }
+    tally.print(&format!(
+        "| m = {}, t = {}, random flips",
+        code.field.m, code.t
+    ));
+    assert_eq!(tally.sum(), ROUNDS);
+    tally
+}
+
 #[test]
-fn random_damage() {
+fn random_damage_of_levels_to_40() {
     let mut random = Random::new(14);
     for (t, bytes) in [(2, 512), (4, 512), (8, 128), (16, 32), (40, 16)] {
         for choice in FieldChoice::ALL {
-            let (code, mut tally) = (bch(choice, t), Tally::default());
-            for _ in 0..ROUNDS {
-                let codeword = written(code, &random.bits(8 * bytes));
-                let e = past_level(t, &mut random);
-                let exponents = random.distinct(e, codeword.len());
-                tally.add(code, &codeword, &exponents);
-            }
-            tally.print(&format!("| m = {}, t = {t}, random flips", code.field.m));
-            assert_eq!(tally.sum(), ROUNDS);
+            random_damage(bch(choice, t), bytes, &mut random);
+        }
+    }
+}
+
+/// Every level that edition 2 alone has.
+#[test]
+fn random_damage_of_levels_to_62() {
+    let mut random = Random::new(17);
+    for choice in FieldChoice::ALL {
+        for t in (42..=HIGHEST_LEVEL).step_by(2) {
+            random_damage(bch(choice, t), 8, &mut random);
         }
     }
 }

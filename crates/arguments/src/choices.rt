@@ -6,7 +6,7 @@ use crate::place;
 use crate::word;
 use text::Number;
 
-// Options that a command may take, as bits of a set: --from and --pages, --page, --quiet, --stdout, --raw, --mark.
+// Options that a command may take, as bits of a set: --from and --pages, --page, --quiet, --stdout, --raw, --mark, --edition.
 pub const RANGE: u8 = 3;
 
 pub const PAGE: u8 = 4;
@@ -18,6 +18,8 @@ pub const STDOUT: u8 = 16;
 pub const RAW: u8 = 32;
 
 pub const MARK: u8 = 64;
+
+pub const EDITION: u8 = 128;
 
 // What the options say.
 pub struct Options {
@@ -35,6 +37,8 @@ pub struct Options {
     pub raw: bool,
     // The third layout word.
     pub mark: u32,
+    // The edition, 1 where none is given. The calls refuse all but 1 and 2.
+    pub edition: u64,
     // The options that were given, as bits.
     pub given: u8,
     // Whether all is right: an error was printed where not.
@@ -49,6 +53,7 @@ enum Choice {
     Stdout,
     Raw,
     Mark,
+    Edition,
     Unknown,
 }
 
@@ -74,6 +79,9 @@ fn choice_of(name: &[u8]) -> Choice {
     if check::same(name, b"--mark") {
         return Choice::Mark;
     }
+    if check::same(name, b"--edition") {
+        return Choice::Edition;
+    }
     Choice::Unknown
 }
 
@@ -86,6 +94,7 @@ fn bit_of(choice: Choice) -> u8 {
         Choice::Stdout => STDOUT,
         Choice::Raw => RAW,
         Choice::Mark => MARK,
+        Choice::Edition => EDITION,
         Choice::Unknown => 0,
     }
 }
@@ -125,6 +134,9 @@ fn with(options: Options, choice: Choice, v: u64) -> Options {
         Choice::Mark => {
             o.mark = low(v);
         }
+        Choice::Edition => {
+            o.edition = v;
+        }
         Choice::Unknown => {
             o.good = false;
         }
@@ -163,6 +175,7 @@ fn taken(out: &mut [u8; 32768], options: Options, choice: Choice, name: &[u8]) -
         Choice::Stdout => moved(with(options, choice, 0), 1),
         Choice::Raw => moved(with(options, choice, 0), 1),
         Choice::Mark => with_word(out, options, choice, name),
+        Choice::Edition => with_number(out, options, choice, name),
         Choice::Unknown => bad(options),
     }
 }
@@ -203,6 +216,7 @@ pub fn find_options(out: &mut [u8; 32768], allowed: u8) -> Options {
         stdout: false,
         raw: false,
         mark: 0,
+        edition: 1,
         given: 0,
         good: true,
     };

@@ -5,11 +5,12 @@
 //   find_options                the options after the command
 //   are, whole                  whether there are so many arguments; whether one is not cut short
 //   number, word, word_list     numbers
-//   layout_words, record_of     the three words of a layout, and their record
+//   layout_words, record_of     the three words of a layout with the edition, and their record
 //   bad_remainder               the error about a remainder that cannot be read
 mod choices;
 mod numbers;
 
+pub use choices::EDITION;
 pub use choices::MARK;
 pub use choices::Options;
 pub use choices::PAGE;

@@ -4,8 +4,9 @@ use crate::place;
 use crate::whole;
 use text::Number;
 
-// The words of a layout, each of 32 bits. The third has the mark; where it is 0 there is none.
+// The words of a layout, each of 32 bits, and the edition that they are read by. The third word has the mark; where it is 0 there is none.
 pub struct LayoutWords {
+    pub edition: u64,
     pub first: u32,
     pub second: u32,
     pub third: u32,
@@ -107,7 +108,7 @@ pub fn bad_remainder(out: &mut [u8; 32768]) {
     );
 }
 
-// The words of a layout: the two arguments after the options, and the third by the option --mark.
+// The words of a layout: the two arguments after the options, the third by the option --mark and the edition by --edition.
 pub fn layout_words(out: &mut [u8; 32768], options: Options) -> Words {
     let Number::Is(first) = word(out, options.at, b"WORD0") else {
         return Words::Bad;
@@ -116,6 +117,7 @@ pub fn layout_words(out: &mut [u8; 32768], options: Options) -> Words {
         return Words::Bad;
     };
     Words::Are(LayoutWords {
+        edition: options.edition,
         first: low(first),
         second: low(second),
         third: options.mark,

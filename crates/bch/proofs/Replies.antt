@@ -17,6 +17,7 @@ use Rattle.decoder.specs.declared.Found.{Found}
 use Rattle.replies.specs.declared.Refusal.{Refusal}
 use Rattle.replies.specs.declared.Refusal.the-variants as refusal
 use Rattle.replies.specs.Replies.{number, block}
+use Rattle.replies.specs.Edition.{highest}
 use Rattle.bch.specs.declared.LocateAnswer.the-variants.{Located, Refused}
 use Rattle.decoder.specs.Locating.{answer}
 use Rattle.remainder.specs.Remainder.{bytesFor, numberOf}
@@ -61,33 +62,33 @@ module _ (f : Field) (t n x : ℕ) (d : List ℕ) where
 
 -- ---- the numbers and lengths
 
-module _ (f : Field) (field n : ℕ) (remainder d : List ℕ) where
-  refused-in : (r : Refusal) → requestReply f field n (length remainder) (length d) ≡ number r → eqb (number r) 0 ≡ false → block r ≡ 0 → ended (Refused r) d ≡ locateIn f field n remainder d
+module _ (edition : ℕ) (f : Field) (field n : ℕ) (remainder d : List ℕ) where
+  refused-in : (r : Refusal) → requestReply edition f field n (length remainder) (length d) ≡ number r → eqb (number r) 0 ≡ false → block r ≡ 0 → ended (Refused r) d ≡ locateIn edition f field n remainder d
   unfolding ended locateIn
   refused-in r h z b = rw (h, z, b)
 
-  pub in-level : 20 < field → ended (Refused refusal.LevelTooHigh) d ≡ locateIn f field n remainder d
-  in-level h = refused-in refusal.LevelTooHigh (unfold requestReply number in rw (lt-leb field 20 h)) (unfold number in refl) (unfold block in refl)
+  pub in-level : highest edition < field → ended (Refused refusal.LevelTooHigh) d ≡ locateIn edition f field n remainder d
+  in-level h = refused-in refusal.LevelTooHigh (unfold requestReply number in rw (lt-leb field (highest edition) h)) (unfold number in refl) (unfold block in refl)
 
-  module _ (low : field ≤ 20) where
-    pub in-zero : field ≡ 0 → ended (Refused refusal.EmptyMessage) d ≡ locateIn f field n remainder d
-    in-zero e = refused-in refusal.EmptyMessage (unfold requestReply number in rw (le-leb field 20 low, le-ltb 0 field (omega arith))) (unfold number in refl) (unfold block in refl)
+  module _ (low : field ≤ highest edition) where
+    pub in-zero : field ≡ 0 → ended (Refused refusal.EmptyMessage) d ≡ locateIn edition f field n remainder d
+    in-zero e = refused-in refusal.EmptyMessage (unfold requestReply number in rw (le-leb field (highest edition) low, le-ltb 0 field (omega arith))) (unfold number in refl) (unfold block in refl)
 
     module _ (positive : 0 < field) where
-      pub in-short : n ≤ degree f * levelOf field → ended (Refused refusal.EmptyMessage) d ≡ locateIn f field n remainder d
+      pub in-short : n ≤ degree f * levelOf field → ended (Refused refusal.EmptyMessage) d ≡ locateIn edition f field n remainder d
       in-short h = refused-in refusal.EmptyMessage
-          (unfold requestReply number in rw (le-leb field 20 low, lt-ltb 0 field positive, le-ltb (degree f * levelOf field) n h)) (unfold number in refl) (unfold block in refl)
+          (unfold requestReply number in rw (le-leb field (highest edition) low, lt-ltb 0 field positive, le-ltb (degree f * levelOf field) n h)) (unfold number in refl) (unfold block in refl)
 
       module _ (room : degree f * levelOf field < n) where
-        pub in-long : longest f < n → ended (Refused refusal.BlockTooLong) d ≡ locateIn f field n remainder d
+        pub in-long : longest f < n → ended (Refused refusal.BlockTooLong) d ≡ locateIn edition f field n remainder d
         in-long h = refused-in refusal.BlockTooLong
-            (unfold requestReply number in rw (le-leb field 20 low, lt-ltb 0 field positive, lt-ltb (degree f * levelOf field) n room, lt-leb n (longest f) h)) (unfold number in refl) (unfold block in refl)
+            (unfold requestReply number in rw (le-leb field (highest edition) low, lt-ltb 0 field positive, lt-ltb (degree f * levelOf field) n room, lt-leb n (longest f) h)) (unfold number in refl) (unfold block in refl)
 
         module _ (short : n ≤ longest f) where
-          pub in-bytes : ¬ (length remainder ≡ bytesFor (degree f * levelOf field)) → ended (Refused refusal.BufferLength) d ≡ locateIn f field n remainder d
+          pub in-bytes : ¬ (length remainder ≡ bytesFor (degree f * levelOf field)) → ended (Refused refusal.BufferLength) d ≡ locateIn edition f field n remainder d
           in-bytes h = refused-in refusal.BufferLength
               (unfold requestReply number in rw (
-                le-leb field 20 low,
+                le-leb field (highest edition) low,
                 lt-ltb 0 field positive,
                 lt-ltb (degree f * levelOf field) n room,
                 le-leb n (longest f) short,
@@ -95,10 +96,10 @@ module _ (f : Field) (field n : ℕ) (remainder d : List ℕ) where
               )) (unfold number in refl) (unfold block in refl)
 
           module _ (bytes : length remainder ≡ bytesFor (degree f * levelOf field)) where
-            pub in-places : length d < levelOf field → ended (Refused refusal.BufferLength) d ≡ locateIn f field n remainder d
+            pub in-places : length d < levelOf field → ended (Refused refusal.BufferLength) d ≡ locateIn edition f field n remainder d
             in-places h = refused-in refusal.BufferLength
                 (unfold requestReply number in rw (
-                  le-leb field 20 low,
+                  le-leb field (highest edition) low,
                   lt-ltb 0 field positive,
                   lt-ltb (degree f * levelOf field) n room,
                   le-leb n (longest f) short,
@@ -106,10 +107,10 @@ module _ (f : Field) (field n : ℕ) (remainder d : List ℕ) where
                   lt-leb (levelOf field) (length d) h,
                 )) (unfold number in refl) (unfold block in refl)
 
-            pub in-right : {e : Ended} → levelOf field ≤ length d → e ≡ remainderIn f (levelOf field) n (numberOf remainder) d → e ≡ locateIn f field n remainder d
+            pub in-right : {e : Ended} → levelOf field ≤ length d → e ≡ remainderIn f (levelOf field) n (numberOf remainder) d → e ≡ locateIn edition f field n remainder d
             in-right h g = unfold locateIn requestReply in
                 rw (
-                  le-leb field 20 low,
+                  le-leb field (highest edition) low,
                   lt-ltb 0 field positive,
                   lt-ltb (degree f * levelOf field) n room,
                   le-leb n (longest f) short,

@@ -1,5 +1,5 @@
 -- The call that locates errors from a remainder: what it answers and leaves (document 01, "Remainder" and "Replies").
--- It is a function of everything that is handed in or lent. Of several replies the first in the order 7 for the field choice,
+-- It is a function of everything that is handed in or lent. Of several replies the first in the order 7 for the edition, 7 for the field choice,
 -- 1, 2, 3, 6, 8, 9 is given. Numbers that are handed in have no bound. The block beside the reply is always 0.
 --
 -- Ended                 a reply, its block, the size of the set, and the lent list afterwards
@@ -9,7 +9,7 @@
 -- requestReply ..       the reply about the numbers and lengths, 0 where they are right
 -- listIn l places       how the call ends by what the remainder locates
 -- remainderIn ..        the call for a remainder x
--- locateIn ..           the call in a field; locateFor: with the answer to a field choice
+-- locateIn ..           the call in a field under an edition; locateFor: with the answer to a field choice
 -- locateOf ..           the call
 use mathlib.Core.Bool.{cond}
 use mathlib.Core.List.{List, _++_}
@@ -23,6 +23,7 @@ use Rattle.field.specs.Field.{degree, longest, chosen}
 use Rattle.code.specs.Locations.{Locations, exponents, nowhere, locate}
 use Rattle.remainder.specs.Remainder.{bytesFor, numberOf}
 use Rattle.replies.specs.Replies.{number, block, unless}
+use Rattle.replies.specs.Edition.{offered, highest}
 use Rattle.bch.specs.declared.LocateAnswer.{LocateAnswer}
 use Rattle.bch.specs.declared.LocateAnswer.the-variants as answer
 
@@ -45,11 +46,11 @@ ended (answer.Refused r) places = record { reply = number r; block = block r; si
 unfoldable pub levelOf : ℕ → ℕ
 levelOf field = 2 * field
 
--- 1: the level field is at most 0x14. 2: t is not 0, and n is more than mt. 3: n is at most 2^m - 1.
+-- 1: the level field is at most the highest of the edition. 2: t is not 0, and n is more than mt. 3: n is at most 2^m - 1.
 -- 6: the remainder has its bytes, and the list has at least t places.
-unfoldable pub requestReply : Field → ℕ → ℕ → ℕ → ℕ → ℕ
-requestReply f field n remainder places =
-    unless (leb field 20) 1
+unfoldable pub requestReply : ℕ → Field → ℕ → ℕ → ℕ → ℕ → ℕ
+requestReply edition f field n remainder places =
+    unless (leb field (highest edition)) 1
     (unless (ltb 0 field) 2
     (unless (ltb (degree f * levelOf field) n) 2
     (unless (leb n (longest f)) 3
@@ -66,16 +67,18 @@ listIn nowhere places = refused 9 places
 unfoldable pub remainderIn : Field → ℕ → ℕ → ℕ → List ℕ → Ended
 remainderIn f t n x places = cond (ltb x (2 ^ (degree f * t))) (listIn (locate f t n x) places) (refused 8 places)
 
-unfoldable pub locateIn : Field → ℕ → ℕ → List ℕ → List ℕ → Ended
-locateIn f field n remainder places =
-    cond (eqb (requestReply f field n (length remainder) (length places)) 0)
+unfoldable pub locateIn : ℕ → Field → ℕ → ℕ → List ℕ → List ℕ → Ended
+locateIn edition f field n remainder places =
+    cond (eqb (requestReply edition f field n (length remainder) (length places)) 0)
     (remainderIn f (levelOf field) n (numberOf remainder) places)
-    (refused (requestReply f field n (length remainder) (length places)) places)
+    (refused (requestReply edition f field n (length remainder) (length places)) places)
 
 -- 7: the field choice is 0 or 1.
-unfoldable pub locateFor : Choice → ℕ → ℕ → List ℕ → List ℕ → Ended
-locateFor (Offered f) field n remainder places = locateIn f field n remainder places
-locateFor Unknown field n remainder places = refused 7 places
+unfoldable pub locateFor : ℕ → Choice → ℕ → ℕ → List ℕ → List ℕ → Ended
+locateFor edition (Offered f) field n remainder places = locateIn edition f field n remainder places
+locateFor edition Unknown field n remainder places = refused 7 places
 
-unfoldable pub locateOf : ℕ → ℕ → ℕ → List ℕ → List ℕ → Ended
-locateOf field choice n remainder places = locateFor (chosen choice) field n remainder places
+-- 7: the edition is offered (document 02, E13).
+unfoldable pub locateOf : ℕ → ℕ → ℕ → ℕ → List ℕ → List ℕ → Ended
+locateOf edition field choice n remainder places =
+    cond (offered edition) (locateFor edition (chosen choice) field n remainder places) (refused 7 places)

@@ -12,6 +12,7 @@ mod request;
 use field::Choice;
 use field::Field;
 use replies::Refusal;
+use replies::offered;
 ghost use mathlib.Core.Path.{_≡_};
 ghost use Rattle.bch.specs.Answers.{ended, locateOf};
 
@@ -24,16 +25,20 @@ pub enum LocateAnswer {
 // From a remainder alone, which bits are wrong? The remainder has the highest coefficient first, right-aligned. The exponents are
 // listed from the highest down at the start of `places`.
 pub fn locate_errors(
+    edition: u64,
     level_field: u64,
     field_choice: u64,
     n: u64,
     remainder: &[u8],
     places: &mut [u16],
 ) -> LocateAnswer
-    ensures { λ r. ⌜ ended r (now (places .exit)) ≡ locateOf «level_field» «field_choice» n (now (remainder .entry)) (now (places .entry)) ⌝ }
+    ensures { λ r. ⌜ ended r (now (places .exit)) ≡ locateOf edition «level_field» «field_choice» n (now (remainder .entry)) (now (places .entry)) ⌝ }
 {
+    if !offered(edition) {
+        return LocateAnswer::Refused(Refusal::OutOfRange);
+    }
     match Field::choose(field_choice) {
-        Choice::Offered(f) => request::locate_in(f, level_field, n, remainder, places),
+        Choice::Offered(f) => request::locate_in(edition, f, level_field, n, remainder, places),
         Choice::Unknown => LocateAnswer::Refused(Refusal::OutOfRange),
     }
 }

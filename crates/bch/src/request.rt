@@ -20,6 +20,7 @@ use remainder::coefficients::is_zero;
 use remainder::coefficients::parity_bits;
 use remainder::digits::from_bytes;
 use replies::Refusal;
+use replies::highest;
 
 // Lists what was found at the start of the places. Where nothing was, no place is written.
 fn report(found: Found, places: &mut [u16]) -> LocateAnswer
@@ -79,17 +80,18 @@ fn locate_remainder(
     locate_by_tables(f, state, t, n, places)
 }
 
-// The answer in a field.
+// The answer in a field, under an edition.
 pub fn locate_in(
+    edition: u64,
     f: Field,
     level_field: u64,
     n: u64,
     remainder: &[u8],
     places: &mut [u16],
 ) -> LocateAnswer
-    ensures { λ r. ⌜ ended r (now (places .exit)) ≡ locateIn f «level_field» n (now (remainder .entry)) (now (places .entry)) ⌝ }
+    ensures { λ r. ⌜ ended r (now (places .exit)) ≡ locateIn edition f «level_field» n (now (remainder .entry)) (now (places .entry)) ⌝ }
 {
-    if 20 < level_field {
+    if highest(edition) < level_field {
         return LocateAnswer::Refused(Refusal::LevelTooHigh);
     }
     if level_field == 0 {

@@ -9,6 +9,7 @@ use lib.Dec.{eqb, ltb, leb}
 use borrow.Author.Tests.{lt-ltb}
 use Rattle.replies.specs.declared.Refusal.the-variants.{LevelTooHigh, EmptyMessage, BlockTooLong, BufferLength, RemainderTooWide, Uncorrectable}
 use Rattle.replies.specs.Replies.{number, block, verdictNumber, verdictBlock, among, unless, unequal, rule, verdict, reply, replyBlock}
+use Rattle.replies.specs.Edition.{offered, highest}
 use Rattle.replies.specs.Given.{Follows, Exactly, turn, atMost, ascending}
 use Rattle.replies.proofs.Tests.{leb-not, ltb-not, zero-not}
 use Rattle.replies.proofs.Given.{follows-next, follows-here, exactly}
@@ -63,54 +64,70 @@ module _ (places : List ℕ) where
   replied-ends true false c d e g h l = record { table = refl; kept = λ n. refl; block = refl }
   replied-ends false b c d e g h l = record { table = refl; kept = λ n. refl; block = refl }
 
-module _ (field n : ℕ) (remainder places : List ℕ) where
+module _ (edition field n : ℕ) (remainder places : List ℕ) where
   -- the call in a field goes by these tests
-  in-replied : (f : Field) → locateIn f field n remainder places
-      ≡ replied places (leb field 20) (ltb 0 field) (ltb (degree f * levelOf field) n) (leb n (longest f))
+  in-replied : (f : Field) → locateIn edition f field n remainder places
+      ≡ replied places (leb field (highest edition)) (ltb 0 field) (ltb (degree f * levelOf field) n) (leb n (longest f))
       (eqb (length remainder) (bytesFor (degree f * levelOf field))) (leb (levelOf field) (length places))
       (ltb (numberOf remainder) (2 ^ (degree f * levelOf field))) (locate f (levelOf field) n (numberOf remainder))
   unfolding locateIn requestReply remainderIn replied number
   in-replied f = refl
 
-  in-follows : (f : Field) → Follows (rulesIn f field n remainder places) (locateIn f field n remainder places .reply) (locateIn f field n remainder places .block)
+  in-follows : (f : Field) → Follows (rulesIn edition f field n remainder places) (locateIn edition f field n remainder places .reply) (locateIn edition f field n remainder places .block)
   unfolding rulesIn unequal
   in-follows f =
       rw (
         in-replied f,
-        ltb-not 20 field,
+        ltb-not (highest edition) field,
         zero-not field,
         leb-not n (degree f * levelOf field),
         ltb-not (longest f) n,
         ltb-not (length places) (levelOf field),
         leb-not (2 ^ (degree f * levelOf field)) (numberOf remainder),
       )
-      (replied-follows places (leb field 20) (ltb 0 field) (ltb (degree f * levelOf field) n) (leb n (longest f))
+      (replied-follows places (leb field (highest edition)) (ltb 0 field) (ltb (degree f * levelOf field) n) (leb n (longest f))
       (eqb (length remainder) (bytesFor (degree f * levelOf field))) (leb (levelOf field) (length places))
       (ltb (numberOf remainder) (2 ^ (degree f * levelOf field))) (locate f (levelOf field) n (numberOf remainder)))
 
-  in-ends : (f : Field) → LocateEnds places (locateIn f field n remainder places)
+  in-ends : (f : Field) → LocateEnds places (locateIn edition f field n remainder places)
   in-ends f = rw (in-replied f) (replied-ends places _ _ _ _ _ _ _ _)
 
+  -- the call under an edition that is offered, after the rule of the edition
+  for-follows : (choice : ℕ) → Follows (drop 1 (locateRules edition field choice n remainder places))
+      (locateFor edition (chosen choice) field n remainder places .reply) (locateFor edition (chosen choice) field n remainder places .block)
+  unfolding locateRules locateFor chosen number block
+  for-follows zero = follows-next _ refl (in-follows Thirteen)
+  for-follows (suc zero) = follows-next _ refl (in-follows Fourteen)
+  for-follows (suc (suc c)) = follows-here _ (lt-ltb 1 (suc (suc c)) (omega arith))
+
   pub locate-replies : (choice : ℕ)
-      → Follows (locateRules field choice n remainder places) (locateOf field choice n remainder places .reply) (locateOf field choice n remainder places .block)
-  unfolding locateRules locateOf locateFor chosen number block
-  locate-replies zero = follows-next _ refl (in-follows Thirteen)
-  locate-replies (suc zero) = follows-next _ refl (in-follows Fourteen)
-  locate-replies (suc (suc c)) = follows-here _ (lt-ltb 1 (suc (suc c)) (omega arith))
+      → Follows (locateRules edition field choice n remainder places) (locateOf edition field choice n remainder places .reply) (locateOf edition field choice n remainder places .block)
+  unfolding locateRules locateOf number block
+  locate-replies choice = go (offered edition) refl
+    where
+      go : (o : Bool) → offered edition ≡ o → Follows (locateRules edition field choice n remainder places)
+          (cond o (locateFor edition (chosen choice) field n remainder places) (refused 7 places) .reply)
+          (cond o (locateFor edition (chosen choice) field n remainder places) (refused 7 places) .block)
+      go true e = follows-next _ (rw e) (for-follows choice)
+      go false e = follows-here _ (rw e)
 
   module _ (choice : ℕ) where
-    pub locate-exactly : Exactly (locateRules field choice n remainder places) (locateOf field choice n remainder places .reply) (locateOf field choice n remainder places .block)
-    locate-exactly = exactly (locateRules field choice n remainder places) (locate-replies choice)
+    pub locate-exactly : Exactly (locateRules edition field choice n remainder places) (locateOf edition field choice n remainder places .reply) (locateOf edition field choice n remainder places .block)
+    locate-exactly = exactly (locateRules edition field choice n remainder places) (locate-replies choice)
 
-    -- After the field choice, which is looked at first, the turns never fall: the smallest of those that apply wins.
-    pub locate-ascending : ascending (drop 1 (locateRules field choice n remainder places)) ≡ true
+    -- After the edition and the field choice, which are looked at first, the turns never fall: the smallest of those that apply wins.
+    pub locate-ascending : ascending (drop 2 (locateRules edition field choice n remainder places)) ≡ true
     unfolding locateRules rulesIn ascending atMost turn number
     locate-ascending = refl
 
-    pub locate-ends : LocateEnds places (locateOf field choice n remainder places)
+    pub locate-ends : LocateEnds places (locateOf edition field choice n remainder places)
     unfolding locateOf locateFor among
-    locate-ends = go (chosen choice)
+    locate-ends = known (offered edition)
       where
-        go : (c : Choice) → LocateEnds places (locateFor c field n remainder places)
+        go : (c : Choice) → LocateEnds places (locateFor edition c field n remainder places)
         go (Offered f) = in-ends f
         go Unknown = record { table = refl; kept = λ n. refl; block = refl }
+
+        known : (o : Bool) → LocateEnds places (cond o (locateFor edition (chosen choice) field n remainder places) (refused 7 places))
+        known true = go (chosen choice)
+        known false = record { table = refl; kept = λ n. refl; block = refl }

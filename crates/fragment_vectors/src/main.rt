@@ -107,7 +107,7 @@ fn locate_line(
         line,
         fragments::import_fragments(level_field, fragments, remainder),
     );
-    let located = bch::locate_errors(level_field, 0, n, remainder, places);
+    let located = bch::locate_errors(1, level_field, 0, n, remainder, places);
     let located_at = put_located(line, at, located);
     put_places(line, located_at, places)
 }

@@ -11,6 +11,8 @@ use lib.Dec.{eqb}
 use lib.ListN.{length}
 use Rattle.field.specs.Field.{degree, longest}
 use Rattle.field.specs.declared.Field.the-variants.{Thirteen}
+use Rattle.replies.specs.Edition.{offered, highest}
+use Rattle.replies.proofs.Editions.{highest-small}
 use Rattle.layout.specs.declared.Fields.{Fields}
 use Rattle.layout.specs.declared.Layout.{Layout}
 use Rattle.layout.specs.declared.Plan.{Plan}
@@ -18,7 +20,7 @@ use Rattle.layout.specs.declared.Finding.{Finding}
 use Rattle.layout.specs.declared.Finding.the-variants.{Kept, Broken}
 use Rattle.layout.specs.declared.Acceptance.the-variants as answer
 use Rattle.layout.specs.declared.Refusal.the-variants as refusal
-use Rattle.layout.specs.Record.{fieldsIn, layoutOf}
+use Rattle.layout.specs.Record.{Words, fieldsIn, layoutOf}
 use Rattle.layout.specs.Plan.{shapeWith, shapeOf, laterShape, dataBytes, planFor, layoutFor, planOf, Sums, shape, bits, field, level, covered, start, used, room, from, payload, Summed, Valid}
 use Rattle.layout.specs.Acceptance.{findingOf, judged, recordLength, acceptance}
 use Rattle.layout.proofs.Plans.{later-none, later-some, start-next, start-order, start-up, start-later, from-later}
@@ -26,8 +28,8 @@ use Rattle.layout.proofs.Reasons.{level-first, level-later, message-fir
 
 -- the rules, of a layout that keeps them
 pub record Keeps (f : Fields) (q : Plan) : Type 0 where
-  pub levels : f .first .ecc ≤ 20
-  pub levels-later : 0 < f .nblocks → f .later .ecc ≤ 20
+  pub levels : f .first .ecc ≤ highest (f .edition)
+  pub levels-later : 0 < f .nblocks → f .later .ecc ≤ highest (f .edition)
   pub messages : 0 < q .first .message
   pub messages-later : 0 < f .nblocks → 0 < q .later .message
   pub lengths : 0 < q .first .level → q .first .covered ≤ longest (q .first .field)
@@ -114,8 +116,8 @@ module _ (f : Fields) (k : Keeps f (planFor f)) where
 
   strong : (b : ℕ) → b < planFor f .blocks → level (planFor f) b ≤ 62
   unfolding shape planFor shapeOf shapeWith
-  strong zero h = omega (arith, k .levels)
-  strong (suc b) h = rw (later-some f (some-later b h)) (omega (arith, k .levels-later (some-later b h)))
+  strong zero h = omega (arith, k .levels, highest-small (f .edition))
+  strong (suc b) h = rw (later-some f (some-later b h)) (omega (arith, k .levels-later (some-later b h), highest-small (f .edition)))
 
   filled : (b : ℕ) → b < planFor f .blocks → 0 < bits (planFor f) b
   unfolding shape
@@ -142,34 +144,38 @@ plan-valid f e = keeps-valid f (keeps f (planFor f) e)
 
 -- ---- accepted records
 
--- an accepted record is of eight or twelve bytes, and its layout breaks no rule
-pub record Taken (rec : List ℕ) (l : Layout) : Type 0 where
-  pub right : recordLength (length rec) ≡ true
-  pub layout : l ≡ layoutOf rec
-  pub kept : findingOf (fieldsIn rec) (planOf l) ≡ Kept
+-- the edition beside an accepted record is offered, the record is of eight or twelve bytes, and its layout breaks no rule
+pub record Taken (w : Words) (l : Layout) : Type 0 where
+  pub edition : offered (w .edition) ≡ true
+  pub right : recordLength (length (w .bytes)) ≡ true
+  pub layout : l ≡ layoutOf w
+  pub kept : findingOf (fieldsIn w) (planOf l) ≡ Kept
 
-pub accepted-taken : (rec : List ℕ) (l : Layout) → acceptance rec ≡ answer.Accepted l → Taken rec l
+pub accepted-taken : (w : Words) (l : Layout) → acceptance w ≡ answer.Accepted l → Taken w l
 unfolding acceptance judged
-accepted-taken rec l h = go (recordLength (length rec)) (findingOf (fieldsIn rec) (planOf (layoutOf rec))) refl refl h
+accepted-taken w l h = go (offered (w .edition)) (recordLength (length (w .bytes))) (findingOf (fieldsIn w) (planOf (layoutOf w))) refl refl refl h
   where
-    go : (t : Bool) (f : Finding) → recordLength (length rec) ≡ t → findingOf (fieldsIn rec) (planOf (layoutOf rec)) ≡ f →
-        cond t (judged (layoutOf rec) f) (answer.Refused refusal.RecordLength) ≡ answer.Accepted l → Taken rec l
-    go true Kept e k x = let y : l ≡ layoutOf rec = cc x in record { right = e; layout = y; kept = rw y k }
-    go true (Broken r) e k x = let z : _≡_ {A = ℕ} 0 1 = cc x in absurd (omega arith)
-    go false f e k x = let z : _≡_ {A = ℕ} 0 1 = cc x in absurd (omega arith)
+    go : (o t : Bool) (f : Finding) → offered (w .edition) ≡ o → recordLength (length (w .bytes)) ≡ t
+        → findingOf (fieldsIn w) (planOf (layoutOf w)) ≡ f
+        → cond o (cond t (judged (layoutOf w) f) (answer.Refused refusal.RecordLength)) (answer.Refused refusal.Edition) ≡ answer.Accepted l
+        → Taken w l
+    go true true Kept o e k x = let y : l ≡ layoutOf w = cc x in record { edition = o; right = e; layout = y; kept = rw y k }
+    go true true (Broken r) o e k x = let z : _≡_ {A = ℕ} 0 1 = cc x in absurd (omega arith)
+    go true false f o e k x = let z : _≡_ {A = ℕ} 0 1 = cc x in absurd (omega arith)
+    go false t f o e k x = let z : _≡_ {A = ℕ} 0 1 = cc x in absurd (omega arith)
 
 -- The layout of an accepted record makes a valid plan, and what is kept with it are the sums of the record's fields.
-module _ (rec : List ℕ) (l : Layout) (h : acceptance rec ≡ answer.Accepted l) where
+module _ (w : Words) (l : Layout) (h : acceptance w ≡ answer.Accepted l) where
   -- the plan that is kept is that of the record's fields
-  pub accepted-plan : planOf l ≡ planFor (fieldsIn rec)
+  pub accepted-plan : planOf l ≡ planFor (fieldsIn w)
   unfolding layoutOf layoutFor planOf
-  accepted-plan = rw (accepted-taken rec l h .layout)
+  accepted-plan = rw (accepted-taken w l h .layout)
 
-  pub accepted-kept : findingOf (fieldsIn rec) (planFor (fieldsIn rec)) ≡ Kept
-  accepted-kept = ap (findingOf (fieldsIn rec)) (sym accepted-plan) ∙ accepted-taken rec l h .kept
+  pub accepted-kept : findingOf (fieldsIn w) (planFor (fieldsIn w)) ≡ Kept
+  accepted-kept = ap (findingOf (fieldsIn w)) (sym accepted-plan) ∙ accepted-taken w l h .kept
 
   pub accepted-valid : Valid (planOf l)
-  accepted-valid = rw accepted-plan (plan-valid (fieldsIn rec) accepted-kept)
+  accepted-valid = rw accepted-plan (plan-valid (fieldsIn w) accepted-kept)
 
-  pub accepted-sums : Sums (fieldsIn rec) (planOf l)
-  accepted-sums = rw accepted-plan (plan-sums (fieldsIn rec))
+  pub accepted-sums : Sums (fieldsIn w) (planOf l)
+  accepted-sums = rw accepted-plan (plan-sums (fieldsIn w))

@@ -1,4 +1,5 @@
--- Document 01's cases about layouts, "Both sides of each edge": A to E, I and K, and the edges of document 02, E7, of the definitions.
+-- Document 01's cases about layouts, "Both sides of each edge": A to E, I and K, and the edges of document 02, E7 and E13, of the definitions.
+-- The cases of before E13 are those at edition 1.
 use mathlib.Core.Path.{_≡_, refl}
 use mathlib.Core.List.{List, [], _∷_, _++_}
 use mathlib.Core.Bool.{Bool, true, false, cond}
@@ -9,6 +10,8 @@ use borrow.Author.Tests.{le-ltb}
 use Rattle.field.specs.declared.Field.{Field}
 use Rattle.field.specs.declared.Field.the-variants.{Thirteen, Fourteen}
 use Rattle.field.specs.Field.{degree, longest}
+use Rattle.replies.specs.Replies.{number}
+use Rattle.replies.specs.Edition.{offered, highest}
 use Rattle.mark.specs.declared.Mark.{Mark}
 use Rattle.mark.specs.Mark.{place, marked, streamed}
 use Rattle.layout.specs.declared.BlockFields.{BlockFields}
@@ -19,9 +22,9 @@ use Rattle.layout.specs.declared.Finding.{Finding}
 use Rattle.layout.specs.declared.Finding.the-variants.{Kept, Broken}
 use Rattle.layout.specs.declared.Rule.the-variants.{Level, Message, Length, Outside, Room}
 use Rattle.layout.specs.declared.Kind.the-variants.{First, Page}
-use Rattle.layout.specs.Record.{fieldOf, blockFields, markAt, markIn, fieldsAt, fieldsIn, layoutOf}
+use Rattle.layout.specs.Record.{Words, wordsOf, fieldOf, blockFields, markAt, markIn, fieldsAt, fieldsUnder, layoutOf}
 use Rattle.layout.specs.Plan.{shapeWith, shapeOf, laterShape, dataBytes, planFor, layoutFor, planOf, shape, bits, level, covered, start, used, room}
-use Rattle.layout.specs.Acceptance.{test, levelRule, messageRule, lengthRule, markRule, roomRule, either, ofBlocks, findingOf, judged, recordLength, acceptance}
+use Rattle.layout.specs.Acceptance.{test, levelRule, messageRule, lengthRule, markRule, roomRule, either, ofBlocks, findingOf, judged, recordLength, acceptance, refusalOf, refusalReply}
 use Rattle.layout.specs.Bits.{within, blockBelow, blockOf, exponentAt, positionAt, located, bitIn, bitFor, bitAnswer, positionIn, positionFor, positionAnswer}
 use Rattle.layout.proofs.Plans.{degree-small, product-le}
 use Rattle.layout.proofs.Records.{noMark, acceptance-padded}
@@ -31,15 +34,17 @@ use Rattle.layout.specs.declared.BitAnswer.the-variants as bit
 use Rattle.layout.specs.declared.PositionAnswer.the-variants as position
 use Rattle.layout.specs.declared.Refusal.the-variants as refusal
 
--- a record of two words, word 0 first, most significant byte first
-unfoldable pub words : ℕ → ℕ → List ℕ
-words v w =
-    v / 0x1000000 ∷ v / 0x10000 % 256 ∷ v / 256 % 256 ∷ v % 256
-    ∷ w / 0x1000000 ∷ w / 0x10000 % 256 ∷ w / 256 % 256 ∷ w % 256 ∷ []
+-- a word, most significant byte first
+unfoldable pub word : ℕ → List ℕ
+word v = v / 0x1000000 ∷ v / 0x10000 % 256 ∷ v / 256 % 256 ∷ v % 256 ∷ []
+
+-- a record of two words, word 0 first, under edition 1
+unfoldable pub words : ℕ → ℕ → Words
+words v w = wordsOf 1 (word v ++ word w)
 
 -- a record of three words
-unfoldable pub threeWords : ℕ → ℕ → ℕ → List ℕ
-threeWords v w x = words v w ++ (x / 0x1000000 ∷ x / 0x10000 % 256 ∷ x / 256 % 256 ∷ x % 256 ∷ [])
+unfoldable pub threeWords : ℕ → ℕ → ℕ → Words
+threeWords v w x = wordsOf 1 (word v ++ (word w ++ word x))
 
 unfoldable pub layoutA : Layout
 layoutA = layoutFor (record {
@@ -50,6 +55,7 @@ layoutA = layoutFor (record {
   later = record { ecc = 8; gf = Thirteen; units = 128 };
   mark = record { offset = 0; length = 0 };
   zeros = 0;
+  edition = 1;
 })
 
 -- A: the reset state in document 000
@@ -70,9 +76,9 @@ CaseB =
     acceptance (words 0x070A4080 0x10D94080)
     ≡ answer.Refused (refusal.Rule (record { rule = Room; kind = Page; found = 34512; limit = 34504 }))
 
--- one block, PAGE_SIZE 2,048; the fields of later blocks are anything
-unfoldable pub oneBlock : ℕ → ℕ → Field → ℕ → BlockFields → Fields
-oneBlock metadata ecc gf units later = record {
+-- one block, PAGE_SIZE 2,048, under an edition; the fields of later blocks are anything
+unfoldable pub oneBlock : ℕ → ℕ → ℕ → Field → ℕ → BlockFields → Fields
+oneBlock edition metadata ecc gf units later = record {
   nblocks = 0;
   metadata = metadata;
   first = record { ecc = ecc; gf = gf; units = units };
@@ -80,6 +86,7 @@ oneBlock metadata ecc gf units later = record {
   later = later;
   mark = record { offset = 0; length = 0 };
   zeros = 0;
+  edition = edition;
 }
 
 -- what the rules find of these fields
@@ -88,15 +95,15 @@ finding f = findingOf f (planFor f)
 
 -- C: m = 13, t = 40, 239 units of data
 pub record CaseC (later : BlockFields) : Type 0 where
-  pub longest : covered (planFor (oneBlock 2 20 Thirteen 239 later)) 0 ≡ 8184
-  pub accepted : finding (oneBlock 2 20 Thirteen 239 later) ≡ Kept
-  pub refused : finding (oneBlock 3 20 Thirteen 239 later) ≡ Broken (record { rule = Length; kind = First; found = 8192; limit = 8191 })
+  pub longest : covered (planFor (oneBlock 1 2 20 Thirteen 239 later)) 0 ≡ 8184
+  pub accepted : finding (oneBlock 1 2 20 Thirteen 239 later) ≡ Kept
+  pub refused : finding (oneBlock 1 3 20 Thirteen 239 later) ≡ Broken (record { rule = Length; kind = First; found = 8192; limit = 8191 })
 
 -- D: m = 14, t = 40, 494 units of data
 pub record CaseD (later : BlockFields) : Type 0 where
-  pub longest : covered (planFor (oneBlock 1 20 Fourteen 494 later)) 0 ≡ 16376
-  pub accepted : finding (oneBlock 1 20 Fourteen 494 later) ≡ Kept
-  pub refused : finding (oneBlock 2 20 Fourteen 494 later) ≡ Broken (record { rule = Length; kind = First; found = 16384; limit = 16383 })
+  pub longest : covered (planFor (oneBlock 1 1 20 Fourteen 494 later)) 0 ≡ 16376
+  pub accepted : finding (oneBlock 1 1 20 Fourteen 494 later) ≡ Kept
+  pub refused : finding (oneBlock 1 2 20 Fourteen 494 later) ≡ Broken (record { rule = Length; kind = First; found = 16384; limit = 16383 })
 
 -- two blocks of 58 bits, so many bytes of page, a mark
 unfoldable pub twoBlocks : ℕ → Mark → Layout
@@ -108,6 +115,7 @@ twoBlocks page mark = layoutFor (record {
   later = record { ecc = 1; gf = Thirteen; units = 1 };
   mark = mark;
   zeros = 0;
+  edition = 1;
 })
 
 unfoldable pub layoutE : Layout
@@ -136,13 +144,13 @@ pub record CaseE : Type 0 where
 -- I: level field 0x15 with an empty block
 pub CaseI : Type 0
 CaseI = (gf : Field) (later : BlockFields) →
-    finding (oneBlock 0 21 gf 0 later) ≡ Broken (record { rule = Level; kind = First; found = 21; limit = 20 })
+    finding (oneBlock 1 0 21 gf 0 later) ≡ Broken (record { rule = Level; kind = First; found = 21; limit = 20 })
 
 -- K: metadata 0 or 1, DATA0_SIZE 0, any level field that is allowed
 pub record CaseK (ecc : ℕ) (gf : Field) (later : BlockFields) : Type 0 where
-  pub refused : finding (oneBlock 0 ecc gf 0 later) ≡ Broken (record { rule = Message; kind = First; found = 0; limit = 1 })
-  pub accepted : finding (oneBlock 1 ecc gf 0 later) ≡ Kept
-  pub message : bits (planFor (oneBlock 1 ecc gf 0 later)) 0 ≡ 8
+  pub refused : finding (oneBlock 1 0 ecc gf 0 later) ≡ Broken (record { rule = Message; kind = First; found = 0; limit = 1 })
+  pub accepted : finding (oneBlock 1 1 ecc gf 0 later) ≡ Kept
+  pub message : bits (planFor (oneBlock 1 1 ecc gf 0 later)) 0 ≡ 8
 
 -- a layout refused with 11, and with 4
 unfoldable pub markRefused : ℕ → ℕ → Acceptance
@@ -153,8 +161,8 @@ roomRefused found limit = answer.Refused (refusal.Rule (record { rule = Room; ki
 
 -- E7: as E with a third word; in a page of 16 bytes a mark of one byte, the one in which block 1 would start
 pub record CaseMark : Type 0 where
-  pub none : (rec : List ℕ) → length rec ≡ 8 → acceptance (rec ++ noMark) ≡ acceptance rec
-  pub other-length : acceptance (words 0x01000801 0x000F0801 ++ (0 ∷ [])) ≡ answer.Refused refusal.RecordLength
+  pub none : (edition : ℕ) (rec : List ℕ) → length rec ≡ 8 → acceptance (wordsOf edition (rec ++ noMark)) ≡ acceptance (wordsOf edition rec)
+  pub other-length : acceptance (wordsOf 1 (word 0x01000801 ++ (word 0x000F0801 ++ (0 ∷ [])))) ≡ answer.Refused refusal.RecordLength
   pub at-end : acceptance (threeWords 0x01000801 0x000F0801 0x000F0000) ≡ answer.Accepted (twoBlocks 15 (record { offset = 15; length = 0 }))
   pub past-end : acceptance (threeWords 0x01000801 0x000F0801 0x00100000) ≡ markRefused 16 15
   pub sum-past : acceptance (threeWords 0x01000801 0x000F0801 0x000E0200) ≡ markRefused 16 15
@@ -174,6 +182,17 @@ pub record CaseMark : Type 0 where
   pub first-tail : bitAnswer (threeWords 0x01000801 0x00100801 0x00070100) 124 ≡ bit.Tail
   pub start-position : positionAnswer (threeWords 0x01000801 0x00100801 0x00070100) 1 57 ≡ position.Position 66
 
+-- E13: m = 13, t = 62, 923 and 924 message bytes; level field 0x15 in both editions; another edition, whatever the record and its length
+pub record CaseEdition (later : BlockFields) : Type 0 where
+  pub longest : covered (planFor (oneBlock 2 3 31 Thirteen 230 later)) 0 ≡ 8190
+  pub accepted : finding (oneBlock 2 3 31 Thirteen 230 later) ≡ Kept
+  pub refused : finding (oneBlock 2 4 31 Thirteen 230 later) ≡ Broken (record { rule = Length; kind = First; found = 8198; limit = 8191 })
+  pub first-edition : finding (oneBlock 1 1 21 Thirteen 0 later) ≡ Broken (record { rule = Level; kind = First; found = 21; limit = 20 })
+  pub second-edition : finding (oneBlock 2 1 21 Thirteen 0 later) ≡ Kept
+  pub third-edition : (rec : List ℕ) → acceptance (wordsOf 3 rec) ≡ answer.Refused refusal.Edition
+  pub no-edition : (rec : List ℕ) → acceptance (wordsOf 0 rec) ≡ answer.Refused refusal.Edition
+  pub edition-reply : refusalReply refusal.Edition ≡ 7
+
 -- the table
 pub record LayoutCases : Type 0 where
   pub a : CaseA
@@ -184,6 +203,7 @@ pub record LayoutCases : Type 0 where
   pub i : CaseI
   pub k : (ecc : ℕ) (gf : Field) (later : BlockFields) → ecc ≤ 20 → CaseK ecc gf later
   pub mark : CaseMark
+  pub edition : (later : BlockFields) → CaseEdition later
 
 cond-same : (t : Bool) → cond t false false ≡ false
 cond-same true = refl
@@ -202,7 +222,7 @@ module _ (ecc : ℕ) (gf : Field) (later : BlockFields) (allowed : ecc ≤ 20) w
       go Fourteen = omega arith
 
   case-k : CaseK ecc gf later
-  unfolding oneBlock finding shapeWith shapeOf laterShape planFor room shape test levelRule messageRule lengthRule markRule roomRule either ofBlocks findingOf
+  unfolding oneBlock finding shapeWith shapeOf laterShape planFor room shape highest test levelRule messageRule lengthRule markRule roomRule either ofBlocks findingOf
   case-k =
       let low = le-ltb 20 ecc allowed in
       let short = le-ltb (longest gf) (8 + degree gf * (2 * ecc)) (omega (arith, parity-small, longest-large)) in
@@ -210,9 +230,9 @@ module _ (ecc : ℕ) (gf : Field) (later : BlockFields) (allowed : ecc ≤ 20) w
       record { refused = simp low; accepted = simp (low, short, cond-same, fits); message = refl }
 
 pub layout-cases : LayoutCases
-unfolding CaseB CaseI words threeWords layoutA twoBlocks layoutE markRefused roomRefused oneBlock finding fieldOf blockFields markAt markIn fieldsAt fieldsIn layoutOf
+unfolding CaseB CaseI word words threeWords layoutA twoBlocks layoutE markRefused roomRefused oneBlock finding fieldOf blockFields markAt markIn fieldsAt fieldsUnder layoutOf
     shapeWith shapeOf laterShape dataBytes planFor layoutFor planOf shape start room degree longest
-    test levelRule messageRule lengthRule markRule roomRule either ofBlocks findingOf judged recordLength acceptance
+    offered highest test levelRule messageRule lengthRule markRule roomRule either ofBlocks findingOf judged recordLength acceptance refusalOf refusalReply number
     within blockBelow blockOf exponentAt positionAt located bitIn bitFor bitAnswer positionIn positionFor positionAnswer place marked streamed
 layout-cases = record {
   a = record {
@@ -270,5 +290,15 @@ layout-cases = record {
     at-start = refl;
     first-tail = refl;
     start-position = refl;
+  };
+  edition = λ later. record {
+    longest = refl;
+    accepted = refl;
+    refused = refl;
+    first-edition = refl;
+    second-edition = refl;
+    third-edition = λ rec. refl;
+    no-edition = λ rec. refl;
+    edition-reply = refl;
   };
 }

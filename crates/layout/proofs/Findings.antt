@@ -1,18 +1,18 @@
 -- The first of several findings, from what was found one after the other, and the answer to a record by it.
 use mathlib.Core.Path.{_≡_, refl, sym, ap, _∙_}
 use mathlib.Core.Bool.{Bool, true, false, cond}
-use mathlib.Core.List.{List}
 use Prim.Native.Nat.{ℕ}
 use lib.ListN.{length}
 use lib.Dec.{eqb}
 use borrow.Author.Tests.{eq-eqb, ne-eqb}
+use Rattle.replies.specs.Edition.{offered}
 use Rattle.layout.specs.declared.Layout.{Layout}
 use Rattle.layout.specs.declared.Reason.{Reason}
 use Rattle.layout.specs.declared.Finding.{Finding}
 use Rattle.layout.specs.declared.Finding.the-variants.{Kept, Broken}
 use Rattle.layout.specs.declared.Refusal.the-variants as refusal
 use Rattle.layout.specs.declared.Acceptance.the-variants.{Accepted, Refused}
-use Rattle.layout.specs.Record.{fieldsIn, layoutOf}
+use Rattle.layout.specs.Record.{Words, fieldsIn, layoutOf}
 use Rattle.layout.specs.Plan.{planOf}
 use Rattle.layout.specs.Acceptance.{either, ofBlocks, findingOf, judged, recordLength, acceptance}
 
@@ -44,11 +44,12 @@ unfolding either
 kept-found {g = g} e k h = h ∙ sym (ap (λ (f : Finding). either f g) (sym e ∙ k))
 
 -- of a record
-module _ (rec : List ℕ) (right : recordLength (length rec) ≡ true) {x : Finding} (found : x ≡ findingOf (fieldsIn rec) (planOf (layoutOf rec))) where
-  pub kept-accepted : {l : Layout} → l ≡ layoutOf rec → x ≡ Kept → Accepted l ≡ acceptance rec
+module _ (w : Words) (known : offered (w .edition) ≡ true) (right : recordLength (length (w .bytes)) ≡ true)
+    {x : Finding} (found : x ≡ findingOf (fieldsIn w) (planOf (layoutOf w))) where
+  pub kept-accepted : {l : Layout} → l ≡ layoutOf w → x ≡ Kept → Accepted l ≡ acceptance w
   unfolding acceptance judged
-  kept-accepted e k = rw (right, sym found ∙ k, e)
+  kept-accepted e k = rw (known, right, sym found ∙ k, e)
 
-  pub broken-refused : {r : Reason} → x ≡ Broken r → Refused (refusal.Rule r) ≡ acceptance rec
+  pub broken-refused : {r : Reason} → x ≡ Broken r → Refused (refusal.Rule r) ≡ acceptance w
   unfolding acceptance judged
-  broken-refused k = rw (right, sym found ∙ k)
+  broken-refused k = rw (known, right, sym found ∙ k)

@@ -7,3 +7,4 @@ pub mod Reasons
 pub mod Accepting
 pub mod Cases
 pub mod ReplyRules
+pub mod Editions

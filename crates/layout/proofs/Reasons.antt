@@ -12,6 +12,7 @@ use borrow.Author.Tests.{ltb-true, lt-ltb, le-ltb, eq-eqb, ne-eqb}
 use Rattle.field.specs.Field.{longest}
 use Rattle.replies.specs.Replies.{number}
 use Rattle.replies.specs.Given.{turn}
+use Rattle.replies.specs.Edition.{highest}
 use Rattle.layout.specs.declared.BlockFields.{BlockFields}
 use Rattle.layout.specs.declared.Fields.{Fields}
 use Rattle.layout.specs.declared.Plan.{Plan}
@@ -26,8 +27,8 @@ use Rattle.layout.specs.Plan.{used, room}
 use Rattle.layout.specs.Acceptance.{test, levelRule, messageRule, lengthRule, markRule, roomRule, either, ofBlocks, findingOf, ruleRefusal, ruleNumber}
 
 -- the reasons, with the two numbers compared
-unfoldable pub levelReason : Kind → BlockFields → Reason
-levelReason kind fields = record { rule = Level; kind = kind; found = fields .ecc; limit = 20 }
+unfoldable pub levelReason : ℕ → Kind → BlockFields → Reason
+levelReason e kind fields = record { rule = Level; kind = kind; found = fields .ecc; limit = highest e }
 
 unfoldable pub messageReason : Kind → Shape → Reason
 messageReason kind s = record { rule = Message; kind = kind; found = s .message; limit = 1 }
@@ -46,8 +47,8 @@ roomReason q = record { rule = Room; kind = Page; found = used q; limit = room q
 
 -- r is a reason to refuse a layout of the fields f and the plan q: what it names breaks its rule
 pub data Breaks (f : Fields) (q : Plan) : Reason → Type 0 where
-  level-first : 20 < f .first .ecc → Breaks f q (levelReason First (f .first))
-  level-later : 0 < f .nblocks → 20 < f .later .ecc → Breaks f q (levelReason Later (f .later))
+  level-first : highest (f .edition) < f .first .ecc → Breaks f q (levelReason (f .edition) First (f .first))
+  level-later : 0 < f .nblocks → highest (f .edition) < f .later .ecc → Breaks f q (levelReason (f .edition) Later (f .later))
   message-first : q .first .message < 1 → Breaks f q (messageReason First (q .first))
   message-later : 0 < f .nblocks → q .later .message < 1 → Breaks f q (messageReason Later (q .later))
   length-first : 0 < q .first .level → longest (q .first .field) < q .first .covered →
@@ -162,10 +163,10 @@ decide-blocks {P = P} {Q = Q} n x y p q =
     (decide-either x (omega arith) y p q)))
     (eq-zero-or-pos n)
 
-decide-level : (kind : Kind) (fields : BlockFields) (n : ℕ) → 4 + kindRank kind ≡ n →
-    Decides n (suc n) (λ r. (20 < fields .ecc) × (r ≡ levelReason kind fields)) (levelRule kind fields)
+decide-level : (edition : ℕ) (kind : Kind) (fields : BlockFields) (n : ℕ) → 4 + kindRank kind ≡ n →
+    Decides n (suc n) (λ r. (highest edition < fields .ecc) × (r ≡ levelReason edition kind fields)) (levelRule edition kind fields)
 unfolding levelRule levelReason rank turn ruleNumber ruleRefusal number
-decide-level kind fields n e = decide-test _ _ e (λ h. ltb-true _ _ h) (λ h. lt-ltb _ _ h)
+decide-level edition kind fields n e = decide-test _ _ e (λ h. ltb-true _ _ h) (λ h. lt-ltb _ _ h)
 
 decide-message : (kind : Kind) (s : Shape) (n : ℕ) → 8 + kindRank kind ≡ n →
     Decides n (suc n) (λ r. (s .message < 1) × (r ≡ messageReason kind s)) (messageRule kind s)
@@ -208,8 +209,8 @@ decide-room q = decide-test _ _ refl (λ h. ltb-true _ _ h) (λ h. lt-ltb _ _ h)
 module _ (f : Fields) (q : Plan) where
   LevelBroken : Reason → Type 0
   LevelBroken r =
-      ((20 < f .first .ecc) × (r ≡ levelReason First (f .first)))
-      ⊎ ((0 < f .nblocks) × ((20 < f .later .ecc) × (r ≡ levelReason Later (f .later))))
+      ((highest (f .edition) < f .first .ecc) × (r ≡ levelReason (f .edition) First (f .first)))
+      ⊎ ((0 < f .nblocks) × ((highest (f .edition) < f .later .ecc) × (r ≡ levelReason (f .edition) Later (f .later))))
 
   MessageBroken : Reason → Type 0
   MessageBroken r =
@@ -234,7 +235,7 @@ module _ (f : Fields) (q : Plan) where
   unfolding findingOf LevelBroken MessageBroken LengthBroken MarkBroken RoomBroken kindRank
   decide-finding =
       decide-either (omega arith) (omega arith) (omega arith)
-      (decide-blocks (f .nblocks) (omega arith) (omega arith) (decide-level First (f .first) 4 refl) (decide-level Later (f .later) 5 refl))
+      (decide-blocks (f .nblocks) (omega arith) (omega arith) (decide-level (f .edition) First (f .first) 4 refl) (decide-level (f .edition) Later (f .later) 5 refl))
       (decide-either (omega arith) (omega arith) (omega arith)
       (decide-blocks (f .nblocks) (omega arith) (omega arith) (decide-message First (q .first) 8 refl) (decide-message Later (q .later) 9 refl))
       (decide-either (omega arith) (omega arith) (omega arith)

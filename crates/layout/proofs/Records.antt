@@ -11,7 +11,7 @@ use native.Mathlib.Omega.{arith}
 use lib.ListN.{length, getD, length-append, List·getD-eq-default}
 use lib.Dec.{eqb}
 use borrow.Author.Tests.{eqb-true, ne-eqb}
-use Rattle.layout.specs.Record.{markIn, fieldsIn, layoutOf}
+use Rattle.layout.specs.Record.{wordsOf, markIn, fieldsUnder, layoutOf}
 use Rattle.layout.specs.Acceptance.{recordLength, acceptance}
 
 pub record-three : (n : ℕ) → recordLength n ≡ true → (n ≡ 8 → ⊥) → n ≡ 12
@@ -47,9 +47,9 @@ padded [] (suc (suc (suc (suc i)))) = refl
 padded (x ∷ l) zero = refl
 padded (x ∷ l) (suc i) = padded l i
 
-padded-fields : (rec : List ℕ) → fieldsIn (rec ++ noMark) ≡ fieldsIn rec
-unfolding fieldsIn markIn
-padded-fields rec =
+padded-fields : (e : ℕ) (rec : List ℕ) → fieldsUnder e (rec ++ noMark) ≡ fieldsUnder e rec
+unfolding fieldsUnder markIn
+padded-fields e rec =
     rw (
       padded rec 0,
       padded rec 1,
@@ -66,6 +66,7 @@ padded-fields rec =
     )
 
 -- A record of two words is answered as the one with a third word of zeros.
-pub acceptance-padded : (rec : List ℕ) → length rec ≡ 8 → acceptance (rec ++ noMark) ≡ acceptance rec
+pub acceptance-padded : (edition : ℕ) (rec : List ℕ) → length rec ≡ 8 → acceptance (wordsOf edition (rec ++ noMark)) ≡ acceptance (wordsOf edition rec)
 unfolding acceptance layoutOf recordLength
-acceptance-padded rec e = let k : length (rec ++ noMark) ≡ 12 = length-append rec noMark ∙ omega (arith, four) in rw (k, e, padded-fields rec)
+acceptance-padded edition rec e =
+    let k : length (rec ++ noMark) ≡ 12 = length-append rec noMark ∙ omega (arith, four) in rw (k, e, padded-fields edition rec)

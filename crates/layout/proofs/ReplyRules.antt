@@ -14,6 +14,7 @@ use Rattle.replies.specs.declared.Verdict.{Verdict}
 use Rattle.replies.specs.declared.Verdict.the-variants as verdict
 use Rattle.replies.specs.Replies as replies
 use Rattle.replies.specs.Replies.{number, block, verdictNumber, verdictBlock, rule, verdict, reply, replyBlock}
+use Rattle.replies.specs.Edition.{offered, highest}
 use Rattle.replies.specs.Given.{None, Follows, Exactly, turn, atMost, ascending}
 use Rattle.replies.proofs.Given.{follows-done, follows-next, follows-here, none-verdict, verdict-none, append-kept, append-refused, exactly}
 use Rattle.mark.specs.Mark.{marked, streamed}
@@ -28,7 +29,7 @@ use Rattle.layout.specs.declared.Refusal.{Refusal}
 use Rattle.layout.specs.declared.Refusal.the-variants as refusal
 use Rattle.layout.specs.declared.Acceptance.{Acceptance}
 use Rattle.layout.specs.declared.Acceptance.the-variants.{Accepted, Refused}
-use Rattle.layout.specs.Record.{fieldsIn, layoutOf}
+use Rattle.layout.specs.Record.{Words, fieldsIn, layoutOf}
 use Rattle.layout.specs.Plan.{planOf, covered}
 use Rattle.layout.specs.Acceptance.{test, levelRule, messageRule, lengthRule, markRule, roomRule, either, ofBlocks, findingOf, judged, recordLength, acceptance, ruleRefusal, refusalOf, refusalReply}
 use Rattle.layout.specs.Answers as numbers
@@ -78,7 +79,7 @@ empty-test (suc n) = rw (eqb·suc-zero n, le-ltb (suc n) 1 (omega arith))
 says-fields : (f : Fields) (q : Plan) → Says (fieldRules f q) (findingOf f q)
 unfolding fieldRules findingOf levelRule messageRule lengthRule markRule roomRule tooLong ruleRefusal
 says-fields f q = rw (empty-test (q .first .message), empty-test (q .later .message))
-    (says-either _ (says-blocks f (ltb 20 (f .first .ecc)) (ltb 20 (f .later .ecc)) _ _ refl)
+    (says-either _ (says-blocks f (ltb (highest (f .edition)) (f .first .ecc)) (ltb (highest (f .edition)) (f .later .ecc)) _ _ refl)
     (says-either _ (says-blocks f (ltb (q .first .message) 1) (ltb (q .later .message) 1) _ _ refl)
     (says-either _ (says-blocks f (tooLong (q .first)) (tooLong (q .later)) _ _ refl)
     (says-either _ (says-either _ (says-test _ _) (says-test _ _))
@@ -89,6 +90,7 @@ says-fields f q = rw (empty-test (q .first .message), empty-test (q .later .mess
 -- no refusal of this crate names a block
 pub refusal-block : (r : Refusal) → block (refusalOf r) ≡ 0
 unfolding refusalOf ruleRefusal block
+refusal-block refusal.Edition = refl
 refusal-block refusal.RecordLength = refl
 refusal-block (refusal.Rule r) = go (r .rule)
   where
@@ -101,54 +103,62 @@ refusal-block (refusal.Rule r) = go (r .rule)
 refusal-block refusal.Range = refl
 
 -- How a call with this record goes on: by its further rules, or with the refusal of the record.
-pub data Accepting (rec : List ℕ) : Acceptance → Type 0 where
-  accepts : None (layoutRules rec) → Accepting rec (Accepted (layoutOf rec))
-  refuses : (r : Refusal) → verdict (layoutRules rec) ≡ verdict.Refused (refusalOf r) → Accepting rec (Refused r)
+pub data Accepting (w : Words) : Acceptance → Type 0 where
+  accepts : None (layoutRules w) → Accepting w (Accepted (layoutOf w))
+  refuses : (r : Refusal) → verdict (layoutRules w) ≡ verdict.Refused (refusalOf r) → Accepting w (Refused r)
 
-record-right : (rec : List ℕ) → recordLength (length rec) ≡ true → verdict (layoutRules rec) ≡ found (findingOf (fieldsIn rec) (planOf (layoutOf rec)))
-unfolding layoutRules verdict
-record-right rec e = rw e (says-fields (fieldsIn rec) (planOf (layoutOf rec)) .same)
+module _ (w : Words) where
+  edition-wrong : offered (w .edition) ≡ false → verdict (layoutRules w) ≡ verdict.Refused row.OutOfRange
+  unfolding layoutRules verdict
+  edition-wrong o = rw o
 
-record-wrong : (rec : List ℕ) → recordLength (length rec) ≡ false → verdict (layoutRules rec) ≡ verdict.Refused row.BufferLength
-unfolding layoutRules verdict
-record-wrong rec e = rw e
+  module _ (o : offered (w .edition) ≡ true) where
+    record-right : recordLength (length (w .bytes)) ≡ true → verdict (layoutRules w) ≡ found (findingOf (fieldsIn w) (planOf (layoutOf w)))
+    unfolding layoutRules verdict
+    record-right e = rw (o, e) (says-fields (fieldsIn w) (planOf (layoutOf w)) .same)
 
-pub accepting : (rec : List ℕ) → Accepting rec (acceptance rec)
+    record-wrong : recordLength (length (w .bytes)) ≡ false → verdict (layoutRules w) ≡ verdict.Refused row.BufferLength
+    unfolding layoutRules verdict
+    record-wrong e = rw (o, e)
+
+pub accepting : (w : Words) → Accepting w (acceptance w)
 unfolding acceptance judged found refusalOf
-accepting rec = go (recordLength (length rec)) refl (findingOf (fieldsIn rec) (planOf (layoutOf rec))) refl
+accepting w = go (offered (w .edition)) refl (recordLength (length (w .bytes))) refl (findingOf (fieldsIn w) (planOf (layoutOf w))) refl
   where
-    go : (b : Bool) → recordLength (length rec) ≡ b → (f : Finding) → findingOf (fieldsIn rec) (planOf (layoutOf rec)) ≡ f
-        → Accepting rec (cond b (judged (layoutOf rec) f) (Refused refusal.RecordLength))
-    go true e Kept g = accepts (verdict-none _ (record-right rec e ∙ ap found g))
-    go true e (Broken r) g = refuses (refusal.Rule r) (record-right rec e ∙ ap found g)
-    go false e f g = refuses refusal.RecordLength (record-wrong rec e)
+    go : (o : Bool) → offered (w .edition) ≡ o → (b : Bool) → recordLength (length (w .bytes)) ≡ b
+        → (f : Finding) → findingOf (fieldsIn w) (planOf (layoutOf w)) ≡ f
+        → Accepting w (cond o (cond b (judged (layoutOf w) f) (Refused refusal.RecordLength)) (Refused refusal.Edition))
+    go true o true e Kept g = accepts (verdict-none _ (record-right w o e ∙ ap found g))
+    go true o true e (Broken r) g = refuses (refusal.Rule r) (record-right w o e ∙ ap found g)
+    go true o false e f g = refuses refusal.RecordLength (record-wrong w o e)
+    go false o b e f g = refuses refusal.Edition (edition-wrong w o)
 
 -- A refused record is what every call with it replies, whatever its further rules are.
-pub refused-follows : (rec : List ℕ) (r : Refusal) → verdict (layoutRules rec) ≡ verdict.Refused (refusalOf r) → (more : List replies.Rule)
-    → Follows (layoutRules rec ++ more) (refusalReply r) 0
+pub refused-follows : (w : Words) (r : Refusal) → verdict (layoutRules w) ≡ verdict.Refused (refusalOf r) → (more : List replies.Rule)
+    → Follows (layoutRules w ++ more) (refusalReply r) 0
 unfolding refusalReply reply replyBlock verdictNumber verdictBlock
-refused-follows rec r e more = let k = append-refused (layoutRules rec) more (refusalOf r) e in
+refused-follows w r e more = let k = append-refused (layoutRules w) more (refusalOf r) e in
     record { number = rw k; beside = rw k (sym (refusal-block r)) }
 
 -- An accepted one leaves it to them.
-pub accepted-follows : (rec : List ℕ) → None (layoutRules rec) → (more : List replies.Rule) {n b : ℕ} → Follows more n b
-    → Follows (layoutRules rec ++ more) n b
+pub accepted-follows : (w : Words) → None (layoutRules w) → (more : List replies.Rule) {n b : ℕ} → Follows more n b
+    → Follows (layoutRules w ++ more) n b
 unfolding reply replyBlock
-accepted-follows rec none more f = let k = append-kept (layoutRules rec) more none in
+accepted-follows w none more f = let k = append-kept (layoutRules w) more none in
     record { number = rw k (f .number); beside = rw k (f .beside) }
 
 -- ---- the calls
 
-layout-answer : (rec : List ℕ) (a : Acceptance) → Accepting rec a → Follows (layoutRules rec) (acceptanceNumbers a .reply) (acceptanceNumbers a .block)
+layout-answer : (w : Words) (a : Acceptance) → Accepting w a → Follows (layoutRules w) (acceptanceNumbers a .reply) (acceptanceNumbers a .block)
 unfolding acceptanceNumbers numbers.done numbers.refused refusalReply reply replyBlock verdictNumber verdictBlock
-layout-answer rec a (accepts none) = let k = none-verdict (layoutRules rec) none in record { number = rw k; beside = rw k }
-layout-answer rec a (refuses r e) = record { number = rw e; beside = rw e (sym (refusal-block r)) }
+layout-answer w a (accepts none) = let k = none-verdict (layoutRules w) none in record { number = rw k; beside = rw k }
+layout-answer w a (refuses r e) = record { number = rw e; beside = rw e (sym (refusal-block r)) }
 
-pub layout-replies : (rec : List ℕ) → Follows (layoutRules rec) (acceptanceNumbers (acceptance rec) .reply) (acceptanceNumbers (acceptance rec) .block)
-layout-replies rec = layout-answer rec (acceptance rec) (accepting rec)
+pub layout-replies : (w : Words) → Follows (layoutRules w) (acceptanceNumbers (acceptance w) .reply) (acceptanceNumbers (acceptance w) .block)
+layout-replies w = layout-answer w (acceptance w) (accepting w)
 
-pub layout-exactly : (rec : List ℕ) → Exactly (layoutRules rec) (acceptanceNumbers (acceptance rec) .reply) (acceptanceNumbers (acceptance rec) .block)
-layout-exactly rec = exactly (layoutRules rec) (layout-replies rec)
+pub layout-exactly : (w : Words) → Exactly (layoutRules w) (acceptanceNumbers (acceptance w) .reply) (acceptanceNumbers (acceptance w) .block)
+layout-exactly w = exactly (layoutRules w) (layout-replies w)
 
 -- Bits.
 
@@ -192,43 +202,44 @@ module _ (q : Plan) where
     ]
   ]
 
-module _ (rec : List ℕ) (p : ℕ) where
-  bit-for : (a : Acceptance) → Accepting rec a → Follows (bitRules rec p) (bitNumbers (bitFor a p) .reply) (bitNumbers (bitFor a p) .block)
+module _ (w : Words) (p : ℕ) where
+  bit-for : (a : Acceptance) → Accepting w a → Follows (bitRules w p) (bitNumbers (bitFor a p) .reply) (bitNumbers (bitFor a p) .block)
   unfolding bitRules bitFor bitNumbers numbers.refused
-  bit-for a (accepts none) = accepted-follows rec none _ (bit-in (planOf (layoutOf rec)) p)
-  bit-for a (refuses r e) = refused-follows rec r e _
+  bit-for a (accepts none) = accepted-follows w none _ (bit-in (planOf (layoutOf w)) p)
+  bit-for a (refuses r e) = refused-follows w r e _
 
-  pub bit-replies : Follows (bitRules rec p) (bitNumbers (bitAnswer rec p) .reply) (bitNumbers (bitAnswer rec p) .block)
+  pub bit-replies : Follows (bitRules w p) (bitNumbers (bitAnswer w p) .reply) (bitNumbers (bitAnswer w p) .block)
   unfolding bitAnswer
-  bit-replies = bit-for (acceptance rec) (accepting rec)
+  bit-replies = bit-for (acceptance w) (accepting w)
 
-  pub bit-exactly : Exactly (bitRules rec p) (bitNumbers (bitAnswer rec p) .reply) (bitNumbers (bitAnswer rec p) .block)
-  bit-exactly = exactly (bitRules rec p) bit-replies
+  pub bit-exactly : Exactly (bitRules w p) (bitNumbers (bitAnswer w p) .reply) (bitNumbers (bitAnswer w p) .block)
+  bit-exactly = exactly (bitRules w p) bit-replies
 
-module _ (rec : List ℕ) (b e : ℕ) where
-  position-for : (a : Acceptance) → Accepting rec a
-      → Follows (positionRules rec b e) (positionNumbers (positionFor a b e) .reply) (positionNumbers (positionFor a b e) .block)
+module _ (w : Words) (b e : ℕ) where
+  position-for : (a : Acceptance) → Accepting w a
+      → Follows (positionRules w b e) (positionNumbers (positionFor a b e) .reply) (positionNumbers (positionFor a b e) .block)
   unfolding positionRules positionFor positionNumbers numbers.refused
-  position-for a (accepts none) = accepted-follows rec none _ (position-in (planOf (layoutOf rec)) b e)
-  position-for a (refuses r h) = refused-follows rec r h _
+  position-for a (accepts none) = accepted-follows w none _ (position-in (planOf (layoutOf w)) b e)
+  position-for a (refuses r h) = refused-follows w r h _
 
-  pub position-replies : Follows (positionRules rec b e) (positionNumbers (positionAnswer rec b e) .reply) (positionNumbers (positionAnswer rec b e) .block)
+  pub position-replies : Follows (positionRules w b e) (positionNumbers (positionAnswer w b e) .reply) (positionNumbers (positionAnswer w b e) .block)
   unfolding positionAnswer
-  position-replies = position-for (acceptance rec) (accepting rec)
+  position-replies = position-for (acceptance w) (accepting w)
 
-  pub position-exactly : Exactly (positionRules rec b e) (positionNumbers (positionAnswer rec b e) .reply) (positionNumbers (positionAnswer rec b e) .block)
-  position-exactly = exactly (positionRules rec b e) position-replies
+  pub position-exactly : Exactly (positionRules w b e) (positionNumbers (positionAnswer w b e) .reply) (positionNumbers (positionAnswer w b e) .block)
+  position-exactly = exactly (positionRules w b e) position-replies
 
--- After the record's length, which is looked at first, the turns never fall: where several rules apply the first turn wins (replies/Given `smallest`).
-module _ (rec : List ℕ) where
-  pub layout-ascending : ascending (drop 1 (layoutRules rec)) ≡ true
+-- After the edition and the record's length, which are looked at first, the turns never fall: where several rules apply the first turn wins
+-- (replies/Given `smallest-after`).
+module _ (w : Words) where
+  pub layout-ascending : ascending (drop 2 (layoutRules w)) ≡ true
   unfolding layoutRules fieldRules ascending atMost turn number
   layout-ascending = refl
 
-  pub bit-ascending : (p : ℕ) → ascending (drop 1 (bitRules rec p)) ≡ true
+  pub bit-ascending : (p : ℕ) → ascending (drop 2 (bitRules w p)) ≡ true
   unfolding bitRules layoutRules fieldRules ascending atMost turn number
   bit-ascending p = refl
 
-  pub position-ascending : (b e : ℕ) → ascending (drop 1 (positionRules rec b e)) ≡ true
+  pub position-ascending : (b e : ℕ) → ascending (drop 2 (positionRules w b e)) ≡ true
   unfolding positionRules layoutRules fieldRules ascending atMost turn number
   position-ascending b e = refl

@@ -1,4 +1,4 @@
--- Whether a layout is accepted, and the reason where it is not (document 01, "Replies", 1 to 4 and 6; document 02, E7, 11).
+-- Whether a layout is accepted, and the reason where it is not (document 01, "Replies", 1 to 4, 6 and 7; document 02, E7, 11, and E13).
 --
 -- test broken r           the finding of one rule
 -- levelRule, messageRule, lengthRule, markRule, roomRule    what the rules of the replies 1, 2, 3, 11 and 4 find
@@ -7,7 +7,7 @@
 -- findingOf f q           the first broken rule of a layout of the fields f and the plan q
 -- judged l f              the answer to a layout by the finding f
 -- recordLength n          a layout record may have n bytes
--- acceptance record       the answer to a layout record
+-- acceptance words        the answer to a layout record and the edition beside it
 -- ruleRefusal, refusalOf  what a broken rule and a refusal are in document 01's table (replies/Replies)
 -- ruleNumber, refusalReply   its number there
 use Prim.Native.Nat.{ℕ, _+_}
@@ -19,6 +19,7 @@ use Rattle.field.specs.Field.{longest}
 use Rattle.replies.specs.declared.Refusal as table
 use Rattle.replies.specs.declared.Refusal.the-variants as row
 use Rattle.replies.specs.Replies.{number}
+use Rattle.replies.specs.Edition.{offered, highest}
 use Rattle.layout.specs.declared.BlockFields.{BlockFields}
 use Rattle.layout.specs.declared.Fields.{Fields}
 use Rattle.layout.specs.declared.Layout.{Layout}
@@ -35,16 +36,17 @@ use Rattle.layout.specs.declared.Refusal.{Refusal}
 use Rattle.layout.specs.declared.Refusal.the-variants as refusal
 use Rattle.layout.specs.declared.Acceptance.{Acceptance}
 use Rattle.layout.specs.declared.Acceptance.the-variants.{Accepted, Refused}
-use Rattle.layout.specs.Record.{fieldsIn, layoutOf}
+use Rattle.layout.specs.Record.{Words, fieldsIn, layoutOf}
 use Rattle.layout.specs.Plan.{planOf, used, room}
 
 -- A rule that is broken gives its reason.
 unfoldable pub test : Bool → Reason → Finding
 test broken r = cond broken (Broken r) Kept
 
--- 1: a level field above 0x14
-unfoldable pub levelRule : Kind → BlockFields → Finding
-levelRule kind fields = test (ltb 20 (fields .ecc)) (record { rule = Level; kind = kind; found = fields .ecc; limit = 20 })
+-- 1: a level field above the highest of the edition
+unfoldable pub levelRule : ℕ → Kind → BlockFields → Finding
+levelRule e kind fields =
+    test (ltb (highest e) (fields .ecc)) (record { rule = Level; kind = kind; found = fields .ecc; limit = highest e })
 
 -- 2: an empty message
 unfoldable pub messageRule : Kind → Shape → Finding
@@ -80,7 +82,7 @@ ofBlocks n f g = cond (eqb n 0) f (either f g)
 -- The smallest number wins, but that 11 is looked at after 3 and before 4; of two kinds of block that break one rule, block 0 is named.
 unfoldable pub findingOf : Fields → Plan → Finding
 findingOf f q =
-    either (ofBlocks (f .nblocks) (levelRule First (f .first)) (levelRule Later (f .later)))
+    either (ofBlocks (f .nblocks) (levelRule (f .edition) First (f .first)) (levelRule (f .edition) Later (f .later)))
     (either (ofBlocks (f .nblocks) (messageRule First (q .first)) (messageRule Later (q .later)))
     (either (ofBlocks (f .nblocks) (lengthRule First (q .first)) (lengthRule Later (q .later)))
     (either (markRule f)
@@ -95,9 +97,14 @@ judged l (Broken r) = Refused (refusal.Rule r)
 unfoldable pub recordLength : ℕ → Bool
 recordLength n = cond (eqb n 8) true (eqb n 12)
 
--- A record of another length is refused before anything is looked at.
-unfoldable pub acceptance : List ℕ → Acceptance
-acceptance rec = cond (recordLength (length rec)) (judged (layoutOf rec) (findingOf (fieldsIn rec) (planOf (layoutOf rec)))) (Refused refusal.RecordLength)
+-- Another edition is refused before anything is looked at, and then a record of another length.
+unfoldable pub acceptance : Words → Acceptance
+acceptance w =
+    cond (offered (w .edition))
+    (cond (recordLength (length (w .bytes)))
+    (judged (layoutOf w) (findingOf (fieldsIn w) (planOf (layoutOf w))))
+    (Refused refusal.RecordLength))
+    (Refused refusal.Edition)
 
 -- The replies 1 to 4 of document 01's table, and 11 of document 02, E7.
 unfoldable pub ruleRefusal : Rule → table.Refusal
@@ -107,8 +114,9 @@ ruleRefusal Length = row.BlockTooLong
 ruleRefusal Outside = row.MarkOutside
 ruleRefusal Room = row.PageTooSmall
 
--- A record of another length is a lent buffer of another length, 6; a number outside its range is 7.
+-- A record of another length is a lent buffer of another length, 6; a number outside its range is 7, and so is another edition.
 unfoldable pub refusalOf : Refusal → table.Refusal
+refusalOf refusal.Edition = row.OutOfRange
 refusalOf refusal.RecordLength = row.BufferLength
 refusalOf (refusal.Rule r) = ruleRefusal (r .rule)
 refusalOf refusal.Range = row.OutOfRange

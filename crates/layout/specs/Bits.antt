@@ -25,6 +25,7 @@ use Rattle.layout.specs.declared.BitAnswer.the-variants as bit
 use Rattle.layout.specs.declared.PositionAnswer.{PositionAnswer}
 use Rattle.layout.specs.declared.PositionAnswer.the-variants as position
 use Rattle.layout.specs.Plan.{planOf, covered, start}
+use Rattle.layout.specs.Record.{Words}
 use Rattle.layout.specs.Acceptance.{acceptance}
 
 -- covered bits of a block: from its start on, as many as it has
@@ -57,8 +58,8 @@ unfoldable pub bitFor : Acceptance → ℕ → BitAnswer
 bitFor (acceptance.Accepted l) p = bitIn (planOf l) p
 bitFor (acceptance.Refused r) p = bit.Refused r
 
-unfoldable pub bitAnswer : List ℕ → ℕ → BitAnswer
-bitAnswer rec p = bitFor (acceptance rec) p
+unfoldable pub bitAnswer : Words → ℕ → BitAnswer
+bitAnswer w p = bitFor (acceptance w) p
 
 -- a block of the page and an exponent below its length
 unfoldable pub positionIn : Plan → ℕ → ℕ → PositionAnswer
@@ -71,5 +72,5 @@ unfoldable pub positionFor : Acceptance → ℕ → ℕ → PositionAnswer
 positionFor (acceptance.Accepted l) b e = positionIn (planOf l) b e
 positionFor (acceptance.Refused r) b e = position.Refused r
 
-unfoldable pub positionAnswer : List ℕ → ℕ → ℕ → PositionAnswer
-positionAnswer rec b e = positionFor (acceptance rec) b e
+unfoldable pub positionAnswer : Words → ℕ → ℕ → PositionAnswer
+positionAnswer w b e = positionFor (acceptance w) b e

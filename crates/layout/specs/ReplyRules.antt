@@ -3,9 +3,9 @@
 --
 -- tooLong s               a block with t > 0 longer than 2^m - 1 bits
 -- ofLater f broken        a later block breaks a rule: only where there is one
--- layoutRules record      6 for the record's length, then 1, 2, 3, 11 and 4, the first three about block 0 and about the later blocks
--- bitRules record p       the same, then 7 for a position
--- positionRules record b e    the same, then 7 for a block and for an exponent
+-- layoutRules words       7 for the edition, 6 for the record's length, then 1, 2, 3, 11 and 4, the first three about block 0 and about the later blocks
+-- bitRules words p        the same, then 7 for a position
+-- positionRules words b e     the same, then 7 for a block and for an exponent
 use Prim.Native.Nat.{ℕ, _+_, _*_}
 use mathlib.Core.List.{List, [], _∷_, _++_}
 use mathlib.Core.Bool.{Bool, false, not, cond}
@@ -15,10 +15,11 @@ use Rattle.field.specs.Field.{longest}
 use Rattle.replies.specs.declared.Refusal.the-variants.{LevelTooHigh, EmptyMessage, BlockTooLong, MarkOutside, PageTooSmall, BufferLength, OutOfRange}
 use Rattle.replies.specs.Replies as replies
 use Rattle.replies.specs.Replies.{rule}
+use Rattle.replies.specs.Edition.{offered, highest}
 use Rattle.layout.specs.declared.Fields.{Fields}
 use Rattle.layout.specs.declared.Shape.{Shape}
 use Rattle.layout.specs.declared.Plan.{Plan}
-use Rattle.layout.specs.Record.{fieldsIn, layoutOf}
+use Rattle.layout.specs.Record.{Words, fieldsIn, layoutOf}
 use Rattle.layout.specs.Plan.{planOf, covered, used, room}
 use Rattle.layout.specs.Acceptance.{recordLength}
 
@@ -31,8 +32,8 @@ ofLater f broken = cond (eqb (f .nblocks) 0) false broken
 
 unfoldable pub fieldRules : Fields → Plan → List replies.Rule
 fieldRules f q =
-    rule (ltb 20 (f .first .ecc)) LevelTooHigh
-    ∷ rule (ofLater f (ltb 20 (f .later .ecc))) LevelTooHigh
+    rule (ltb (highest (f .edition)) (f .first .ecc)) LevelTooHigh
+    ∷ rule (ofLater f (ltb (highest (f .edition)) (f .later .ecc))) LevelTooHigh
     ∷ rule (eqb (q .first .message) 0) EmptyMessage
     ∷ rule (ofLater f (eqb (q .later .message) 0)) EmptyMessage
     ∷ rule (tooLong (q .first)) BlockTooLong
@@ -42,13 +43,16 @@ fieldRules f q =
     ∷ rule (ltb (room q) (used q)) PageTooSmall
     ∷ []
 
-unfoldable pub layoutRules : List ℕ → List replies.Rule
-layoutRules rec = rule (not (recordLength (length rec))) BufferLength ∷ fieldRules (fieldsIn rec) (planOf (layoutOf rec))
+unfoldable pub layoutRules : Words → List replies.Rule
+layoutRules w =
+    rule (not (offered (w .edition))) OutOfRange
+    ∷ rule (not (recordLength (length (w .bytes)))) BufferLength
+    ∷ fieldRules (fieldsIn w) (planOf (layoutOf w))
 
-unfoldable pub bitRules : List ℕ → ℕ → List replies.Rule
-bitRules rec p = layoutRules rec ++ (rule (leb (8 * planOf (layoutOf rec) .size) p) OutOfRange ∷ [])
+unfoldable pub bitRules : Words → ℕ → List replies.Rule
+bitRules w p = layoutRules w ++ (rule (leb (8 * planOf (layoutOf w) .size) p) OutOfRange ∷ [])
 
-unfoldable pub positionRules : List ℕ → ℕ → ℕ → List replies.Rule
-positionRules rec b e =
-    layoutRules rec
-    ++ (rule (leb (planOf (layoutOf rec) .blocks) b) OutOfRange ∷ rule (leb (covered (planOf (layoutOf rec)) b) e) OutOfRange ∷ [])
+unfoldable pub positionRules : Words → ℕ → ℕ → List replies.Rule
+positionRules w b e =
+    layoutRules w
+    ++ (rule (leb (planOf (layoutOf w) .blocks) b) OutOfRange ∷ rule (leb (covered (planOf (layoutOf w)) b) e) OutOfRange ∷ [])

@@ -25,6 +25,7 @@ pub fn refusal_of(refusal: Refusal) -> replies::Refusal
     ensures { λ r. ⌜ r ≡ refusalOf refusal ⌝ }
 {
     match refusal {
+        Refusal::Edition => replies::Refusal::OutOfRange,
         Refusal::RecordLength => replies::Refusal::BufferLength,
         Refusal::Rule(reason) => {
             let rule = reason.rule;

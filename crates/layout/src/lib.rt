@@ -4,7 +4,7 @@
 //   plan_of          the plan of a page under an accepted layout
 //   fields_of        the fields of a record in twelve bytes, accepted or not
 //
-// check_layout takes the layout record as bytes of any length and asks nothing of its caller. The steps:
+// check_layout takes the edition and the layout record as bytes of any length, and asks nothing of its caller. The steps:
 // 1. words.rt takes the eight or twelve bytes apart into the fields of document 01 and the mark of document 02 (`Fields`).
 // 2. sums.rt works the sums out (`Plan`): number of blocks, data length, used bits, lengths of block 0 and of a later block. They
 //    are kept (`Layout`), and nothing adds them up again. Code and definitions above this crate know a plan and no layout words;
@@ -21,6 +21,7 @@ pub use answers::refusal_of;
 pub use answers::refusal_reply;
 use field::Field;
 use mark::Mark;
+use replies::offered;
 pub use sums::block_covered;
 pub use sums::block_shape;
 pub use sums::block_start;
@@ -28,6 +29,7 @@ pub use sums::page_room;
 pub use sums::plan_of;
 pub use words::fields_of;
 ghost use mathlib.Core.Path.{_≡_};
+ghost use Rattle.layout.specs.Record.{wordsOf};
 ghost use Rattle.layout.specs.Acceptance.{acceptance};
 
 // What a layout word stores of one kind of block: the level field, of which t is twice, the field choice, and the data in
@@ -48,6 +50,8 @@ pub struct Fields {
     pub later: BlockFields,
     pub mark: Mark,
     pub zeros: u8,
+    // 1 or 2: which level fields there are.
+    pub edition: u64,
 }
 
 // What a block is made of: message bits, and parity bits by field and level.
@@ -108,8 +112,9 @@ pub enum Finding {
     Broken(Reason),
 }
 
-// Why a call answers nothing: the record's length, a broken rule, a number out of its range.
+// Why a call answers nothing: the edition, the record's length, a broken rule, a number out of its range.
 pub enum Refusal {
+    Edition,
     RecordLength,
     Rule(Reason),
     Range,
@@ -136,13 +141,16 @@ pub enum PositionAnswer {
 }
 
 // Is this layout acceptable?
-pub fn check_layout(words: &[u8]) -> Acceptance
-    ensures { λ r. ⌜ r ≡ acceptance (now (words .entry)) ⌝ }
+pub fn check_layout(edition: u64, words: &[u8]) -> Acceptance
+    ensures { λ r. ⌜ r ≡ acceptance (wordsOf edition (now (words .entry))) ⌝ }
 {
+    if !offered(edition) {
+        return Acceptance::Refused(Refusal::Edition);
+    }
     if !words::record_length(words.len()) {
         return Acceptance::Refused(Refusal::RecordLength);
     }
-    let fields = words::fields_in(words);
+    let fields = words::fields_in(edition, words);
     let layout = sums::layout_for(fields);
     match rules::finding_of(fields, plan_of(layout)) {
         Finding::Kept => Acceptance::Accepted(layout),

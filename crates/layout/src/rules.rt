@@ -8,6 +8,7 @@ use crate::Reason;
 use crate::Rule;
 use crate::Shape;
 use crate::sums::page_room;
+use replies::highest;
 ghost use mathlib.Core.Path.{_≡_};
 ghost use Rattle.layout.specs.Acceptance.{test, ofBlocks, levelRule, messageRule, lengthRule, markRule, roomRule, findingOf};
 ghost use Rattle.layout.specs.declared.Kind.the-variants.{First, Later};
@@ -22,18 +23,19 @@ pub fn test(broken: bool, reason: Reason) -> Finding
     Finding::Kept
 }
 
-// Reply 1, a level field above 0x14.
-pub fn level_rule(kind: Kind, fields: BlockFields) -> Finding
-    ensures { λ r. ⌜ r ≡ levelRule kind fields ⌝ }
+// Reply 1, a level field above the highest of the edition.
+pub fn level_rule(edition: u64, kind: Kind, fields: BlockFields) -> Finding
+    ensures { λ r. ⌜ r ≡ levelRule edition kind fields ⌝ }
 {
     let found = fields.ecc as u64;
+    let limit = highest(edition);
     test(
-        20 < found,
+        limit < found,
         Reason {
             rule: Rule::Level,
             kind: kind,
             found: found,
-            limit: 20,
+            limit: limit,
         },
     )
 }
@@ -121,18 +123,20 @@ pub fn room_rule(plan: Plan) -> Finding
 
 // Reply 1, of block 0 and then of the later blocks, where there are some.
 fn levels(fields: Fields) -> Finding
-    ensures { λ r. ⌜ r ≡ ofBlocks (fields .nblocks) (levelRule First (fields .first)) (levelRule Later (fields .later)) ⌝ }
+    ensures { λ r. ⌜ r ≡ ofBlocks (fields .nblocks)
+        (levelRule (fields .edition) First (fields .first)) (levelRule (fields .edition) Later (fields .later)) ⌝ }
 {
     let fields_first = fields.first;
     let fields_later = fields.later;
-    let first = level_rule(Kind::First, fields_first);
+    let edition = fields.edition;
+    let first = level_rule(edition, Kind::First, fields_first);
     if let Finding::Broken(reason) = first {
         return Finding::Broken(reason);
     }
     if fields.nblocks == 0 {
         return Finding::Kept;
     }
-    level_rule(Kind::Later, fields_later)
+    level_rule(edition, Kind::Later, fields_later)
 }
 
 // Reply 2, the same way.

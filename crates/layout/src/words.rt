@@ -7,7 +7,7 @@ ghost use mathlib.Core.Path.{_≡_};
 ghost use Prim.Native.Nat.{_≤_};
 ghost use lib.ListN.{length, getD};
 ghost use mathlib.Core.Bool.{true};
-ghost use Rattle.layout.specs.Record.{fieldOf, blockFields, markAt, markIn, fieldsAt, fieldsIn};
+ghost use Rattle.layout.specs.Record.{fieldOf, blockFields, markAt, markIn, fieldsAt, fieldsUnder};
 ghost use Rattle.layout.specs.Acceptance.{recordLength};
 
 // The field that a bit of a layout word chooses.
@@ -51,7 +51,7 @@ pub fn mark_at(b8: u8, b9: u8, b10: u8) -> Mark
     }
 }
 
-// The fields of eight bytes, with a mark and the bits that are to be zero.
+// The fields of eight bytes, with a mark, the bits that are to be zero and an edition.
 pub fn fields_at(
     b0: u8,
     b1: u8,
@@ -63,8 +63,9 @@ pub fn fields_at(
     b7: u8,
     mark: Mark,
     zeros: u8,
+    edition: u64,
 ) -> Fields
-    ensures { λ r. ⌜ r ≡ fieldsAt b0 b1 b2 b3 b4 b5 b6 b7 mark zeros ⌝ }
+    ensures { λ r. ⌜ r ≡ fieldsAt b0 b1 b2 b3 b4 b5 b6 b7 mark zeros edition ⌝ }
 {
     Fields {
         nblocks: b0,
@@ -74,6 +75,7 @@ pub fn fields_at(
         later: block_fields(b6, b7),
         mark: mark,
         zeros: zeros,
+        edition: edition,
     }
 }
 
@@ -103,10 +105,10 @@ pub fn zeros_in(words: &[u8]) -> u8
 }
 
 // The fields in a record of eight or twelve bytes.
-pub fn fields_in(words: &[u8]) -> Fields
+pub fn fields_in(edition: u64, words: &[u8]) -> Fields
     requires right { ⌜ recordLength (length (now words)) ≡ true ⌝ }
     requires long { ⌜ 8 ≤ length (now words) ⌝ }
-    ensures { λ r. ⌜ r ≡ fieldsIn (now (words .entry)) ⌝ }
+    ensures { λ r. ⌜ r ≡ fieldsUnder edition (now (words .entry)) ⌝ }
 {
     let mark = mark_in(words);
     let zeros = zeros_in(words);
@@ -121,12 +123,13 @@ pub fn fields_in(words: &[u8]) -> Fields
         words[7],
         mark,
         zeros,
+        edition,
     )
 }
 
 // The fields in twelve bytes: a record of three words, or of two and four zero bytes.
-pub fn fields_of(words: &[u8; 12]) -> Fields
-    ensures { λ r. ⌜ r ≡ fieldsIn (now (words .entry)) ⌝ }
+pub fn fields_of(edition: u64, words: &[u8; 12]) -> Fields
+    ensures { λ r. ⌜ r ≡ fieldsUnder edition (now (words .entry)) ⌝ }
 {
-    fields_in(words)
+    fields_in(edition, words)
 }

@@ -126,10 +126,10 @@ fn tail(out: &mut [u8; 32768], plan: Plan) {
     say::put(out, b"\n");
 }
 
-fn accepted(out: &mut [u8; 32768], record: &[u8; 12], plan: Plan) {
+fn accepted(out: &mut [u8; 32768], edition: u64, record: &[u8; 12], plan: Plan) {
     say::reply(out, 0);
     say::put(out, b"this layout is accepted\n");
-    all_words(out, layout::fields_of(record));
+    all_words(out, layout::fields_of(edition, record));
     say::fact(out, b"page: ", plan.size as u64, b" bytes");
     say::fact(out, b" in ", plan.blocks as u64, b" blocks");
     say::fact(out, b", of them ", plan.metadata as u64, b" metadata");
@@ -139,9 +139,9 @@ fn accepted(out: &mut [u8; 32768], record: &[u8; 12], plan: Plan) {
     tail(out, plan);
 }
 
-// nandpage layout [--mark WORD2] WORD0 WORD1
+// nandpage layout [--edition N] [--mark WORD2] WORD0 WORD1
 pub fn layout(out: &mut [u8; 32768]) {
-    let options = arguments::find_options(out, arguments::MARK);
+    let options = arguments::find_options(out, arguments::MARK + arguments::EDITION);
     if !options.good {
         return;
     }
@@ -149,12 +149,12 @@ pub fn layout(out: &mut [u8; 32768]) {
         out,
         options.at,
         2,
-        b"usage: nandpage layout [--mark WORD2] WORD0 WORD1",
+        b"usage: nandpage layout [--edition N] [--mark WORD2] WORD0 WORD1",
     ) {
         return;
     }
     let Planned::Under { words, plan } = plans::plan_of_words(out, options) else {
         return;
     };
-    accepted(out, &arguments::record_of(words), plan);
+    accepted(out, words.edition, &arguments::record_of(words), plan);
 }

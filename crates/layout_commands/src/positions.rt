@@ -31,12 +31,13 @@ fn in_mark(out: &mut [u8; 32768], options: Options) {
 }
 
 fn locate(out: &mut [u8; 32768], options: Options, record: &[u8; 12], position: u64) {
-    match page_bits::locate_bit(record, position) {
+    match page_bits::locate_bit(options.edition, record, position) {
         BitAnswer::InBlock { block, exponent } => bit_in_block(out, options, block, exponent),
         BitAnswer::Tail => in_tail(out, options),
         BitAnswer::Mark => in_mark(out, options),
         BitAnswer::Refused(refusal) => plans::refused(
             out,
+            options.edition,
             record,
             refusal,
             b"the page has no bit at this position\n",
@@ -74,10 +75,11 @@ fn position(
     block: u64,
     exponent: u64,
 ) {
-    match page_bits::bit_position(record, block, exponent) {
+    match page_bits::bit_position(options.edition, record, block, exponent) {
         PositionAnswer::Position(p) => bit_at(out, options, plan, p),
         PositionAnswer::Refused(refusal) => plans::refused(
             out,
+            options.edition,
             record,
             refusal,
             b"the page has no such block, or the block no such exponent\n",
@@ -108,7 +110,7 @@ fn bits_of_exponent(out: &mut [u8; 32768], options: Options, plan: Plan, record:
 fn usage(out: &mut [u8; 32768]) {
     say::error(
         out,
-        b"usage: nandpage bits [--mark WORD2] [--page K] WORD0 WORD1 POSITION, or with BLOCK EXPONENT in place of POSITION",
+        b"usage: nandpage bits [--edition N] [--mark WORD2] [--page K] WORD0 WORD1 POSITION, or with BLOCK EXPONENT in place of POSITION",
     );
 }
 
@@ -126,7 +128,10 @@ fn bits_of(out: &mut [u8; 32768], options: Options) {
 
 // nandpage bits ..
 pub fn bits(out: &mut [u8; 32768]) {
-    let options = arguments::find_options(out, arguments::MARK + arguments::PAGE);
+    let options = arguments::find_options(
+        out,
+        arguments::MARK + arguments::EDITION + arguments::PAGE,
+    );
     if !options.good {
         return;
     }

@@ -1,8 +1,8 @@
 // Runs test vectors of the layout crate: each vector on standard input is one call, and its answer is one line of numbers.
 //
-// A vector is 32 bytes: the kind of call (`L` a layout, `P` a page bit, `B` a code bit), the length of the layout record,
-// its bytes in twelve places, two bytes not used, and two numbers of eight bytes. A line starts with the reply and its block.
-// An accepted layout shows its fields, sums and mark, a refused one the block kind and the two numbers compared.
+// A vector is 40 bytes: the kind of call (`L` a layout, `P` a page bit, `B` a code bit), the length of the layout record, the edition in
+// eight bytes, the record's bytes in twelve places, two bytes not used, and two numbers of eight bytes. A line starts with the reply and
+// its block. An accepted layout shows its fields, sums and mark, one that breaks a rule the block kind and the two numbers compared.
 use layout::Acceptance;
 use layout::BitAnswer;
 use layout::BlockFields;
@@ -71,8 +71,8 @@ fn twelve_bytes(words: &[u8]) -> [u8; 12] {
     ]
 }
 
-fn put_accepted(line: &mut [u8], at: usize, words: &[u8], layout: Layout) -> usize {
-    let stored_at = put_stored(line, at, layout::fields_of(&twelve_bytes(words)));
+fn put_accepted(line: &mut [u8], at: usize, edition: u64, words: &[u8], layout: Layout) -> usize {
+    let stored_at = put_stored(line, at, layout::fields_of(edition, &twelve_bytes(words)));
     let sums_at = put_sums(line, stored_at, layout);
     put_mark(line, sums_at, layout)
 }
@@ -91,17 +91,18 @@ fn put_reason(line: &mut [u8], at: usize, reason: Reason) -> usize {
 
 fn put_refused(line: &mut [u8], at: usize, refusal: Refusal) -> usize {
     match refusal {
+        Refusal::Edition => at,
         Refusal::RecordLength => at,
         Refusal::Rule(reason) => put_reason(line, at, reason),
         Refusal::Range => at,
     }
 }
 
-fn layout_line(words: &[u8], line: &mut [u8]) -> usize {
-    let answer = layout::check_layout(words);
+fn layout_line(edition: u64, words: &[u8], line: &mut [u8]) -> usize {
+    let answer = layout::check_layout(edition, words);
     let at = reply_line(line, layout::acceptance_reply(answer));
     match answer {
-        Acceptance::Accepted(l) => put_accepted(line, at, words, l),
+        Acceptance::Accepted(l) => put_accepted(line, at, edition, words, l),
         Acceptance::Refused(refusal) => put_refused(line, at, refusal),
     }
 }
@@ -113,8 +114,8 @@ fn put_bit(line: &mut [u8], at: usize, block: u64, exponent: u64) -> usize {
     vector_io::put_number(line, block_at, exponent)
 }
 
-fn bit_line(words: &[u8], position: u64, line: &mut [u8]) -> usize {
-    let answer = page_bits::locate_bit(words, position);
+fn bit_line(edition: u64, words: &[u8], position: u64, line: &mut [u8]) -> usize {
+    let answer = page_bits::locate_bit(edition, words, position);
     let at = reply_line(line, page_bits::bit_reply(answer));
     match answer {
         BitAnswer::InBlock { block, exponent } => put_bit(line, at, block, exponent),
@@ -124,8 +125,8 @@ fn bit_line(words: &[u8], position: u64, line: &mut [u8]) -> usize {
     }
 }
 
-fn position_line(words: &[u8], block: u64, exponent: u64, line: &mut [u8]) -> usize {
-    let answer = page_bits::bit_position(words, block, exponent);
+fn position_line(edition: u64, words: &[u8], block: u64, exponent: u64, line: &mut [u8]) -> usize {
+    let answer = page_bits::bit_position(edition, words, block, exponent);
     let at = reply_line(line, page_bits::position_reply(answer));
     match answer {
         PositionAnswer::Position(position) => vector_io::put_number(line, at, position),
@@ -136,30 +137,31 @@ fn position_line(words: &[u8], block: u64, exponent: u64, line: &mut [u8]) -> us
 // The answer to a call by its kind.
 fn call_line(head: &[u8], words: &[u8], line: &mut [u8]) -> usize {
     let call = vector_io::byte(head, 0, 0);
-    let first = vector_io::number(head, 16, 8);
-    let second = vector_io::number(head, 24, 8);
+    let edition = vector_io::number(head, 2, 8);
+    let first = vector_io::number(head, 24, 8);
+    let second = vector_io::number(head, 32, 8);
     if call == b'L' {
-        return layout_line(words, line);
+        return layout_line(edition, words, line);
     }
     if call == b'P' {
-        return bit_line(words, first, line);
+        return bit_line(edition, words, first, line);
     }
-    position_line(words, first, second, line)
+    position_line(edition, words, first, second, line)
 }
 
 // The answer to a vector.
 fn answer(head: &[u8], line: &mut [u8]) -> usize {
     let length = vector_io::byte(head, 1, 0) as usize % 13;
-    let end = 2 + length;
+    let end = 10 + length;
     if head.len() < end {
         return 0;
     }
-    call_line(head, &head[2..end], line)
+    call_line(head, &head[10..end], line)
 }
 
 // Answers the next vector: false where there is none.
 fn next_vector() -> bool {
-    let mut head = [0u8; 32];
+    let mut head = [0u8; 40];
     if !vector_io::fill(&mut head) {
         return false;
     }

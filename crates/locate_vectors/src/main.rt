@@ -1,7 +1,7 @@
 // Runs test vectors of the crate bch: each vector on standard input is a remainder, and its answer is one line of numbers.
 //
-// A vector is a head of 32 bytes and then the remainder. The head: `E`, the remainder's length in bytes, the number of places of the
-// lent list, five bytes not used, and level field, field choice and n of eight bytes each. Each place holds 42405 before the call.
+// A vector is a head of 40 bytes and then the remainder. The head: `E`, the remainder's length in bytes, the number of places of the lent
+// list, five bytes not used, and edition, level field, field choice and n of eight bytes each. Each place holds 42405 before the call.
 // A line shows the reply, its block, the size of the set where there is one, and every place of the list after the call.
 use bch::LocateAnswer;
 
@@ -32,10 +32,11 @@ fn put_answer(line: &mut [u8], answer: LocateAnswer) -> usize {
 
 // The answer to a vector.
 fn answer(head: &[u8], remainder: &[u8], places: &mut [u16], line: &mut [u8]) -> usize {
-    let level_field = vector_io::number(head, 8, 8);
-    let field_choice = vector_io::number(head, 16, 8);
-    let n = vector_io::number(head, 24, 8);
-    let found = bch::locate_errors(level_field, field_choice, n, remainder, places);
+    let edition = vector_io::number(head, 8, 8);
+    let level_field = vector_io::number(head, 16, 8);
+    let field_choice = vector_io::number(head, 24, 8);
+    let n = vector_io::number(head, 32, 8);
+    let found = bch::locate_errors(edition, level_field, field_choice, n, remainder, places);
     let at = put_answer(line, found);
     put_places(line, at, places)
 }
@@ -65,12 +66,12 @@ fn next_body(head: &[u8], remainder: &mut [u8], places: &mut [u16], line: &mut [
 
 // Answers the next vector: false where there is none.
 fn next_vector() -> bool {
-    let mut head = [0u8; 32];
+    let mut head = [0u8; 40];
     if !vector_io::fill(&mut head) {
         return false;
     }
-    let mut remainder = [0u8; 80];
-    let mut places = [42405u16; 48];
+    let mut remainder = [0u8; 112];
+    let mut places = [42405u16; 70];
     let mut line = [0u8; 512];
     next_body(&head, &mut remainder, &mut places, &mut line)
 }

@@ -1,6 +1,8 @@
 // The command locate.
 use bch::LocateAnswer;
 use replies::Refusal;
+use replies::highest;
+use replies::offered;
 use replies::refusal_number;
 use text::Number;
 
@@ -23,11 +25,24 @@ fn located(out: &mut [u8; 32768], list: &[u16]) {
     say::put(out, b"\n");
 }
 
-fn refused(out: &mut [u8; 32768], refusal: Refusal) {
+// Reply 7: there is no such edition, which is looked at first, or no such field.
+fn unknown(out: &mut [u8; 32768], edition: u64) {
+    if !offered(edition) {
+        say::put(out, b"there is no such edition, only 1 and 2\n");
+        return;
+    }
+    say::put(out, b"FIELD is 0 for m = 13 or 1 for m = 14\n");
+}
+
+fn too_high(out: &mut [u8; 32768], edition: u64) {
+    say::fact(out, b"the level field is above ", highest(edition), b"\n");
+}
+
+fn refused(out: &mut [u8; 32768], edition: u64, refusal: Refusal) {
     say::reply(out, refusal_number(refusal));
     match refusal {
-        Refusal::OutOfRange => say::put(out, b"FIELD is 0 for m = 13 or 1 for m = 14\n"),
-        Refusal::LevelTooHigh => say::put(out, b"the level field is above 20\n"),
+        Refusal::OutOfRange => unknown(out, edition),
+        Refusal::LevelTooHigh => too_high(out, edition),
         Refusal::EmptyMessage => say::put(
             out,
             b"there is no message: t = 0, or N is at most mt bits\n",
@@ -42,16 +57,23 @@ fn refused(out: &mut [u8; 32768], refusal: Refusal) {
     }
 }
 
-fn locate_from(out: &mut [u8; 32768], level: u64, field: u64, n: u64, remainder: &[u8]) {
+fn locate_from(
+    out: &mut [u8; 32768],
+    edition: u64,
+    level: u64,
+    field: u64,
+    n: u64,
+    remainder: &[u8],
+) {
     let mut places = [0u16; 64];
-    match bch::locate_errors(level, field, n, remainder, &mut places) {
+    match bch::locate_errors(edition, level, field, n, remainder, &mut places) {
         LocateAnswer::Located(count) => located(out, text::front_exponents(&places, count)),
-        LocateAnswer::Refused(refusal) => refused(out, refusal),
+        LocateAnswer::Refused(refusal) => refused(out, edition, refusal),
     }
 }
 
 // The remainder at place `at`, in hexadecimal digits.
-fn locate_in(out: &mut [u8; 32768], at: usize, level: u64, field: u64, n: u64) {
+fn locate_in(out: &mut [u8; 32768], at: usize, edition: u64, level: u64, field: u64, n: u64) {
     let mut given = [0u8; 258];
     let length = os::arg(at, &mut given);
     if !arguments::whole(out, b"REMAINDER") {
@@ -61,6 +83,7 @@ fn locate_in(out: &mut [u8; 32768], at: usize, level: u64, field: u64, n: u64) {
     match text::parse_bytes(text::without_prefix(&given[..length]), &mut remainder) {
         Number::Is(count) => locate_from(
             out,
+            edition,
             level,
             field,
             n,
@@ -70,9 +93,9 @@ fn locate_in(out: &mut [u8; 32768], at: usize, level: u64, field: u64, n: u64) {
     }
 }
 
-// nandpage locate LEVEL FIELD N REMAINDER
+// nandpage locate [--edition N] LEVEL FIELD N REMAINDER
 pub fn locate(out: &mut [u8; 32768]) {
-    let options = arguments::find_options(out, 0);
+    let options = arguments::find_options(out, arguments::EDITION);
     if !options.good {
         return;
     }
@@ -81,7 +104,7 @@ pub fn locate(out: &mut [u8; 32768]) {
         out,
         at,
         4,
-        b"usage: nandpage locate LEVEL FIELD N REMAINDER",
+        b"usage: nandpage locate [--edition N] LEVEL FIELD N REMAINDER",
     ) {
         return;
     }
@@ -94,5 +117,12 @@ pub fn locate(out: &mut [u8; 32768]) {
     let Number::Is(n) = arguments::number(out, arguments::place(at, 2), b"N") else {
         return;
     };
-    locate_in(out, arguments::place(at, 3), level, field, n);
+    locate_in(
+        out,
+        arguments::place(at, 3),
+        options.edition,
+        level,
+        field,
+        n,
+    );
 }

@@ -69,20 +69,21 @@ fn options(out: &mut [u8; 32768]) {
     );
     say::put(
         out,
-        b"layout word, by which the bytes of the factory's mark are left be; 0x10000100 is one byte at byte 4096. Of read, look and\n",
+        b"layout word, by which the bytes of the factory's mark are left be; 0x10000100 is one byte at byte 4096. Of these and of\n",
     );
     say::put(
         out,
-        b"salvage: --from N and --pages M, the pages of a dump, counted from 0; --quiet, no line for a page that is not refused. Of\n",
+        b"locate: --edition N, 1 or 2, with levels up to 20 or 31; 1 where none is given. Of read, look and salvage: --from N and\n",
     );
     say::put(
         out,
-        b"read: --stdout, data to standard output, with a dash for DATA. Of salvage: --raw, a ruined block as it stands in the page, in\n",
+        b"--pages M, the pages of a dump, counted from 0; --quiet, no line for a page that is not refused. Of read: --stdout, data to\n",
     );
     say::put(
         out,
-        b"place of bytes 0xFF. Of bits, judge and claim: --page K, page K of a dump.\n",
+        b"standard output, with a dash for DATA. Of salvage: --raw, a ruined block as it stands in the page, in place of bytes 0xFF. Of\n",
     );
+    say::put(out, b"bits, judge and claim: --page K, page K of a dump.\n");
 }
 
 fn arguments(out: &mut [u8; 32768]) {

@@ -3,7 +3,6 @@
 use mathlib.Core.Path.{_≡_, refl, sym, ap, _∙_}
 use mathlib.Core.Logic.{⊎-elim}
 use mathlib.Core.Bool.{Bool, true, false, cond, true≢false}
-use mathlib.Core.List.{List}
 use Prim.Native.Nat.{ℕ, _*_, _≤_, _<_}
 use native.Mathlib.Omega.{arith}
 use lib.Dec.{ltb}
@@ -14,6 +13,7 @@ use Rattle.layout.specs.declared.Plan.{Plan}
 use Rattle.layout.specs.declared.BitAnswer.{BitAnswer}
 use Rattle.layout.specs.declared.Acceptance.{Acceptance}
 use Rattle.layout.specs.declared.Refusal.the-variants.{Range}
+use Rattle.layout.specs.Record.{Words}
 use Rattle.layout.specs.Plan.{planOf, covered, used, room, Valid}
 use Rattle.layout.specs.Acceptance.{acceptance}
 use Rattle.layout.specs.Bits.{blockOf, exponentAt, positionAt, located, bitIn, bitFor, bitAnswer, positionIn, positionFor, positionAnswer}
@@ -169,21 +169,21 @@ module _ (q : Plan) (v : Valid q) (p : ℕ) where
   bit-once (in-tail m u) (in-tail n w) = refl
 
 -- Where a page bit answers block and exponent, these answer the bit's position.
-pub bit-position : (rec : List ℕ) (p b e : ℕ) → bitAnswer rec p ≡ bit.InBlock b e → positionAnswer rec b e ≡ position.Position p
+pub bit-position : (w : Words) (p b e : ℕ) → bitAnswer w p ≡ bit.InBlock b e → positionAnswer w b e ≡ position.Position p
 unfolding bitAnswer positionAnswer bitFor positionFor
-bit-position rec p b e h = go (acceptance rec) h
+bit-position w p b e h = go (acceptance w) h
   where
     go : (a : Acceptance) → bitFor a p ≡ bit.InBlock b e → positionFor a b e ≡ position.Position p
     go (answer.Accepted l) x = belongs-position (planOf l) (bit-belongs (planOf l) p b e x)
     go (answer.Refused r) x = let z : _≡_ {A = ℕ} 0 1 = cc x in absurd (omega arith)
 
 -- Where block and exponent answer a position, the page bit there answers them.
-pub position-bit : (rec : List ℕ) (p b e : ℕ) → positionAnswer rec b e ≡ position.Position p → bitAnswer rec p ≡ bit.InBlock b e
+pub position-bit : (w : Words) (p b e : ℕ) → positionAnswer w b e ≡ position.Position p → bitAnswer w p ≡ bit.InBlock b e
 unfolding bitAnswer positionAnswer bitFor positionFor
-position-bit rec p b e h = go (acceptance rec) refl h
+position-bit w p b e h = go (acceptance w) refl h
   where
-    go : (a : Acceptance) → acceptance rec ≡ a → positionFor a b e ≡ position.Position p → bitFor a p ≡ bit.InBlock b e
+    go : (a : Acceptance) → acceptance w ≡ a → positionFor a b e ≡ position.Position p → bitFor a p ≡ bit.InBlock b e
     go (answer.Accepted l) k x =
         let h = position-belongs (planOf l) p b e x in
-        belongs-bit (planOf l) (belongs-page (planOf l) (accepted-valid rec l k) h) h
+        belongs-bit (planOf l) (belongs-page (planOf l) (accepted-valid w l k) h) h
     go (answer.Refused r) k x = let z : _≡_ {A = ℕ} 0 1 = cc x in absurd (omega arith)

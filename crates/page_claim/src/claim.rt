@@ -25,6 +25,7 @@ ghost use Rattle.bits.specs.Bits.{bitOf, run, Inside};
 ghost use Rattle.mark.specs.Mark.{streamBit, InStream};
 ghost use Rattle.code.specs.Word.{flipped};
 ghost use Rattle.code.specs.Code.{Codeword, Fits};
+ghost use Rattle.layout.specs.Record.{wordsOf};
 ghost use Rattle.page_theory.specs.Claim.{Right};
 ghost use Rattle.page_theory.specs.Calls.{claimEnded, claimIn, claimOf};
 ghost use Rattle.page_plan.specs.Plans.{Stored, Planned, Ready};
@@ -165,10 +166,16 @@ fn claim_in(plan: Plan, page: &[u8], block: u64, claims: &[u16]) -> ClaimAnswer
 }
 
 // Are these error locations, reported by a hardware locator, right?
-pub fn check_claim(words: &[u8], page: &[u8], block: u64, claims: &[u16]) -> ClaimAnswer
-    ensures { λ r. ⌜ claimEnded (claimNumber r) ≡ claimOf (now (words .entry)) (now (page .entry)) block (now (claims .entry)) ⌝ }
+pub fn check_claim(
+    edition: u64,
+    words: &[u8],
+    page: &[u8],
+    block: u64,
+    claims: &[u16],
+) -> ClaimAnswer
+    ensures { λ r. ⌜ claimEnded (claimNumber r) ≡ claimOf (wordsOf edition (now (words .entry))) (now (page .entry)) block (now (claims .entry)) ⌝ }
 {
-    match check_layout(words) {
+    match check_layout(edition, words) {
         Acceptance::Accepted(layout) => claim_in(plan_of(layout), page, block, claims),
         Acceptance::Refused(refusal) => ClaimAnswer::Refused(refusal_of(refusal)),
     }

@@ -39,13 +39,14 @@ fn right(out: &mut [u8; 32768], claims: usize) {
 
 fn answer(
     out: &mut [u8; 32768],
+    edition: u64,
     record: &[u8],
     plan: Plan,
     page: &[u8],
     block: u64,
     claims: &[u16],
 ) {
-    match page_claim::check_claim(record, page, block, claims) {
+    match page_claim::check_claim(edition, record, page, block, claims) {
         ClaimAnswer::Accepted => right(out, claims.len()),
         ClaimAnswer::Refused(refusal) => {
             say::page_refused(
@@ -75,7 +76,15 @@ fn claim_on(
         arguments::place(options.at, 2),
         &mut page,
     ) {
-        Loaded::Bytes(n) => answer(out, record, plan, text::front(&page, n), block, claims),
+        Loaded::Bytes(n) => answer(
+            out,
+            options.edition,
+            record,
+            plan,
+            text::front(&page, n),
+            block,
+            claims,
+        ),
         Loaded::Failed => (),
     }
 }
@@ -107,9 +116,12 @@ fn claim_of(
     }
 }
 
-// nandpage claim [--mark WORD2] [--page K] WORD0 WORD1 PAGE BLOCK EXPONENT..
+// nandpage claim [--edition N] [--mark WORD2] [--page K] WORD0 WORD1 PAGE BLOCK EXPONENT..
 pub fn claim(out: &mut [u8; 32768]) {
-    let options = arguments::find_options(out, arguments::MARK + arguments::PAGE);
+    let options = arguments::find_options(
+        out,
+        arguments::MARK + arguments::EDITION + arguments::PAGE,
+    );
     if !options.good {
         return;
     }
@@ -117,7 +129,7 @@ pub fn claim(out: &mut [u8; 32768]) {
     if count < arguments::place(options.at, 4) {
         say::error(
             out,
-            b"usage: nandpage claim [--mark WORD2] [--page K] WORD0 WORD1 PAGE BLOCK EXPONENT..",
+            b"usage: nandpage claim [--edition N] [--mark WORD2] [--page K] WORD0 WORD1 PAGE BLOCK EXPONENT..",
         );
         return;
     }

@@ -29,8 +29,8 @@ fn refused(out: &mut [u8; 32768], plan: Plan, page: usize, refusal: Refusal) {
     say::page_refused(out, refusal_number(refusal), page, plan.size, plan.blocks);
 }
 
-fn answer(out: &mut [u8; 32768], record: &[u8], plan: Plan, page: &[u8], block: u64) {
-    match page_judge::judge_block(record, page, block) {
+fn answer(out: &mut [u8; 32768], edition: u64, record: &[u8], plan: Plan, page: &[u8], block: u64) {
+    match page_judge::judge_block(edition, record, page, block) {
         JudgeAnswer::Flips(n) => count(out, block, n),
         JudgeAnswer::Refused(refusal) => refused(out, plan, page.len(), refusal),
     }
@@ -45,14 +45,24 @@ fn judge_in(out: &mut [u8; 32768], options: Options, record: &[u8], plan: Plan, 
         arguments::place(options.at, 2),
         &mut page,
     ) {
-        Loaded::Bytes(n) => answer(out, record, plan, text::front(&page, n), block),
+        Loaded::Bytes(n) => answer(
+            out,
+            options.edition,
+            record,
+            plan,
+            text::front(&page, n),
+            block,
+        ),
         Loaded::Failed => (),
     }
 }
 
-// nandpage judge [--mark WORD2] [--page K] WORD0 WORD1 PAGE BLOCK
+// nandpage judge [--edition N] [--mark WORD2] [--page K] WORD0 WORD1 PAGE BLOCK
 pub fn judge(out: &mut [u8; 32768]) {
-    let options = arguments::find_options(out, arguments::MARK + arguments::PAGE);
+    let options = arguments::find_options(
+        out,
+        arguments::MARK + arguments::EDITION + arguments::PAGE,
+    );
     if !options.good {
         return;
     }
@@ -60,7 +70,7 @@ pub fn judge(out: &mut [u8; 32768]) {
         out,
         options.at,
         4,
-        b"usage: nandpage judge [--mark WORD2] [--page K] WORD0 WORD1 PAGE BLOCK",
+        b"usage: nandpage judge [--edition N] [--mark WORD2] [--page K] WORD0 WORD1 PAGE BLOCK",
     ) {
         return;
     }

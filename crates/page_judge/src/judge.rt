@@ -2,6 +2,7 @@
 ghost use mathlib.Core.Path.{_≡_};
 ghost use Prim.Native.Nat.{_<_};
 ghost use Rattle.code.specs.Register.{register};
+ghost use Rattle.layout.specs.Record.{wordsOf};
 ghost use Rattle.page_theory.specs.Calls.{judgeEnded, judgeIn, judgeOf};
 ghost use Rattle.page_plan.specs.Plans.{Planned, Ready};
 ghost use Rattle.page_decide.specs.Scanning.{remainderAt, Left};
@@ -79,10 +80,10 @@ fn judge_in(plan: Plan, page: &[u8], block: u64) -> JudgeAnswer
 }
 
 // Judges one block of a page: its flip count. `words` is the layout record.
-pub fn judge_block(words: &[u8], page: &[u8], block: u64) -> JudgeAnswer
-    ensures { λ r. ⌜ judgeEnded (judgeNumber r) (judgeBlock r) (judgeFlips r) ≡ judgeOf (now (words .entry)) (now (page .entry)) block ⌝ }
+pub fn judge_block(edition: u64, words: &[u8], page: &[u8], block: u64) -> JudgeAnswer
+    ensures { λ r. ⌜ judgeEnded (judgeNumber r) (judgeBlock r) (judgeFlips r) ≡ judgeOf (wordsOf edition (now (words .entry))) (now (page .entry)) block ⌝ }
 {
-    match check_layout(words) {
+    match check_layout(edition, words) {
         Acceptance::Accepted(layout) => judge_in(plan_of(layout), page, block),
         Acceptance::Refused(refusal) => JudgeAnswer::Refused(refusal_of(refusal)),
     }

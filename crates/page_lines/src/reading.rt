@@ -10,8 +10,8 @@ pub enum Answer {
     Refused(Refusal),
 }
 
-fn take(record: &[u8], page: &[u8], metadata: &mut [u8], data: &mut [u8]) -> Answer {
-    match page_take::take_page(record, page, metadata, data) {
+fn take(edition: u64, record: &[u8], page: &[u8], metadata: &mut [u8], data: &mut [u8]) -> Answer {
+    match page_take::take_page(edition, record, page, metadata, data) {
         TakeAnswer::Done => Answer::Done,
         TakeAnswer::Refused(refusal) => Answer::Refused(refusal),
     }
@@ -20,6 +20,7 @@ fn take(record: &[u8], page: &[u8], metadata: &mut [u8], data: &mut [u8]) -> Ans
 // Reads a page into the first bytes of the buffers, as many as the plan says: its counts, which a page with a ruined block has as well, and
 // where they are wanted its metadata and data.
 pub fn read_into(
+    edition: u64,
     record: &[u8],
     plan: Plan,
     wanted: bool,
@@ -29,6 +30,7 @@ pub fn read_into(
     counts: &mut [u8],
 ) -> Answer {
     if let LookAnswer::Refused(refusal) = page_look::look_page(
+        edition,
         record,
         page,
         text::front_mut(counts, plan.blocks as usize),
@@ -39,6 +41,7 @@ pub fn read_into(
         return Answer::Done;
     }
     take(
+        edition,
         record,
         page,
         text::front_mut(metadata, plan.metadata as usize),

@@ -5,6 +5,7 @@ ghost use lib.ListN.{length, replicate};
 ghost use Rattle.field.specs.Tables.{Tables};
 ghost use Rattle.division_table.specs.Table.{Table};
 ghost use Rattle.replies.specs.Replies.{verdictNumber};
+ghost use Rattle.layout.specs.Record.{wordsOf};
 ghost use Rattle.page_theory.specs.Reading as reading;
 ghost use Rattle.page_theory.specs.Calls.{lookEnded, lookReply, lookIn, lookOf};
 ghost use Rattle.page_plan.specs.Plans.{Planned, Ready};
@@ -177,11 +178,11 @@ fn look_in(plan: Plan, page: &[u8], counts: &mut [u8]) -> LookAnswer
 }
 
 // Looks at a page: the counts of all blocks. `words` is the layout record.
-pub fn look_page(words: &[u8], page: &[u8], counts: &mut [u8]) -> LookAnswer
+pub fn look_page(edition: u64, words: &[u8], page: &[u8], counts: &mut [u8]) -> LookAnswer
     ensures { λ r. ⌜ lookEnded (lookNumber r) (lookBlock r) (now (counts .exit))
-        ≡ lookOf (now (words .entry)) (now (page .entry)) (now (counts .entry)) ⌝ }
+        ≡ lookOf (wordsOf edition (now (words .entry))) (now (page .entry)) (now (counts .entry)) ⌝ }
 {
-    match check_layout(words) {
+    match check_layout(edition, words) {
         Acceptance::Accepted(layout) => look_in(plan_of(layout), page, counts),
         Acceptance::Refused(refusal) => LookAnswer::Refused(refusal_of(refusal)),
     }

@@ -14,13 +14,14 @@ use native.Mathlib.Nat.{eq-zero-or-pos}
 use native.Mathlib.Omega.{arith}
 use lib.ListN.{length, getD}
 use Rattle.mark.specs.Mark.{InStream}
+use Rattle.replies.proofs.Editions.{highest-small}
 use Rattle.layout.specs.declared.Fields.{Fields}
 use Rattle.layout.specs.declared.Layout.{Layout}
 use Rattle.layout.specs.declared.Shape.{Shape}
 use Rattle.layout.specs.declared.Plan.{Plan}
 use Rattle.layout.specs.declared.Finding.the-variants.{Kept}
 use Rattle.layout.specs.declared.Acceptance.the-variants.{Accepted}
-use Rattle.layout.specs.Record.{blockFields, fieldsAt, fieldsIn}
+use Rattle.layout.specs.Record.{Words, blockFields, fieldsAt, fieldsUnder, fieldsIn}
 use Rattle.layout.specs.Plan.{shapeWith, shapeOf, dataBytes, planFor, planOf, shape, field, level, bits, covered, start, room, from, payload, Valid}
 use Rattle.layout.specs.Acceptance.{findingOf, acceptance}
 use Rattle.layout.proofs.Plans.{product-le, later-none, later-some, from-later}
@@ -32,14 +33,14 @@ use Rattle.page_plan.specs.Plans.{Stored, Planned}
 module _ (f : Fields) (k : Keeps f (planFor f)) where
   first-stored : Stored (planFor f .first)
   unfolding planFor shapeOf shapeWith
-  first-stored = record { even = omega arith; small = omega (arith, k .levels) }
+  first-stored = record { even = omega arith; small = omega (arith, k .levels, highest-small (f .edition)) }
 
   later-stored : Stored (planFor f .later)
   unfolding planFor shapeOf shapeWith
   later-stored =
       ⊎-elim
       (λ (e : f .nblocks ≡ 0). rw (later-none f e) (record { even = omega arith; small = omega arith }))
-      (λ (n : 0 < f .nblocks). rw (later-some f n) (record { even = omega arith; small = omega (arith, k .levels-later n) }))
+      (λ (n : 0 < f .nblocks). rw (later-some f n) (record { even = omega arith; small = omega (arith, k .levels-later n, highest-small (f .edition)) }))
       (eq-zero-or-pos (f .nblocks))
 
 -- What a record of bytes can hold.
@@ -49,8 +50,8 @@ record Ranges (f : Fields) : Type 0 where
   first : f .first .units < 1024
   later : f .later .units < 1024
 
-ranges : (rec : List ℕ) → ((i : ℕ) → getD rec i 0 < 256) → Ranges (fieldsIn rec)
-unfolding fieldsIn fieldsAt blockFields
+ranges : (rec : Words) → ((i : ℕ) → getD (rec .bytes) i 0 < 256) → Ranges (fieldsIn rec)
+unfolding fieldsUnder fieldsAt blockFields
 ranges rec b = record {
   nblocks = b 0;
   metadata = b 1;
@@ -75,7 +76,7 @@ fields-planned f r e =
       «data» = omega arith;
     }
 
-pub accepted-planned : (rec : List ℕ) (l : Layout) → ((i : ℕ) → getD rec i 0 < 256) → acceptance rec ≡ Accepted l → Planned (planOf l)
+pub accepted-planned : (rec : Words) (l : Layout) → ((i : ℕ) → getD (rec .bytes) i 0 < 256) → acceptance rec ≡ Accepted l → Planned (planOf l)
 accepted-planned rec l b e = rw (accepted-plan rec l e) (fields-planned (fieldsIn rec) (ranges rec b) (accepted-kept rec l e))
 
 pub shape-stored : (q : Plan) (b : ℕ) → Planned q → Stored (shape q b)

@@ -4,6 +4,7 @@ ghost use Prim.Native.Nat.{_<_};
 ghost use lib.ListN.{length};
 ghost use Rattle.division_table.specs.Table.{Table};
 ghost use Rattle.replies.specs.Replies.{verdictNumber};
+ghost use Rattle.layout.specs.Record.{wordsOf};
 ghost use Rattle.page_theory.specs.Calls.{takeEnded, takeReply, takeIn, takeOf};
 ghost use Rattle.page_plan.specs.Plans.{Planned, Ready};
 ghost use Rattle.page_decide.specs.Scanning.{Scanned};
@@ -94,11 +95,17 @@ fn take_in(plan: Plan, page: &[u8], metadata: &mut [u8], data: &mut [u8]) -> Tak
 }
 
 // Takes metadata and data out of a page. `words` is the layout record.
-pub fn take_page(words: &[u8], page: &[u8], metadata: &mut [u8], data: &mut [u8]) -> TakeAnswer
+pub fn take_page(
+    edition: u64,
+    words: &[u8],
+    page: &[u8],
+    metadata: &mut [u8],
+    data: &mut [u8],
+) -> TakeAnswer
     ensures { λ r. ⌜ takeEnded (takeNumber r) (takeBlock r) (now (metadata .exit)) (now («data» .exit))
-        ≡ takeOf (now (words .entry)) (now (page .entry)) (now (metadata .entry)) (now («data» .entry)) ⌝ }
+        ≡ takeOf (wordsOf edition (now (words .entry))) (now (page .entry)) (now (metadata .entry)) (now («data» .entry)) ⌝ }
 {
-    match check_layout(words) {
+    match check_layout(edition, words) {
         Acceptance::Accepted(layout) => take_in(plan_of(layout), page, metadata, data),
         Acceptance::Refused(refusal) => TakeAnswer::Refused(refusal_of(refusal)),
     }

@@ -1,5 +1,5 @@
--- Cases A to L of document 01, "Both sides of each edge", in one table, each proved of the definitions.
--- The statements about layouts alone (A, B, C, D, E, I, K) stand in layout/proofs/Cases; the others stand here.
+-- Cases A to L of document 01, "Both sides of each edge", at edition 1, and those of document 02, E13, in one table, each proved of the
+-- definitions. The statements about layouts alone (A, B, C, D, E, I, K, E13's) stand in layout/proofs/Cases; the others stand here.
 use mathlib.Core.Path.{_≡_, refl, sym, ap, _∙_}
 use mathlib.Core.Bool.{false}
 use mathlib.Core.List.{List, [], _∷_, _++_}
@@ -17,10 +17,10 @@ use Rattle.mark.specs.Mark.{place, marked, streamed, streamBit}
 use Rattle.layout.specs.declared.BlockFields.{BlockFields}
 use Rattle.layout.specs.declared.Plan.{Plan}
 use Rattle.layout.specs.declared.BitAnswer.the-variants.{InBlock}
-use Rattle.layout.specs.Record.{fieldOf, blockFields, markAt, markIn, fieldsAt, fieldsIn, layoutOf}
+use Rattle.layout.specs.Record.{Words, fieldOf, blockFields, markAt, markIn, fieldsAt, fieldsUnder, layoutOf}
 use Rattle.layout.specs.Plan.{shapeWith, shapeOf, laterShape, dataBytes, planFor, layoutFor, planOf, shape, field, level, start, from, Valid}
 use Rattle.layout.specs.Bits.{within, blockBelow, blockOf, bitAnswer}
-use Rattle.layout.proofs.Cases.{words, twoBlocks, layoutE, CaseA, CaseB, CaseC, CaseD, CaseE, CaseI, CaseK, layout-cases}
+use Rattle.layout.proofs.Cases.{word, words, twoBlocks, layoutE, CaseA, CaseB, CaseC, CaseD, CaseE, CaseI, CaseK, CaseEdition, layout-cases}
 use Rattle.code.specs.Word.{Word, apart, distance, ones, turned, flipped}
 use Rattle.code.specs.Code.{Codeword}
 use Rattle.code.specs.Outcome.{by-codeword}
@@ -39,7 +39,7 @@ use Rattle.page_theory.proofs.Zeros.{replicate-at, zeros-parity}
 use Rattle.page_theory.proofs.Single.{single-codeword}
 
 -- the layout record of case E, the page of case F, and that page with byte 0 = 0x80
-unfoldable pub recordE : List ℕ
+unfoldable pub recordE : Words
 recordE = words 0x01000801 0x000F0801
 
 unfoldable pub pageF : List ℕ
@@ -96,9 +96,11 @@ pub record Cases : Type 0 where
   pub k : (ecc : ℕ) (gf : Field) (later : BlockFields) → ecc ≤ 20 → CaseK ecc gf later
   -- a claim with an equal pair: 10; the right claim is accepted
   pub l : CaseL
+  -- document 02, E13: m = 13, t = 62, 230 units of data in edition 2: metadata 3 is accepted, metadata 4 is 3
+  pub edition : (later : BlockFields) → CaseEdition later
 
 accepts-E : Accepts recordE (planOf layoutE)
-unfolding recordE words fieldOf blockFields markAt markIn fieldsAt fieldsIn layoutOf layoutE twoBlocks
+unfolding recordE word words fieldOf blockFields markAt markIn fieldsAt fieldsUnder layoutOf layoutE twoBlocks
 accepts-E = accepted-accepts recordE layoutE (layout-cases .e .accepted)
 
 page-F : (lent : List ℕ) → pageOf (planOf layoutE) lent (replicate 8 0) ≡ pageF
@@ -212,4 +214,5 @@ cases = record {
   j = single-codeword;
   k = layout-cases .k;
   l = case-L;
+  edition = layout-cases .edition;
 }

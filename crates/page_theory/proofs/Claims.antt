@@ -6,6 +6,7 @@ use Prim.Native.Nat.{ℕ, _<_}
 use native.Mathlib.Omega.{arith}
 use lib.ListN.{length}
 use Rattle.field.specs.declared.Field.{Field}
+use Rattle.layout.specs.Record.{Words}
 use Rattle.layout.specs.declared.Plan.{Plan}
 use Rattle.layout.specs.Plan.{field, level}
 use Rattle.code.specs.Word.{Word}
@@ -43,7 +44,7 @@ module _ (q : Plan) (page : List ℕ) (b : ℕ) (size : length page ≡ q .size)
   pub claim-wrong : (Right (field q b) (level q b) (blockWord q page b) claims → ⊥) → claimIn q page b claims ≡ claimEnded 10
   claim-wrong h = claim-by ∙ by-wrong h (right? _ _ _ _)
 
-module _ (rec : List ℕ) (q : Plan) (accepted : Accepts rec q) (page : List ℕ) (b : ℕ) (size : length page ≡ q .size) (inside : b < q .blocks)
+module _ (rec : Words) (q : Plan) (accepted : Accepts rec q) (page : List ℕ) (b : ℕ) (size : length page ≡ q .size) (inside : b < q .blocks)
     (claims : List ℕ) where
   pub accepted-when : Right (field q b) (level q b) (blockWord q page b) claims → claimOf rec page b claims ≡ claimEnded 0
   accepted-when h = claim-accepted rec q accepted page b claims ∙ claim-right q page b size inside claims h

@@ -13,6 +13,7 @@ use native.Mathlib.Decide.{ℕ-discrete}
 use lib.ListN.{length}
 use lib.Dec.{eqb, ltb}
 use Rattle.replies.specs.Replies.{among}
+use Rattle.layout.specs.Record.{Words}
 use Rattle.layout.specs.declared.Plan.{Plan}
 use Rattle.layout.specs.declared.Acceptance.{Acceptance}
 use Rattle.layout.specs.declared.Acceptance.the-variants.{Accepted, Refused}
@@ -31,8 +32,8 @@ use Rattle.page_theory.specs.Calls.{blockReply, judgeEnded, judgeBy, jud
 use Rattle.page_theory.specs.Calls.{claimEnded, claimBy, claimIn, claimFor, claimOf}
 use Rattle.page_theory.proofs.Calls.{look-wrong, take-wrong}
 
--- the numbers 0 to 6 come first in each list
-among-small : (x : ℕ) (more : List ℕ) → x < 7 → among x (0 ∷ 1 ∷ 2 ∷ 3 ∷ 4 ∷ 5 ∷ 6 ∷ more) ≡ true
+-- the numbers 0 to 7 come first in each list
+among-small : (x : ℕ) (more : List ℕ) → x < 8 → among x (0 ∷ 1 ∷ 2 ∷ 3 ∷ 4 ∷ 5 ∷ 6 ∷ 7 ∷ more) ≡ true
 unfolding among
 among-small zero more h = refl
 among-small (suc zero) more h = refl
@@ -41,14 +42,15 @@ among-small (suc (suc (suc zero))) more h = refl
 among-small (suc (suc (suc (suc zero)))) more h = refl
 among-small (suc (suc (suc (suc (suc zero))))) more h = refl
 among-small (suc (suc (suc (suc (suc (suc zero)))))) more h = refl
-among-small (suc (suc (suc (suc (suc (suc (suc x))))))) more h = absurd (omega arith)
+among-small (suc (suc (suc (suc (suc (suc (suc zero))))))) more h = refl
+among-small (suc (suc (suc (suc (suc (suc (suc (suc x)))))))) more h = absurd (omega arith)
 
--- the replies about a record and about lengths: up to 6, and 11
+-- the replies about an edition, a record, lengths and a block number: up to 7, and 11
 abbrev Early : ℕ → Type 0
-Early x = (x < 7) ⊎ (x ≡ 11)
+Early x = (x < 8) ⊎ (x ≡ 11)
 
-among-early : (x : ℕ) (more : List ℕ) → Early x → among 11 (0 ∷ 1 ∷ 2 ∷ 3 ∷ 4 ∷ 5 ∷ 6 ∷ more) ≡ true
-    → among x (0 ∷ 1 ∷ 2 ∷ 3 ∷ 4 ∷ 5 ∷ 6 ∷ more) ≡ true
+among-early : (x : ℕ) (more : List ℕ) → Early x → among 11 (0 ∷ 1 ∷ 2 ∷ 3 ∷ 4 ∷ 5 ∷ 6 ∷ 7 ∷ more) ≡ true
+    → among x (0 ∷ 1 ∷ 2 ∷ 3 ∷ 4 ∷ 5 ∷ 6 ∷ 7 ∷ more) ≡ true
 among-early x more (inl h) e = among-small x more h
 among-early x more (inr h) e = rw h e
 
@@ -57,21 +59,21 @@ early-nine x (inl h) e = omega arith
 early-nine x (inr h) e = omega arith
 
 -- 5 for the page, 6 for one of two other buffers
-small-three : (a b c : Bool) → cond a (cond b (cond c 0 6) 6) 5 < 7
+small-three : (a b c : Bool) → cond a (cond b (cond c 0 6) 6) 5 < 8
 small-three true true true = omega arith
 small-three true true false = omega arith
 small-three true false c = omega arith
 small-three false b c = omega arith
 
-write-small : (q : Plan) (m d page : ℕ) → writeReply q m d page < 7
+write-small : (q : Plan) (m d page : ℕ) → writeReply q m d page < 8
 unfolding writeReply
 write-small q m d page = small-three (eqb page (q .size)) (eqb m (q .metadata)) (eqb d (q .«data»))
 
-take-small : (q : Plan) (page m d : ℕ) → takeReply q page m d < 7
+take-small : (q : Plan) (page m d : ℕ) → takeReply q page m d < 8
 unfolding takeReply
 take-small q page m d = small-three (eqb page (q .size)) (eqb m (q .metadata)) (eqb d (q .«data»))
 
-look-small : (q : Plan) (page c : ℕ) → lookReply q page c < 7
+look-small : (q : Plan) (page c : ℕ) → lookReply q page c < 8
 unfolding lookReply
 look-small q page c = small-three (eqb page (q .size)) (eqb c (q .blocks)) true
 
@@ -87,7 +89,7 @@ module _ (m d page : List ℕ) where
       go true = record { table = among-small 0 _ (omega arith); kept = λ n. absurd (n refl); block = refl }
       go false = ends-write _ (inl (write-small q _ _ _))
 
-  pub write-ends : (rec : List ℕ) → WriteEnds page (writeOf rec m d page)
+  pub write-ends : (rec : Words) → WriteEnds page (writeOf rec m d page)
   unfolding writeOf writeFor
   write-ends rec = go (acceptance rec) refl
     where
@@ -111,7 +113,7 @@ module _ (page c : List ℕ) where
     | no n ↦ rw (look-wrong q page c n) (ends-look _ (inl (look-small q _ _)))
   ]
 
-  pub look-ends : (rec : List ℕ) → LookEnds c (lookOf rec page c)
+  pub look-ends : (rec : Words) → LookEnds c (lookOf rec page c)
   unfolding lookOf lookFor
   look-ends rec = go (acceptance rec) refl
     where
@@ -135,7 +137,7 @@ module _ (page m d : List ℕ) where
     | no n ↦ rw (take-wrong q page m d n) (ends-take _ (inl (take-small q _ _ _)))
   ]
 
-  pub take-ends : (rec : List ℕ) → TakeEnds m d (takeOf rec page m d)
+  pub take-ends : (rec : Words) → TakeEnds m d (takeOf rec page m d)
   unfolding takeOf takeFor
   take-ends rec = go (acceptance rec) refl
     where
@@ -180,9 +182,9 @@ module _ (page : List ℕ) (b : ℕ) where
       go : (x : ℕ) → BlockReply x → JudgeEnds b (cond (eqb x 0) (judgeBy b (outcome q page b)) (judgeEnded x 0 0))
       go x right = ends-outcome (outcome q page b)
       go x length-wrong = ends-judge 5 (inl (omega arith))
-      go x range-wrong = record { table = unfold among in refl; kept = λ n. refl; block = λ n. refl; named = λ e. absurd (omega arith) }
+      go x range-wrong = ends-judge 7 (inl (omega arith))
 
-  pub judge-ends : (rec : List ℕ) → JudgeEnds b (judgeOf rec page b)
+  pub judge-ends : (rec : Words) → JudgeEnds b (judgeOf rec page b)
   unfolding judgeOf judgeFor
   judge-ends rec = go (acceptance rec) refl
     where
@@ -207,9 +209,9 @@ module _ (page : List ℕ) (b : ℕ) (claims : List ℕ) where
           → ClaimEnds (cond (eqb x 0) (claimBy (right? (field q b) (level q b) (blockWord q page b) claims)) (claimEnded x))
       go x right = ends-right q (right? (field q b) (level q b) (blockWord q page b) claims)
       go x length-wrong = ends-claim 5 (inl (omega arith))
-      go x range-wrong = record { table = unfold among in refl; block = refl }
+      go x range-wrong = ends-claim 7 (inl (omega arith))
 
-  pub claim-ends : (rec : List ℕ) → ClaimEnds (claimOf rec page b claims)
+  pub claim-ends : (rec : Words) → ClaimEnds (claimOf rec page b claims)
   unfolding claimOf claimFor
   claim-ends rec = go (acceptance rec) refl
     where

@@ -13,6 +13,7 @@ use lib.ListN.{length, getD}
 use Rattle.bits.specs.Bits.{bitOf}
 use Rattle.bits.proofs.Runs.{run-cong}
 use Rattle.mark.specs.Mark.{marked, streamBit}
+use Rattle.layout.specs.Record.{Words}
 use Rattle.layout.specs.declared.Plan.{Plan}
 use Rattle.layout.specs.Plan.{bits, field, level, used, room, from, payload, Valid}
 use Rattle.code.specs.Word.{Word}
@@ -30,7 +31,7 @@ use Rattle.page_theory.proofs.Reading.{from-order, reading-parts, count
 use Rattle.page_theory.proofs.Calls.{bytesAt-bytes, bytesAt-join, write-right, look-right, look-wrong, take-wrong}
 use Rattle.page_theory.proofs.Accepted.{accepts-valid, write-accepted, look-accepted, take-accepted}
 
-module _ (rec : List ℕ) (q : Plan) (accepted : Accepts rec q) where
+module _ (rec : Words) (q : Plan) (accepted : Accepts rec q) where
   -- "A written page is the one that the layout words and the BCH definition give."
   module _ (m d page : List ℕ) (payload : Payload q m d) (lent : length page ≡ q .size) where
     pub write-done : writeOf rec m d page ≡ writeEnded 0 0 (pageOf q page (m ++ d))
@@ -108,7 +109,7 @@ module _ (q : Plan) (v : Valid q) (page m d : List ℕ) where
     | no n ↦ absurd (n (ap (λ (r : Taken). r .reply) (sym (take-wrong q page m d n)) ∙ h))
   ]
 
-module _ (rec : List ℕ) (q : Plan) (accepted : Accepts rec q) (page : List ℕ) where
+module _ (rec : Words) (q : Plan) (accepted : Accepts rec q) (page : List ℕ) where
   take-gave : (m d : List ℕ) → takeOf rec page m d .reply ≡ 0 → Gave q page (takeOf rec page m d)
   take-gave m d h = let e = take-accepted rec q accepted page m d in
       rw e (in-taken q (accepts-valid rec q accepted) page m d (ap (λ (r : Taken). r .reply) (sym e) ∙ h))

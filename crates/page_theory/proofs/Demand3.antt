@@ -8,6 +8,7 @@ use Prim.Native.Nat.{ℕ, _<_}
 use native.Mathlib.Omega.{arith}
 use lib.ListN.{length}
 use Rattle.bits.specs.Bits.{run}
+use Rattle.layout.specs.Record.{Words}
 use Rattle.layout.specs.declared.Plan.{Plan}
 use Rattle.layout.specs.Plan.{Valid}
 use Rattle.page_theory.specs.Page.{pageOf}
@@ -21,7 +22,7 @@ use Rattle.page_theory.proofs.Calls.{look-right, look-refuses, take-rig
 use Rattle.page_theory.proofs.Accepted.{accepts-valid, look-accepted, take-accepted}
 use Rattle.page_theory.proofs.Demand2.{write-done}
 
-module _ (rec : List ℕ) (q : Plan) (accepted : Accepts rec q) where
+module _ (rec : Words) (q : Plan) (accepted : Accepts rec q) where
   module _ (m d page : List ℕ) (s : ℕ → ℕ → Bool) (h : WrittenAndDamaged rec q m d page s) where
     as-written : Damaged q (pageOf q (h .lent) (m ++ d)) page s
     as-written = rw (write-done rec q accepted m d (h .lent) (h .payload) (h .size)) at (h .damaged)

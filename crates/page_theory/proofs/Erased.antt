@@ -8,6 +8,7 @@ use native.Mathlib.Omega.{arith}
 use lib.ListN.{length, replicate, length-replicate}
 use Rattle.bits.proofs.Runs.{run-ext}
 use Rattle.mark.specs.Mark.{streamBit}
+use Rattle.layout.specs.Record.{Words}
 use Rattle.layout.specs.declared.Plan.{Plan}
 use Rattle.layout.specs.Plan.{covered, start, room}
 use Rattle.code.specs.Word.{zeros}
@@ -23,7 +24,7 @@ use Rattle.page_theory.proofs.Reading.{ruined-outcome}
 use Rattle.page_theory.proofs.OneBlock.{judge-outcome}
 use Rattle.page_theory.proofs.Demand3.{look-refused-only, look-otherwise, take-refused-only, take-otherwise}
 
-module _ (rec : List ℕ) (q : Plan) (accepted : Accepts rec q) (page : List ℕ) (size : length page ≡ q .size)
+module _ (rec : Words) (q : Plan) (accepted : Accepts rec q) (page : List ℕ) (size : length page ≡ q .size)
     (blank : (p : ℕ) → p < room q → streamBit (q .mark) page p ≡ true) where
   blank-zeros : (b : ℕ) → b < q .blocks → zeros (blockWord q page b) ≡ 0
   unfolding blockWord

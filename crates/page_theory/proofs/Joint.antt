@@ -14,7 +14,7 @@ use Rattle.replies.specs.Replies.{unless}
 use Rattle.layout.specs.declared.Plan.{Plan}
 use Rattle.layout.specs.declared.Acceptance.{Acceptance}
 use Rattle.layout.specs.declared.Acceptance.the-variants.{Accepted, Refused}
-use Rattle.layout.specs.Record.{layoutOf}
+use Rattle.layout.specs.Record.{Words, layoutOf}
 use Rattle.layout.specs.Plan.{planOf}
 use Rattle.layout.specs.Acceptance.{acceptance, refusalReply}
 use Rattle.code.specs.Word.{Word}
@@ -85,7 +85,7 @@ unfoldable pub readFor : Acceptance → List ℕ → List ℕ → List ℕ → L
 readFor (Accepted l) page metadata «data» counts = readIn (planOf l) page metadata «data» counts
 readFor (Refused r) page metadata «data» counts = readEnded (refusalReply r) 0 metadata «data» counts
 
-unfoldable pub readOf : List ℕ → List ℕ → List ℕ → List ℕ → List ℕ → Read
+unfoldable pub readOf : Words → List ℕ → List ℕ → List ℕ → List ℕ → Read
 readOf rec page metadata «data» counts = readFor (acceptance rec) page metadata «data» counts
 
 -- ---- looking, then taking
@@ -157,7 +157,7 @@ module _ (q : Plan) (page : List ℕ) where
       ) (by-both (reading q page) (parted.reading q page) both)
 
 -- For any record: where it is accepted, with page and outputs of the lengths that its plan gives.
-pub looked-then-taken : (rec page m d c : List ℕ) → ((q : Plan) → Accepts rec q → (length page ≡ q .size) × Outputs q m d c)
+pub looked-then-taken : (rec : Words) (page m d c : List ℕ) → ((q : Plan) → Accepts rec q → (length page ≡ q .size) × Outputs q m d c)
     → Parted (readOf rec page m d c) (lookOf rec page c) (takeOf rec page m d) c
 unfolding readOf readFor lookOf lookFor takeOf takeFor joined
 looked-then-taken rec page m d c lengths = go (acceptance rec) refl

@@ -15,6 +15,7 @@ use Rattle.bits.proofs.Pages.{byte-number, bytes-bytes, bytes-cong}
 use Rattle.mark.specs.declared.Mark.{Mark}
 use Rattle.mark.specs.Mark.{marked}
 use Rattle.mark.proofs.Places.{marked-before, marked-after, marked-within}
+use Rattle.layout.specs.Record.{Words}
 use Rattle.layout.specs.declared.Plan.{Plan}
 use Rattle.layout.specs.declared.Acceptance.{Acceptance}
 use Rattle.layout.specs.declared.Acceptance.the-variants.{Accepted, Refused}
@@ -60,7 +61,7 @@ module _ (q : Plan) (d : List ℕ) where
       go p true e = rw (e, same .bytes (p / 8) (marked-first (q .mark) p e) (marked-last (q .mark) p e))
       go p false e = rw e
 
-module _ (rec : List ℕ) (q : Plan) (accepted : Accepts rec q) (m d : List ℕ) (payload : Payload q m d) where
+module _ (rec : Words) (q : Plan) (accepted : Accepts rec q) (m d : List ℕ) (payload : Payload q m d) where
   -- the mark's bytes are those that were lent
   pub write-kept : (lent : List ℕ) → Bytes (q .size) lent → SameMark q (writeOf rec m d lent .page) lent
   write-kept lent small = rw (write-done rec q accepted m d lent payload (small .count)) (page-kept q (m ++ d) lent small (accepts-valid rec q accepted .inside))
@@ -87,7 +88,7 @@ module _ (m d lent other : List ℕ) (size : length lent ≡ length other) where
       go true r = (refl, refl)
       go false r = (refl, refl)
 
-  pub write-replied : (rec : List ℕ) → (writeOf rec m d lent .reply ≡ writeOf rec m d other .reply) × (writeOf rec m d lent .block ≡ writeOf rec m d other .block)
+  pub write-replied : (rec : Words) → (writeOf rec m d lent .reply ≡ writeOf rec m d other .reply) × (writeOf rec m d lent .block ≡ writeOf rec m d other .block)
   unfolding writeOf writeFor
   write-replied rec = go (acceptance rec)
     where

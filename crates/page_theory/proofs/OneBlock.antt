@@ -12,7 +12,7 @@ use Rattle.mark.specs.Mark.{streamBit}
 use Rattle.layout.specs.declared.Plan.{Plan}
 use Rattle.layout.specs.declared.Acceptance.{Acceptance}
 use Rattle.layout.specs.declared.Acceptance.the-variants.{Accepted, Refused}
-use Rattle.layout.specs.Record.{layoutOf}
+use Rattle.layout.specs.Record.{Words, layoutOf}
 use Rattle.layout.specs.Plan.{planOf, covered, start, Valid}
 use Rattle.layout.specs.Acceptance.{acceptance}
 use Rattle.code.specs.Word.{Word}
@@ -33,7 +33,7 @@ unfolding judgeIn outcome
 judge-block q page other b l h = rw (l, blockWord-cong q page other b h)
 
 -- Two pages of one length that agree on the covered bits of the block judge the same, under any record at all.
-pub judge-own : (rec page other : List ℕ) (b : ℕ) → length page ≡ length other
+pub judge-own : (rec : Words) (page other : List ℕ) (b : ℕ) → length page ≡ length other
     → ((q : Plan) → Accepts rec q → (j : ℕ) → j < covered q b → streamBit (q .mark) page (start q b + j) ≡ streamBit (q .mark) other (start q b + j))
     → judgeOf rec page b ≡ judgeOf rec other b
 unfolding judgeOf judgeFor
@@ -74,7 +74,7 @@ unfoldable pub judgeCounted : ℕ → ℕ → Judged
 judgeCounted b n = cond (eqb n 255) (judgeEnded 9 b 0) (judgeEnded 0 0 n)
 
 -- "Answers the flip count, or 9 with that block's number."
-module _ (rec : List ℕ) (q : Plan) (accepted : Accepts rec q) (page : List ℕ) (b : ℕ) (size : length page ≡ q .size) (inside : b < q .blocks) where
+module _ (rec : Words) (q : Plan) (accepted : Accepts rec q) (page : List ℕ) (b : ℕ) (size : length page ≡ q .size) (inside : b < q .blocks) where
   pub judge-flips : (m : Word) (n : ℕ) → GivesAt q page b m n → judgeOf rec page b ≡ judgeEnded 0 0 n
   judge-flips m n g = judge-accepted rec q accepted page b ∙ judge-gives q page b size inside (accepts-valid rec q accepted) m n g
 

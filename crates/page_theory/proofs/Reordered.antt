@@ -8,6 +8,7 @@ use lib.ListN.{length, getD}
 use lib.Dec.{eqb}
 use Rattle.algebra.specs.Word.{flip}
 use Rattle.field.specs.declared.Field.{Field}
+use Rattle.layout.specs.Record.{Words}
 use Rattle.layout.specs.declared.Plan.{Plan}
 use Rattle.layout.specs.declared.Acceptance.{Acceptance}
 use Rattle.layout.specs.declared.Acceptance.the-variants.{Accepted, Refused}
@@ -135,7 +136,7 @@ claimIn-reordered : (q : Plan) (page : List ℕ) (b : ℕ) {claims other : List 
 unfolding claimIn
 claimIn-reordered q page b r = rw (by-reordered r (right? (field q b) (level q b) (blockWord q page b) _) (right? (field q b) (level q b) (blockWord q page b) _))
 
-pub claim-reordered : (rec page : List ℕ) (b : ℕ) {claims other : List ℕ} → Reordered claims other → claimOf rec page b claims ≡ claimOf rec page b other
+pub claim-reordered : (rec : Words) (page : List ℕ) (b : ℕ) {claims other : List ℕ} → Reordered claims other → claimOf rec page b claims ≡ claimOf rec page b other
 unfolding claimOf claimFor
 claim-reordered rec page b {claims} {other} r = go (acceptance rec)
   where

@@ -1,6 +1,6 @@
 -- Each page call replies as its list of rules says, block number included, so each reply is given exactly if its rule applies and none before it
--- does (document 01, "Replies"). `..-replies` says the first, `..-exactly` the second, `..-ascending` that after the record's length, which is
--- looked at first, the turns never fall: where several rules apply the smallest number wins, but that 11 comes between 3 and 4 (document 02, E7;
+-- does (document 01, "Replies"). `..-replies` says the first, `..-exactly` the second, `..-ascending` that after the edition and the record's length,
+-- which are looked at first, the turns never fall: where several rules apply the smallest number wins, but that 11 comes between 3 and 4 (document 02, E7;
 -- replies/Given `smallest-after`).
 use mathlib.Core.Path.{_≡_, refl, _∙_}
 use mathlib.Core.Bool.{Bool, true, false, cond}
@@ -19,7 +19,7 @@ use Rattle.replies.proofs.Tests.{leb-not}
 use Rattle.replies.proofs.Given.{follows-next, none-verdict, verdict-none, append-kept, append-refused, exactly}
 use Rattle.layout.specs.declared.Plan.{Plan}
 use Rattle.layout.specs.declared.Acceptance.{Acceptance}
-use Rattle.layout.specs.Record.{layoutOf}
+use Rattle.layout.specs.Record.{Words, layoutOf}
 use Rattle.layout.specs.Plan.{planOf, field, level}
 use Rattle.layout.specs.Acceptance.{acceptance}
 use Rattle.layout.specs.ReplyRules.{fieldRules, layoutRules}
@@ -56,7 +56,7 @@ module _ (m d page : List ℕ) where
       go true false c = record { number = refl; beside = refl }
       go false b c = record { number = refl; beside = refl }
 
-  module _ (rec : List ℕ) where
+  module _ (rec : Words) where
     write-for : (a : Acceptance) → Accepting rec a → Follows (writeRules rec m d page) (writeFor a m d page .reply) (writeFor a m d page .block)
     unfolding writeRules writeFor
     write-for a (accepts none) = accepted-follows rec none _ (write-in (planOf (layoutOf rec)))
@@ -69,7 +69,7 @@ module _ (m d page : List ℕ) where
     pub write-exactly : Exactly (writeRules rec m d page) (writeOf rec m d page .reply) (writeOf rec m d page .block)
     write-exactly = exactly (writeRules rec m d page) write-replies
 
-    pub write-ascending : ascending (drop 1 (writeRules rec m d page)) ≡ true
+    pub write-ascending : ascending (drop 2 (writeRules rec m d page)) ≡ true
     unfolding writeRules rules.writeIn layoutRules fieldRules ascending atMost turn number
     write-ascending = refl
 
@@ -137,7 +137,7 @@ module _ (q : Plan) (page : List ℕ) where
         go true false z = record { number = refl; beside = refl }
         go false y z = record { number = refl; beside = refl }
 
-module _ (rec page c : List ℕ) where
+module _ (rec : Words) (page c : List ℕ) where
   look-for : (a : Acceptance) → Accepting rec a → Follows (lookRules rec page c) (lookFor a page c .reply) (lookFor a page c .block)
   unfolding lookRules lookFor
   look-for a (accepts none) = accepted-follows rec none _ (look-in (planOf (layoutOf rec)) page c)
@@ -150,7 +150,7 @@ module _ (rec page c : List ℕ) where
   pub look-exactly : Exactly (lookRules rec page c) (lookOf rec page c .reply) (lookOf rec page c .block)
   look-exactly = exactly (lookRules rec page c) look-replies
 
-module _ (rec page m d : List ℕ) where
+module _ (rec : Words) (page m d : List ℕ) where
   take-for : (a : Acceptance) → Accepting rec a → Follows (takeRules rec page m d) (takeFor a page m d .reply) (takeFor a page m d .block)
   unfolding takeRules takeFor
   take-for a (accepts none) = accepted-follows rec none _ (take-in (planOf (layoutOf rec)) page m d)
@@ -188,13 +188,13 @@ module _ (q : Plan) (page : List ℕ) where
   ruined-nines zero = end
   ruined-nines (suc n) = nines-append (ruined-nines n) (next refl end)
 
-pub look-ascending : (rec page c : List ℕ) → ascending (drop 1 (lookRules rec page c)) ≡ true
+pub look-ascending : (rec : Words) (page c : List ℕ) → ascending (drop 2 (lookRules rec page c)) ≡ true
 unfolding lookRules rules.lookIn layoutRules fieldRules ascending atMost turn number
 look-ascending rec page c =
     let h = ruined-nines (planOf (layoutOf rec)) page (planOf (layoutOf rec) .blocks) in
     rw (nines-least 6 (omega arith) h, nines-ascending h)
 
-pub take-ascending : (rec page m d : List ℕ) → ascending (drop 1 (takeRules rec page m d)) ≡ true
+pub take-ascending : (rec : Words) (page m d : List ℕ) → ascending (drop 2 (takeRules rec page m d)) ≡ true
 unfolding takeRules rules.takeIn layoutRules fieldRules ascending atMost turn number
 take-ascending rec page m d =
     let h = ruined-nines (planOf (layoutOf rec)) page (planOf (layoutOf rec) .blocks) in
@@ -236,7 +236,7 @@ module _ (q : Plan) (page : List ℕ) (b : ℕ) where
         go true false o = record { number = refl; beside = refl }
         go false y o = record { number = refl; beside = refl }
 
-module _ (rec page : List ℕ) (b : ℕ) where
+module _ (rec : Words) (page : List ℕ) (b : ℕ) where
   judge-for : (a : Acceptance) → Accepting rec a → Follows (judgeRules rec page b) (judgeFor a page b .reply) (judgeFor a page b .block)
   unfolding judgeRules judgeFor
   judge-for a (accepts none) = accepted-follows rec none _ (judge-in (planOf (layoutOf rec)) page b)
@@ -249,7 +249,7 @@ module _ (rec page : List ℕ) (b : ℕ) where
   pub judge-exactly : Exactly (judgeRules rec page b) (judgeOf rec page b .reply) (judgeOf rec page b .block)
   judge-exactly = exactly (judgeRules rec page b) judge-replies
 
-  pub judge-ascending : ascending (drop 1 (judgeRules rec page b)) ≡ true
+  pub judge-ascending : ascending (drop 2 (judgeRules rec page b)) ≡ true
   unfolding judgeRules rules.judgeIn layoutRules fieldRules ascending atMost turn number
   judge-ascending = refl
 
@@ -266,6 +266,6 @@ module _ (rec page : List ℕ) (b : ℕ) where
     pub claim-exactly : Exactly (claimRules rec page b claims) (claimOf rec page b claims .reply) (claimOf rec page b claims .block)
     claim-exactly = exactly (claimRules rec page b claims) claim-replies
 
-    pub claim-ascending : ascending (drop 1 (claimRules rec page b claims)) ≡ true
+    pub claim-ascending : ascending (drop 2 (claimRules rec page b claims)) ≡ true
     unfolding claimRules rules.claimIn layoutRules fieldRules ascending atMost turn number
     claim-ascending = refl

@@ -15,7 +15,7 @@ use Rattle.bits.proofs.Runs.{run-cong}
 use Rattle.layout.specs.declared.Plan.{Plan}
 use Rattle.layout.specs.declared.Acceptance.{Acceptance}
 use Rattle.layout.specs.declared.Acceptance.the-variants.{Accepted, Refused}
-use Rattle.layout.specs.Record.{layoutOf}
+use Rattle.layout.specs.Record.{Words, layoutOf}
 use Rattle.layout.specs.Plan.{planOf}
 use Rattle.layout.specs.Acceptance.{acceptance}
 use Rattle.page_theory.specs.Page.{blockWord}
@@ -72,7 +72,7 @@ module _ (q : Plan) (page other : List ℕ) (size : length page ≡ length other
     | no l ↦ rw (size, outside b (omega arith) (length other))
   ]
 
-module _ (rec page other : List ℕ) (alike : SameBlocks rec page other) where
+module _ (rec : Words) (page other : List ℕ) (alike : SameBlocks rec page other) where
   same-words : (q : Plan) → Accepts rec q → (b : ℕ) → b < q .blocks → blockWord q page b ≡ blockWord q other b
   same-words q a b l = blockWord-cong q page other b (λ j k. alike .bits q a b j l k)
 

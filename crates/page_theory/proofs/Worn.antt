@@ -11,6 +11,7 @@ use native.Mathlib.Omega.{arith}
 use native.Mathlib.Decide.{decLe, decLt, ℕ-discrete}
 use lib.ListN.{length, getD}
 use Rattle.mark.specs.Mark.{streamBit}
+use Rattle.layout.specs.Record.{Words}
 use Rattle.layout.specs.declared.Plan.{Plan}
 use Rattle.layout.specs.Plan.{bits, field, level, covered, start, Valid}
 use Rattle.code.specs.Word.{Word, distance}
@@ -101,7 +102,7 @@ lookBy-counts (refused b) c = refl
 
 -- of the calls
 
-module _ (rec : List ℕ) (q : Plan) (accepted : Accepts rec q) (m d page : List ℕ) (s : ℕ → ℕ → Bool) (h : WrittenAndChanged rec q m d page s)
+module _ (rec : Words) (q : Plan) (accepted : Accepts rec q) (m d page : List ℕ) (s : ℕ → ℕ → Bool) (h : WrittenAndChanged rec q m d page s)
     (lent : List ℕ) (room : length lent ≡ q .blocks) where
   as-written : Changed q (pageOf q (h .lent) (m ++ d)) page s
   as-written = rw (write-done rec q accepted m d (h .lent) (h .payload) (h .size)) at (h .changed)

@@ -9,11 +9,12 @@ use mathlib.Core.List.{List, _∷_}
 use Prim.Native.Nat.{ℕ, _+_, _≤_, _<_}
 use lib.ListN.{length, getD}
 use Rattle.mark.specs.Mark.{streamBit}
+use Rattle.layout.specs.Record.{Words}
 use Rattle.layout.specs.declared.Plan.{Plan}
 use Rattle.layout.specs.Plan.{covered, start}
 use Rattle.page_theory.specs.Damage.{Accepts}
 
-pub record SameBlocks (rec page other : List ℕ) : Type 0 where
+pub record SameBlocks (rec : Words) (page other : List ℕ) : Type 0 where
   pub size : length page ≡ length other
   pub bits : (q : Plan) → Accepts rec q → (b j : ℕ) → b < q .blocks → j < covered q b
       → streamBit (q .mark) page (start q b + j) ≡ streamBit (q .mark) other (start q b + j)

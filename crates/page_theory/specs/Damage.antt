@@ -2,7 +2,7 @@
 -- A set of numbers is given by its test. Sets of covered bits: `s b j` says whether bit j of block b, counted from the block's
 -- start, is in the set of block b.
 --
--- Accepts rec q                     the layout record is accepted, and q is its plan
+-- Accepts rec q                     the layout record is accepted under the edition beside it, and q is its plan
 -- Payload q m d                     m and d are metadata and data of the lengths that the plan gives
 -- Outputs q m d c                   m, d and c have the lengths of metadata, data and counts
 -- size s n                          how many numbers below n are in the set s
@@ -19,14 +19,14 @@ use Rattle.algebra.specs.Word.{flip}
 use Rattle.bits.specs.Bits.{digit, Bytes}
 use Rattle.mark.specs.Mark.{streamBit}
 use Rattle.layout.specs.declared.Plan.{Plan}
-use Rattle.layout.specs.Record.{layoutOf}
+use Rattle.layout.specs.Record.{Words, layoutOf}
 use Rattle.layout.specs.Plan.{planOf, level, covered, start}
 use Rattle.layout.specs.Acceptance.{acceptance}
 use Rattle.layout.specs.Answers.{acceptanceNumbers}
 use Rattle.page_theory.specs.Calls.{writeOf}
 
 -- No reply about the layout alone applies.
-pub record Accepts (rec : List ℕ) (q : Plan) : Type 0 where
+pub record Accepts (rec : Words) (q : Plan) : Type 0 where
   pub reply : acceptanceNumbers (acceptance rec) .reply ≡ 0
   pub plan : q ≡ planOf (layoutOf rec)
 
@@ -57,8 +57,9 @@ pub record Damaged (q : Plan) (before after : List ℕ) (s : ℕ → ℕ → Boo
       → streamBit (q .mark) after (start q b + j) ≡ turn (s b j) (streamBit (q .mark) before (start q b + j))
   pub few : (b : ℕ) → b < q .blocks → flips q s b ≤ level q b
 
--- The writer was lent some page of PAGE_SIZE bytes, and nothing but the damage changed the page that it left.
-pub record WrittenAndDamaged (rec : List ℕ) (q : Plan) (m d page : List ℕ) (s : ℕ → ℕ → Bool) : Type 0 where
+-- The writer was lent some page of PAGE_SIZE bytes, and nothing but the damage changed the page that it left. The edition is part of the layout
+-- (document 02, E13): a page is written and read under one edition, that of `rec`.
+pub record WrittenAndDamaged (rec : Words) (q : Plan) (m d page : List ℕ) (s : ℕ → ℕ → Bool) : Type 0 where
   pub payload : Payload q m d
   pub lent : List ℕ
   pub size : length lent ≡ q .size

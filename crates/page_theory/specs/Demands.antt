@@ -28,19 +28,19 @@ use Rattle.page_theory.specs.Damage.{Payload}
 
 -- How writing ends: with a reply of the table, about block 0, and after a refusal the page is as it was lent.
 pub record WriteEnds (page : List ℕ) (r : Written) : Type 0 where
-  pub table : among (r .reply) (0 ∷ 1 ∷ 2 ∷ 3 ∷ 4 ∷ 5 ∷ 6 ∷ 11 ∷ []) ≡ true
+  pub table : among (r .reply) (0 ∷ 1 ∷ 2 ∷ 3 ∷ 4 ∷ 5 ∷ 6 ∷ 7 ∷ 11 ∷ []) ≡ true
   pub kept : (r .reply ≡ 0 → ⊥) → r ≡ writeEnded (r .reply) 0 page
   pub block : r .block ≡ 0
 
 -- How looking ends. Reply 9 names a block and is the one refusal that writes (document 02, E6); what it writes, `Looks` says.
 pub record LookEnds (lent : List ℕ) (r : Looked) : Type 0 where
-  pub table : among (r .reply) (0 ∷ 1 ∷ 2 ∷ 3 ∷ 4 ∷ 5 ∷ 6 ∷ 9 ∷ 11 ∷ []) ≡ true
+  pub table : among (r .reply) (0 ∷ 1 ∷ 2 ∷ 3 ∷ 4 ∷ 5 ∷ 6 ∷ 7 ∷ 9 ∷ 11 ∷ []) ≡ true
   pub kept : (r .reply ≡ 0 → ⊥) → (r .reply ≡ 9 → ⊥) → r ≡ lookEnded (r .reply) 0 lent
   pub block : (r .reply ≡ 9 → ⊥) → r .block ≡ 0
 
 -- How taking ends. Only reply 9 names a block.
 pub record TakeEnds (metadata body : List ℕ) (r : Taken) : Type 0 where
-  pub table : among (r .reply) (0 ∷ 1 ∷ 2 ∷ 3 ∷ 4 ∷ 5 ∷ 6 ∷ 9 ∷ 11 ∷ []) ≡ true
+  pub table : among (r .reply) (0 ∷ 1 ∷ 2 ∷ 3 ∷ 4 ∷ 5 ∷ 6 ∷ 7 ∷ 9 ∷ 11 ∷ []) ≡ true
   pub kept : (r .reply ≡ 0 → ⊥) → r ≡ takeEnded (r .reply) (r .block) metadata body
   pub block : (r .reply ≡ 9 → ⊥) → r .block ≡ 0
 

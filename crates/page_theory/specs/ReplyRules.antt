@@ -1,5 +1,6 @@
 -- The replies of the five page calls, each as one list of rules in the order in which they are looked at (document 01, "Replies"). The first that
--- applies is given (replies/Given). What a layout record is refused for comes first (layout/ReplyRules `layoutRules`); q is the plan of the record.
+-- applies is given (replies/Given). What an edition and a layout record are refused for comes first (layout/ReplyRules
+-- `layoutRules`); q is the plan of the record.
 --
 -- isRuined o               an outcome is that the block has no codeword within t flips and more than t zeros
 -- isWrong d                what is decided does not hold
@@ -14,7 +15,7 @@ use lib.Dec.{leb}
 use Rattle.replies.specs.declared.Refusal.the-variants.{PageLength, BufferLength, OutOfRange, Uncorrectable, ClaimWrong}
 use Rattle.replies.specs.Replies.{unequal, Rule, rule}
 use Rattle.layout.specs.declared.Plan.{Plan}
-use Rattle.layout.specs.Record.{layoutOf}
+use Rattle.layout.specs.Record.{Words, layoutOf}
 use Rattle.layout.specs.Plan.{planOf, field, level}
 use Rattle.layout.specs.ReplyRules.{layoutRules}
 use Rattle.code.specs.Outcome.{Outcome, good, erased, ruined}
@@ -46,7 +47,7 @@ writeIn q metadata «data» page =
     ∷ rule (unequal (length «data») (q .«data»)) BufferLength
     ∷ []
 
-unfoldable pub writeRules : List ℕ → List ℕ → List ℕ → List ℕ → List Rule
+unfoldable pub writeRules : Words → List ℕ → List ℕ → List ℕ → List Rule
 writeRules rec metadata «data» page = layoutRules rec ++ writeIn (planOf (layoutOf rec)) metadata «data» page
 
 unfoldable pub lookIn : Plan → List ℕ → List ℕ → List Rule
@@ -55,7 +56,7 @@ lookIn q page counts =
     ∷ rule (unequal (length counts) (q .blocks)) BufferLength
     ∷ ruinedRules q page (q .blocks)
 
-unfoldable pub lookRules : List ℕ → List ℕ → List ℕ → List Rule
+unfoldable pub lookRules : Words → List ℕ → List ℕ → List Rule
 lookRules rec page counts = layoutRules rec ++ lookIn (planOf (layoutOf rec)) page counts
 
 unfoldable pub takeIn : Plan → List ℕ → List ℕ → List ℕ → List Rule
@@ -65,7 +66,7 @@ takeIn q page metadata «data» =
     ∷ rule (unequal (length «data») (q .«data»)) BufferLength
     ∷ ruinedRules q page (q .blocks)
 
-unfoldable pub takeRules : List ℕ → List ℕ → List ℕ → List ℕ → List Rule
+unfoldable pub takeRules : Words → List ℕ → List ℕ → List ℕ → List Rule
 takeRules rec page metadata «data» = layoutRules rec ++ takeIn (planOf (layoutOf rec)) page metadata «data»
 
 unfoldable pub judgeIn : Plan → List ℕ → ℕ → List Rule
@@ -75,7 +76,7 @@ judgeIn q page b =
     ∷ rule (isRuined (outcome q page b)) (Uncorrectable b)
     ∷ []
 
-unfoldable pub judgeRules : List ℕ → List ℕ → ℕ → List Rule
+unfoldable pub judgeRules : Words → List ℕ → ℕ → List Rule
 judgeRules rec page b = layoutRules rec ++ judgeIn (planOf (layoutOf rec)) page b
 
 unfoldable pub claimIn : Plan → List ℕ → ℕ → List ℕ → List Rule
@@ -85,5 +86,5 @@ claimIn q page b claims =
     ∷ rule (isWrong (right? (field q b) (level q b) (blockWord q page b) claims)) ClaimWrong
     ∷ []
 
-unfoldable pub claimRules : List ℕ → List ℕ → ℕ → List ℕ → List Rule
+unfoldable pub claimRules : Words → List ℕ → ℕ → List ℕ → List Rule
 claimRules rec page b claims = layoutRules rec ++ claimIn (planOf (layoutOf rec)) page b claims

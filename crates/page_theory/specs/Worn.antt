@@ -16,6 +16,7 @@ use Prim.Native.Nat.{ℕ, _+_, _*_, _≤_, _<_}
 use lib.ListN.{length, getD}
 use Rattle.bits.specs.Bits.{Bytes}
 use Rattle.mark.specs.Mark.{streamBit}
+use Rattle.layout.specs.Record.{Words}
 use Rattle.layout.specs.declared.Plan.{Plan}
 use Rattle.layout.specs.Plan.{level, covered, start}
 use Rattle.code.specs.Word.{Word}
@@ -31,7 +32,7 @@ pub record Changed (q : Plan) (before after : List ℕ) (s : ℕ → ℕ → Boo
       → streamBit (q .mark) after (start q b + j) ≡ turn (s b j) (streamBit (q .mark) before (start q b + j))
 
 -- The writer was lent some page of PAGE_SIZE bytes, and nothing but the damage changed the page that it left.
-pub record WrittenAndChanged (rec : List ℕ) (q : Plan) (m d page : List ℕ) (s : ℕ → ℕ → Bool) : Type 0 where
+pub record WrittenAndChanged (rec : Words) (q : Plan) (m d page : List ℕ) (s : ℕ → ℕ → Bool) : Type 0 where
   pub payload : Payload q m d
   pub lent : List ℕ
   pub size : length lent ≡ q .size
@@ -52,7 +53,7 @@ pub data Worn (t e : ℕ) : Outcome → Type 0 where
   is-read : (m : Word) (n : ℕ) → 2 * t + 1 ≤ n + e → Worn t e (good m n)
 
 -- The count that looking leaves for the block (255 where it is ruined), and the answer to judging it (9 where it is ruined).
-pub record Answered (rec page lent : List ℕ) (b : ℕ) (o : Outcome) : Type 0 where
+pub record Answered (rec : Words) (page lent : List ℕ) (b : ℕ) (o : Outcome) : Type 0 where
   pub looked : getD (lookOf rec page lent .counts) b 0 ≡ countOf o
   pub judged : judgeOf rec page b ≡ judgeBy b o
 

@@ -18,8 +18,8 @@ fn exponents(bytes: &[u8]) -> [u16; 64] {
 }
 
 fn claim_answer(head: &[u8], words: &[u8], page: &[u8], claims: &[u16], line: &mut [u8]) -> usize {
-    let block = vector_io::number(head, 24, 8);
-    let answer = page_claim::check_claim(words, page, block, claims);
+    let block = vector_io::number(head, 32, 8);
+    let answer = page_claim::check_claim(lines::edition(head), words, page, block, claims);
     lines::put_reply(line, page_claim::claim_number(answer), 0)
 }
 
@@ -37,7 +37,7 @@ fn claim_body(
     if !vector_io::fill(bytes) {
         return 0;
     }
-    let count = lines::length(head, 20);
+    let count = lines::length(head, 28);
     let claims = exponents(bytes);
     claim_answer(
         head,
@@ -52,8 +52,8 @@ fn claim_body(
 pub fn claim_line(head: &[u8], words: &[u8], line: &mut [u8]) -> usize {
     let mut page = [0u8; 65536];
     let mut bytes = [0u8; 128];
-    let size = lines::length(head, 16);
-    let count = lines::length(head, 20) % 65536;
+    let size = lines::length(head, 24);
+    let count = lines::length(head, 28) % 65536;
     claim_body(
         head,
         words,

@@ -19,14 +19,14 @@ fn judge_body(head: &[u8], words: &[u8], page: &mut [u8], line: &mut [u8]) -> us
     if !vector_io::fill(page) {
         return 0;
     }
-    let block = vector_io::number(head, 24, 8);
-    let answer = page_judge::judge_block(words, page, block);
+    let block = vector_io::number(head, 32, 8);
+    let answer = page_judge::judge_block(lines::edition(head), words, page, block);
     put_answer(line, answer)
 }
 
 // The line for a judgement.
 pub fn judge_line(head: &[u8], words: &[u8], line: &mut [u8]) -> usize {
     let mut page = [0u8; 65536];
-    let size = lines::length(head, 16);
+    let size = lines::length(head, 24);
     judge_body(head, words, text::front_mut(&mut page, size), line)
 }

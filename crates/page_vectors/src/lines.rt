@@ -3,6 +3,11 @@ use replies::Refusal;
 use replies::refusal_block;
 use replies::refusal_number;
 
+// The edition that the head gives.
+pub fn edition(head: &[u8]) -> u64 {
+    vector_io::number(head, 2, 8)
+}
+
 // The length in four bytes of the head.
 pub fn length(head: &[u8], at: usize) -> usize {
     vector_io::number(head, at, 4) as usize

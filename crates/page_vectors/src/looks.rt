@@ -9,8 +9,14 @@ fn put_answer(line: &mut [u8], answer: LookAnswer) -> usize {
     }
 }
 
-fn look_answer(words: &[u8], page: &[u8], counts: &mut [u8], line: &mut [u8]) -> usize {
-    let answer = page_look::look_page(words, page, counts);
+fn look_answer(
+    edition: u64,
+    words: &[u8],
+    page: &[u8],
+    counts: &mut [u8],
+    line: &mut [u8],
+) -> usize {
+    let answer = page_look::look_page(edition, words, page, counts);
     let at = put_answer(line, answer);
     lines::put_buffer(line, at, counts)
 }
@@ -21,13 +27,19 @@ fn look_body(head: &[u8], words: &[u8], page: &mut [u8], line: &mut [u8]) -> usi
         return 0;
     }
     let mut counts = [165u8; 512];
-    let c = lines::length(head, 20);
-    look_answer(words, page, text::front_mut(&mut counts, c), line)
+    let c = lines::length(head, 28);
+    look_answer(
+        lines::edition(head),
+        words,
+        page,
+        text::front_mut(&mut counts, c),
+        line,
+    )
 }
 
 // The line for a look.
 pub fn look_line(head: &[u8], words: &[u8], line: &mut [u8]) -> usize {
     let mut page = [0u8; 65536];
-    let size = lines::length(head, 16);
+    let size = lines::length(head, 24);
     look_body(head, words, text::front_mut(&mut page, size), line)
 }

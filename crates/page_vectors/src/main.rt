@@ -1,8 +1,8 @@
 // Runs test vectors of the page calls (write, look, take, judge, claim): each vector on standard input is one call, and its answer is one
 // line.
 //
-// A vector is a head of 32 bytes and then a body. The head: the kind of call, the length of the layout record, its bytes in twelve places,
-// two bytes not used, the length of the page in four bytes, and twelve bytes that depend on the kind:
+// A vector is a head of 40 bytes and then a body. The head: the kind of call, the length of the layout record, the edition in eight bytes,
+// the record's bytes in twelve places, two bytes not used, the length of the page in four bytes, and twelve bytes that depend on the kind:
 //
 //   W   writes a page: the lengths of metadata and data; the body is the metadata and the data
 //   L   looks at a page: the length of the counts; the body is the page
@@ -41,16 +41,16 @@ fn call_line(head: &[u8], words: &[u8], line: &mut [u8]) -> usize {
 // The same with the layout record that the head has.
 fn answer(head: &[u8], line: &mut [u8]) -> usize {
     let length = vector_io::byte(head, 1, 0) as usize % 13;
-    let end = 2 + length;
+    let end = 10 + length;
     if head.len() < end {
         return 0;
     }
-    call_line(head, &head[2..end], line)
+    call_line(head, &head[10..end], line)
 }
 
 // Answers the next vector: false where there is none.
 fn next_vector() -> bool {
-    let mut head = [0u8; 32];
+    let mut head = [0u8; 40];
     if !vector_io::fill(&mut head) {
         return false;
     }

@@ -10,13 +10,14 @@ fn put_answer(line: &mut [u8], answer: TakeAnswer) -> usize {
 }
 
 fn take_answer(
+    edition: u64,
     words: &[u8],
     page: &[u8],
     metadata: &mut [u8],
     data: &mut [u8],
     line: &mut [u8],
 ) -> usize {
-    let answer = page_take::take_page(words, page, metadata, data);
+    let answer = page_take::take_page(edition, words, page, metadata, data);
     let at = put_answer(line, answer);
     let metadata_at = lines::put_buffer(line, at, metadata);
     lines::put_buffer(line, metadata_at, data)
@@ -26,9 +27,10 @@ fn take_answer(
 fn take_into(head: &[u8], words: &[u8], page: &[u8], line: &mut [u8]) -> usize {
     let mut metadata = [165u8; 512];
     let mut data = [165u8; 65536];
-    let m = lines::length(head, 20);
-    let d = lines::length(head, 24);
+    let m = lines::length(head, 28);
+    let d = lines::length(head, 32);
     take_answer(
+        lines::edition(head),
         words,
         page,
         text::front_mut(&mut metadata, m),
@@ -48,6 +50,6 @@ fn take_body(head: &[u8], words: &[u8], page: &mut [u8], line: &mut [u8]) -> usi
 // The line for a take.
 pub fn take_line(head: &[u8], words: &[u8], line: &mut [u8]) -> usize {
     let mut page = [0u8; 65536];
-    let size = lines::length(head, 16);
+    let size = lines::length(head, 24);
     take_body(head, words, text::front_mut(&mut page, size), line)
 }

@@ -2,13 +2,14 @@
 use crate::lines;
 
 fn write_answer(
+    edition: u64,
     words: &[u8],
     metadata: &[u8],
     data: &[u8],
     page: &mut [u8],
     line: &mut [u8],
 ) -> usize {
-    let answer = page_write::write_page(words, metadata, data, page);
+    let answer = page_write::write_page(edition, words, metadata, data, page);
     let at = lines::put_reply(line, page_write::write_number(answer), 0);
     lines::put_buffer(line, at, page)
 }
@@ -28,8 +29,9 @@ fn write_body(
         return 0;
     }
     let mut page = [165u8; 65536];
-    let size = lines::length(head, 16);
+    let size = lines::length(head, 24);
     write_answer(
+        lines::edition(head),
         words,
         metadata,
         data,
@@ -42,8 +44,8 @@ fn write_body(
 pub fn write_line(head: &[u8], words: &[u8], line: &mut [u8]) -> usize {
     let mut metadata = [0u8; 512];
     let mut data = [0u8; 65536];
-    let m = lines::length(head, 20);
-    let d = lines::length(head, 24);
+    let m = lines::length(head, 28);
+    let d = lines::length(head, 32);
     write_body(
         head,
         words,

@@ -27,6 +27,7 @@ ghost use Rattle.mark.specs.Mark.{streamBit, put, InStream};
 ghost use Rattle.layout.specs.Plan.{Summed};
 ghost use Rattle.code.specs.Generator.{parity};
 ghost use Rattle.division_table.specs.Table.{Table};
+ghost use Rattle.layout.specs.Record.{wordsOf};
 ghost use Rattle.page_theory.specs.Page.{pageOf};
 ghost use Rattle.page_theory.specs.Calls.{writeEnded, writeIn, writeOf};
 ghost use Rattle.page_plan.specs.Plans.{Planned};
@@ -128,11 +129,17 @@ fn write_in(plan: Plan, metadata: &[u8], data: &[u8], page: &mut [u8]) -> WriteA
 }
 
 // Writes a page from metadata and data.
-pub fn write_page(words: &[u8], metadata: &[u8], data: &[u8], page: &mut [u8]) -> WriteAnswer
+pub fn write_page(
+    edition: u64,
+    words: &[u8],
+    metadata: &[u8],
+    data: &[u8],
+    page: &mut [u8],
+) -> WriteAnswer
     ensures { λ r. ⌜ writeEnded (writeNumber r) (writeBlock r) (now (page .exit))
-        ≡ writeOf (now (words .entry)) (now (metadata .entry)) (now («data» .entry)) (now (page .entry)) ⌝ }
+        ≡ writeOf (wordsOf edition (now (words .entry))) (now (metadata .entry)) (now («data» .entry)) (now (page .entry)) ⌝ }
 {
-    match check_layout(words) {
+    match check_layout(edition, words) {
         Acceptance::Accepted(layout) => write_in(plan_of(layout), metadata, data, page),
         Acceptance::Refused(refusal) => WriteAnswer::Refused(refusal_of(refusal)),
     }

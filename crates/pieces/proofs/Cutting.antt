@@ -1,7 +1,7 @@
 -- Where a message is cut does not matter, once over m and t (document 02, E4).
 --
 -- feed-append          of any state: feeding p and then q is feeding p ++ q
--- start-state          a block that is accepted starts in the state of no bytes
+-- start-state          a block that is accepted, under an edition that is offered, starts in the state of no bytes
 -- feed-state           feeding takes the state of l to the state of l ++ p
 -- feed-over            a piece that would pass the length is 6, and the state is as it was
 -- finish-state         finishing after all bytes gives the parity of the message, and the state is as it was
@@ -20,6 +20,8 @@ use lib.Dec.{eqb, leb}
 use lib.Pow.{pow-pos, pow-mono}
 use borrow.Author.Tests.{leb-true}
 use Rattle.replies.specs.Replies.{number as refusal-number}
+use Rattle.replies.specs.Edition.{offered}
+use Rattle.replies.proofs.Editions.{highest-small}
 use Rattle.bits.specs.Bits.{bit, bitAt, bitOf, run, number, digits}
 use Rattle.bits.proofs.Numbers.{digits-length, digits-at, number-digits}
 use Rattle.bits.proofs.Runs.{run-append, run-cong, run-ext}
@@ -41,7 +43,7 @@ use Rattle.pieces.specs.Calls.{startReply, usable, answered, finished, s
 use Rattle.pieces.specs.Cutting.{joined, feeds, parityIn}
 use Rattle.pieces.proofs.Words.{register-words}
 use Rattle.piece_parity.proofs.Carrying.{carried-start, carried-append, carried-below}
-use Rattle.pieces.proofs.Replies.{right-level, Going, usable-going, going-usable, start-done, feed-past, feed-taken, finish-early, finish-bytes, finish-right, finish-refused, finish-done}
+use Rattle.pieces.proofs.Replies.{right-level, right-second, Going, usable-going, going-usable, start-done, feed-past, feed-taken, finish-early, finish-bytes, finish-right, finish-refused, finish-done}
 
 append-assoc : (u v w : List ℕ) → (u ++ v) ++ w ≡ u ++ (v ++ w)
 append-assoc [] v w = refl
@@ -75,8 +77,8 @@ room f level x h l =
 -- ---- any state
 
 module _ (f : Field) (s : State) (going : Going f s) where
-  level-small : s .level ≤ 20
-  level-small = right-level f (s .level) (s .size) (going .right)
+  level-small : s .level ≤ 31
+  level-small = omega (arith, right-level 2 f (s .level) (s .size) (going .right), highest-small 2)
 
   after-register : (p : List ℕ) → register (after f s p .words) ≡ carried f (2 * s .level) (register (s .words)) (bitsOf p)
   unfolding after
@@ -154,9 +156,9 @@ unfolding chosen choiceOf
 chosen-choice Thirteen = refl
 chosen-choice Fourteen = refl
 
-module _ (f : Field) (level n : ℕ) (right : startReply f level n ≡ 0) where
-  low : level ≤ 20
-  low = right-level f level n right
+module _ (f : Field) (level n : ℕ) (right : startReply 2 f level n ≡ 0) where
+  low : level ≤ 31
+  low = omega (arith, right-level 2 f level n right, highest-small 2)
 
   below : (l : List ℕ) → remainder f (2 * level) (bitsOf l ++ replicate (degree f * (2 * level)) false) < 2 ^ (degree f * (2 * level))
   below l = remainder-below f (2 * level) _ (let h = low in omega arith)
@@ -180,10 +182,6 @@ module _ (f : Field) (level n : ℕ) (right : startReply f level n ≡ 0) where
         carried-start f (2 * level) (bitsOf (l ++ p)),
         length-append l p,
       )
-
-  pub start-state : (s : State) → startOf s level (choiceOf f) n ≡ answered 0 (stateOf f level n [])
-  unfolding startOf startFor refusal-number
-  start-state s = rw (chosen-choice f) (sym (start-done f s level n right refl))
 
   fed-in : (l p : List ℕ) → feedOf (stateOf f level n l) p ≡ feedIn f (stateOf f level n l) p
   unfolding feedOf feedFor stateOf refusal-number
@@ -248,10 +246,17 @@ module _ (f : Field) (level n : ℕ) (right : startReply f level n ≡ 0) where
       let u = going-usable f s (state-going l (omega arith)) in
       finished-in l b ∙ sym (finish-refused f s b (finish-bytes f s (length b) u (unfold stateOf in e) (unfold stateOf in h)) (λ z. omega arith))
 
+module _ (edition : ℕ) (f : Field) (level n : ℕ) (known : offered edition ≡ true) (right : startReply edition f level n ≡ 0) where
+  pub start-state : (s : State) → startOf s edition level (choiceOf f) n ≡ answered 0 (stateOf f level n [])
+  unfolding startOf startFor refusal-number
+  start-state s = rw (known, chosen-choice f) (sym (start-done f s edition level n right refl))
+
   -- A message in any pieces: finishing gives the parity of the whole.
   pub cutting : (s : State) (ps : List (List ℕ)) (b : List ℕ) → length (joined ps) ≡ n → length b ≡ bytesFor (degree f * (2 * level))
-      → finishOf (feeds (startOf s level (choiceOf f) n .state) ps) b ≡ finished (answered 0 (stateOf f level n (joined ps))) (parityIn f (2 * level) (joined ps))
-  cutting s ps b e k = rw (start-state s, feeds-state [] ps (omega arith)) (finish-state (joined ps) b e k)
+      → finishOf (feeds (startOf s edition level (choiceOf f) n .state) ps) b ≡ finished (answered 0 (stateOf f level n (joined ps))) (parityIn f (2 * level) (joined ps))
+  cutting s ps b e k =
+      let second = right-second edition f level n right in
+      rw (start-state s, feeds-state f level n second [] ps (omega arith)) (finish-state f level n second (joined ps) b e k)
 
 -- The last mt bits of a parity's bytes are the parity; the bits before them are zeros.
 pub parity-last : (f : Field) (level : ℕ) (l : List ℕ) → level ≤ 31

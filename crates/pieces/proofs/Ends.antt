@@ -2,7 +2,7 @@
 --
 -- start-ends, feed-ends, finish-ends    the reply is 0, 6, 7, or 1 to 3 at a start; a refusal leaves the state and the buffer as they were, a finish the state
 use mathlib.Core.Path.{_≡_, refl}
-use mathlib.Core.Bool.{Bool, true, false}
+use mathlib.Core.Bool.{Bool, true, false, cond}
 use mathlib.Core.List.{List}
 use Prim.Native.Nat.{ℕ, _+_, _*_, _≤_}
 use native.Mathlib.Omega.{arith}
@@ -10,6 +10,7 @@ use native.Mathlib.Decide.{decLt}
 use lib.ListN.{length}
 use lib.Dec.{eqb, leb}
 use Rattle.replies.specs.Replies.{number}
+use Rattle.replies.specs.Edition.{offered, highest}
 use Rattle.field.specs.declared.Field.{Field}
 use Rattle.field.specs.declared.Choice.{Choice}
 use Rattle.field.specs.declared.Choice.the-variants.{Offered, Unknown}
@@ -17,7 +18,7 @@ use Rattle.field.specs.Field.{chosen, degree, longest}
 use Rattle.remainder.specs.Remainder.{bytesFor}
 use Rattle.pieces.specs.declared.State.{State}
 use Rattle.pieces.specs.declared.Answered.{Answered}
-use Rattle.pieces.specs.Calls.{startReply, usable, Finished, finished, startIn, startFor, startOf, feedIn, feedFor, feedOf, finishReply, finishIn, finishFor, finishOf}
+use Rattle.pieces.specs.Calls.{startReply, usable, answered, Finished, finished, startIn, startFor, startOf, feedIn, feedFor, feedOf, finishReply, finishIn, finishFor, finishOf}
 use Rattle.pieces.proofs.Replies.{reply-level, reply-empty, reply-plain, reply-long, reply-right}
 
 -- a reply of the table, by its number
@@ -60,39 +61,43 @@ pub record FinishEnds (s : State) (b : List ℕ) (w : Finished) : Type 0 where
 
 -- ---- starting
 
-block-table : (f : Field) (n m : ℕ) → Start (startReply f n m)
-block-table f n m = elim (decLt 20 n) [
-  | yes h ↦ rw (← reply-level f n m h) level
+block-table : (edition : ℕ) (f : Field) (n m : ℕ) → Start (startReply edition f n m)
+block-table edition f n m = elim (decLt (highest edition) n) [
+  | yes h ↦ rw (← reply-level edition f n m h) level
   | no h ↦ elim (decLt 0 m) [
-    | no k ↦ rw (← reply-empty f n m (omega arith) (omega arith)) message
+    | no k ↦ rw (← reply-empty edition f n m (omega arith) (omega arith)) message
     | yes k ↦ elim (decLt 0 n) [
-      | no c ↦ rw (← reply-plain f n m (omega arith) k (omega arith)) done
+      | no c ↦ rw (← reply-plain edition f n m (omega arith) k (omega arith)) done
       | yes c ↦ elim (decLt (longest f) (8 * m + degree f * (2 * n))) [
-        | yes l ↦ rw (← reply-long f n m (omega arith) k c l) long
-        | no l ↦ rw (← reply-right f n m (omega arith) k c (omega arith)) done
+        | yes l ↦ rw (← reply-long edition f n m (omega arith) k c l) long
+        | no l ↦ rw (← reply-right edition f n m (omega arith) k c (omega arith)) done
       ]
     ]
   ]
 ]
 
-startIn-ends : (f : Field) (s : State) (n m : ℕ) → StartEnds s (startIn f s n m)
+startIn-ends : (edition : ℕ) (f : Field) (s : State) (n m : ℕ) → StartEnds s (startIn edition f s n m)
 unfolding startIn
-startIn-ends f s n m = go (startReply f n m) refl (block-table f n m)
+startIn-ends edition f s n m = go (startReply edition f n m) refl (block-table edition f n m)
   where
-    go : (r : ℕ) → startReply f n m ≡ r → Start r → StartEnds s (startIn f s n m)
+    go : (r : ℕ) → startReply edition f n m ≡ r → Start r → StartEnds s (startIn edition f s n m)
     go r e done = rw e (record { table = done; kept = λ h. absurd (h refl) })
     go r e level = rw e (record { table = level; kept = λ h. refl })
     go r e message = rw e (record { table = message; kept = λ h. refl })
     go r e long = rw e (record { table = long; kept = λ h. refl })
     go r e choice = rw e (record { table = choice; kept = λ h. refl })
 
-pub start-ends : (s : State) (n c m : ℕ) → StartEnds s (startOf s n c m)
+pub start-ends : (s : State) (edition n c m : ℕ) → StartEnds s (startOf s edition n c m)
 unfolding startOf startFor number
-start-ends s n c m = go (chosen c)
+start-ends s edition n c m = known (offered edition)
   where
-    go : (k : Choice) → StartEnds s (startFor k s n m)
-    go (Offered f) = startIn-ends f s n m
+    go : (k : Choice) → StartEnds s (startFor edition k s n m)
+    go (Offered f) = startIn-ends edition f s n m
     go Unknown = record { table = choice; kept = λ h. refl }
+
+    known : (o : Bool) → StartEnds s (cond o (startFor edition (chosen c) s n m) (answered 7 s))
+    known true = go (chosen c)
+    known false = record { table = choice; kept = λ h. refl }
 
 -- ---- feeding
 

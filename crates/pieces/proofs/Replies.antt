@@ -12,6 +12,8 @@ use Rattle.field.specs.declared.Field.{Field}
 use Rattle.field.specs.declared.Field.the-variants.{Thirteen, Fourteen}
 use Rattle.field.specs.Field.{degree, longest}
 use Rattle.replies.specs.Replies.{number}
+use Rattle.replies.specs.Edition.{highest}
+use Rattle.replies.proofs.Editions.{highest-small}
 use Rattle.layout.specs.Plan.{shapeWith}
 use Rattle.layout.specs.Acceptance.{test, either, levelRule, messageRule, lengthRule, ruleRefusal, ruleNumber}
 use Rattle.code.specs.Register.{register}
@@ -28,44 +30,44 @@ unfolding longest
 longest-most Thirteen = omega arith
 longest-most Fourteen = omega arith
 
-module _ (f : Field) (level n : ℕ) where
-  pub reply-level : 20 < level → 1 ≡ startReply f level n
+module _ (edition : ℕ) (f : Field) (level n : ℕ) where
+  pub reply-level : highest edition < level → 1 ≡ startReply edition f level n
   unfolding startReply levelRule test either findingReply ruleNumber ruleRefusal number
-  reply-level h = rw (lt-ltb 20 level h)
+  reply-level h = rw (lt-ltb (highest edition) level h)
 
-  module _ (low : level ≤ 20) where
-    pub reply-empty : n ≡ 0 → 2 ≡ startReply f level n
+  module _ (low : level ≤ highest edition) where
+    pub reply-empty : n ≡ 0 → 2 ≡ startReply edition f level n
     unfolding startReply levelRule messageRule shapeFor shapeWith test either findingReply ruleNumber ruleRefusal number
-    reply-empty e = rw (le-ltb 20 level low, lt-ltb (8 * n) 1 (omega arith))
+    reply-empty e = rw (le-ltb (highest edition) level low, lt-ltb (8 * n) 1 (omega arith))
 
     module _ (some : 0 < n) where
-      pub reply-plain : level ≡ 0 → 0 ≡ startReply f level n
+      pub reply-plain : level ≡ 0 → 0 ≡ startReply edition f level n
       unfolding startReply levelRule messageRule lengthRule shapeFor shapeWith test either findingReply ruleNumber ruleRefusal number
-      reply-plain e = rw (le-ltb 20 level low, le-ltb (8 * n) 1 (omega arith), eq-eqb (2 * level) 0 (omega arith))
+      reply-plain e = rw (le-ltb (highest edition) level low, le-ltb (8 * n) 1 (omega arith), eq-eqb (2 * level) 0 (omega arith))
 
       module _ (coded : 0 < level) where
-        pub reply-long : longest f < 8 * n + degree f * (2 * level) → 3 ≡ startReply f level n
+        pub reply-long : longest f < 8 * n + degree f * (2 * level) → 3 ≡ startReply edition f level n
         unfolding startReply levelRule messageRule lengthRule shapeFor shapeWith test either findingReply ruleNumber ruleRefusal number
         reply-long h = rw (
-          le-ltb 20 level low,
+          le-ltb (highest edition) level low,
           le-ltb (8 * n) 1 (omega arith),
           ne-eqb (2 * level) 0 (λ e. omega arith),
           lt-ltb (longest f) (8 * n + degree f * (2 * level)) h,
         )
 
-        pub reply-right : 8 * n + degree f * (2 * level) ≤ longest f → 0 ≡ startReply f level n
+        pub reply-right : 8 * n + degree f * (2 * level) ≤ longest f → 0 ≡ startReply edition f level n
         unfolding startReply levelRule messageRule lengthRule shapeFor shapeWith test either findingReply ruleNumber ruleRefusal number
         reply-right h = rw (
-          le-ltb 20 level low,
+          le-ltb (highest edition) level low,
           le-ltb (8 * n) 1 (omega arith),
           ne-eqb (2 * level) 0 (λ e. omega arith),
           le-ltb (longest f) (8 * n + degree f * (2 * level)) h,
         )
 
   -- what holds of a block that gets no reply
-  module _ (right : startReply f level n ≡ 0) where
-    pub right-level : level ≤ 20
-    right-level = elim (decLt 20 level) [ yes h ↦ absurd (omega (arith, reply-level h)) | no h ↦ omega arith ]
+  module _ (right : startReply edition f level n ≡ 0) where
+    pub right-level : level ≤ highest edition
+    right-level = elim (decLt (highest edition) level) [ yes h ↦ absurd (omega (arith, reply-level h)) | no h ↦ omega arith ]
 
     pub right-size : 0 < n
     right-size = elim (decLt 0 n) [ yes h ↦ h | no h ↦ absurd (omega (arith, reply-empty right-level (omega arith))) ]
@@ -76,35 +78,45 @@ module _ (f : Field) (level n : ℕ) where
       | no h ↦ omega arith
     ]
 
+-- What a start under some edition accepts one under edition 2 accepts.
+pub right-second : (edition : ℕ) (f : Field) (level n : ℕ) → startReply edition f level n ≡ 0 → startReply 2 f level n ≡ 0
+right-second edition f level n right =
+    let low : level ≤ highest 2 = unfold highest in omega (arith, right-level edition f level n right, highest-small edition) in
+    let some = right-size edition f level n right in
+    elim (decLt 0 level) [
+      | no c ↦ sym (reply-plain 2 f level n low some (omega arith))
+      | yes c ↦ sym (reply-right 2 f level n low some c (right-length edition f level n right c))
+    ]
+
 -- ---- a state
 
 module _ (f : Field) (s : State) where
-  pub usable-refused : {r : ℕ} → r ≡ startReply f (s .level) (s .size) → (r ≡ 0 → ⊥) → false ≡ usable f s
+  pub usable-refused : {r : ℕ} → r ≡ startReply 2 f (s .level) (s .size) → (r ≡ 0 → ⊥) → false ≡ usable f s
   unfolding usable
-  usable-refused e ne = rw (ne-eqb (startReply f (s .level) (s .size)) 0 (λ z. ne (e ∙ z)))
+  usable-refused e ne = rw (ne-eqb (startReply 2 f (s .level) (s .size)) 0 (λ z. ne (e ∙ z)))
 
-  module _ (right : startReply f (s .level) (s .size) ≡ 0) where
+  module _ (right : startReply 2 f (s .level) (s .size) ≡ 0) where
     pub usable-past : s .size < s .fed → false ≡ usable f s
     unfolding usable
-    usable-past h = rw (eq-eqb (startReply f (s .level) (s .size)) 0 right, lt-leb (s .fed) (s .size) h)
+    usable-past h = rw (eq-eqb (startReply 2 f (s .level) (s .size)) 0 right, lt-leb (s .fed) (s .size) h)
 
     pub usable-below : {r : Bool} {bits : ℕ} → s .fed ≤ s .size → bits ≡ degree f * (2 * s .level) → r ≡ ltb (register (s .words)) (2 ^ bits) → r ≡ usable f s
     unfolding usable
-    usable-below h e g = g ∙ rw (eq-eqb (startReply f (s .level) (s .size)) 0 right, le-leb (s .fed) (s .size) h, e)
+    usable-below h e g = g ∙ rw (eq-eqb (startReply 2 f (s .level) (s .size)) 0 right, le-leb (s .fed) (s .size) h, e)
 
   -- what holds of a usable state
   pub record Going : Type 0 where
-    pub right : startReply f (s .level) (s .size) ≡ 0
+    pub right : startReply 2 f (s .level) (s .size) ≡ 0
     pub inside : s .fed ≤ s .size
     pub below : register (s .words) < 2 ^ (degree f * (2 * s .level))
 
   pub usable-going : usable f s ≡ true → Going
   unfolding usable
-  usable-going = go (eqb (startReply f (s .level) (s .size)) 0) (leb (s .fed) (s .size)) refl refl
+  usable-going = go (eqb (startReply 2 f (s .level) (s .size)) 0) (leb (s .fed) (s .size)) refl refl
     where
-      go : (b c : Bool) → eqb (startReply f (s .level) (s .size)) 0 ≡ b → leb (s .fed) (s .size) ≡ c → usable f s ≡ true → Going
+      go : (b c : Bool) → eqb (startReply 2 f (s .level) (s .size)) 0 ≡ b → leb (s .fed) (s .size) ≡ c → usable f s ≡ true → Going
       go true true eb ec h = record {
-        right = eqb-true (startReply f (s .level) (s .size)) 0 eb;
+        right = eqb-true (startReply 2 f (s .level) (s .size)) 0 eb;
         inside = leb-true (s .fed) (s .size) ec;
         below = ltb-true (register (s .words)) (2 ^ (degree f * (2 * s .level))) (rw (eb, ec) at h);
       }
@@ -114,18 +126,18 @@ module _ (f : Field) (s : State) where
   pub going-usable : Going → usable f s ≡ true
   unfolding usable
   going-usable g = rw (
-    eq-eqb (startReply f (s .level) (s .size)) 0 (g .right),
+    eq-eqb (startReply 2 f (s .level) (s .size)) 0 (g .right),
     le-leb (s .fed) (s .size) (g .inside),
     lt-ltb (register (s .words)) (2 ^ (degree f * (2 * s .level))) (g .below),
   )
 
-  pub usable-level : usable f s ≡ true → s .level ≤ 20
-  usable-level h = right-level f (s .level) (s .size) (usable-going h .right)
+  pub usable-level : usable f s ≡ true → s .level ≤ 31
+  usable-level h = omega (arith, right-level 2 f (s .level) (s .size) (usable-going h .right), highest-small 2)
 
   -- a piece that fits a block with a code is short
   pub piece-short : usable f s ≡ true → (n : ℕ) → s .fed + n ≤ s .size → 0 < s .level → n < 65536
   piece-short h n l c =
-      let r = right-length f (s .level) (s .size) (usable-going h .right) c in
+      let r = right-length 2 f (s .level) (s .size) (usable-going h .right) c in
       let m = longest-most f in
       omega arith
 
@@ -176,13 +188,13 @@ module _ (f : Field) (s : State) (n : ℕ) where
 -- ---- the answers
 
 module _ (f : Field) (s : State) where
-  pub start-refused : (level n : ℕ) {r : ℕ} → r ≡ startReply f level n → (r ≡ 0 → ⊥) → answered r s ≡ startIn f s level n
+  pub start-refused : (edition level n : ℕ) {r : ℕ} → r ≡ startReply edition f level n → (r ≡ 0 → ⊥) → answered r s ≡ startIn edition f s level n
   unfolding startIn
-  start-refused level n e h = rw (e, ne-eqb (startReply f level n) 0 (λ z. h (e ∙ z)))
+  start-refused edition level n e h = rw (e, ne-eqb (startReply edition f level n) 0 (λ z. h (e ∙ z)))
 
-  pub start-done : (level n : ℕ) {a : State} → startReply f level n ≡ 0 → a ≡ stateOf f level n [] → answered 0 a ≡ startIn f s level n
+  pub start-done : (edition level n : ℕ) {a : State} → startReply edition f level n ≡ 0 → a ≡ stateOf f level n [] → answered 0 a ≡ startIn edition f s level n
   unfolding startIn
-  start-done level n e h = rw (h, eq-eqb (startReply f level n) 0 e)
+  start-done edition level n e h = rw (h, eq-eqb (startReply edition f level n) 0 e)
 
   pub feed-unusable : (piece : List ℕ) → usable f s ≡ false → answered 7 s ≡ feedIn f s piece
   unfolding feedIn number

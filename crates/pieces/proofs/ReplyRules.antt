@@ -10,6 +10,7 @@ use lib.Dec.{eqb, ltb, leb, eqb·suc-zero}
 use borrow.Author.Tests.{eq-eqb, ne-eqb, lt-ltb, le-ltb}
 use Rattle.replies.specs.declared.Refusal.the-variants.{BufferLength, OutOfRange}
 use Rattle.replies.specs.Replies.{number, block, verdictNumber, verdictBlock, unequal, rule, verdict, reply, replyBlock}
+use Rattle.replies.specs.Edition.{offered, highest}
 use Rattle.replies.specs.Given.{Follows, Exactly, turn, atMost, ascending}
 use Rattle.replies.proofs.Tests.{ltb-not}
 use Rattle.replies.proofs.Given.{follows-done, follows-next, follows-here, exactly}
@@ -30,13 +31,13 @@ use Rattle.pieces.proofs.Replies.{reply-level, reply-empty, reply-plain
 
 -- what a number chooses
 data Chose (c : ℕ) : Type 0 where
-  offered : (f : Field) → chosen c ≡ Offered f → ltb 1 c ≡ false → fieldOf c ≡ f → Chose c
+  known : (f : Field) → chosen c ≡ Offered f → ltb 1 c ≡ false → fieldOf c ≡ f → Chose c
   unknown : chosen c ≡ Unknown → ltb 1 c ≡ true → Chose c
 
 chose : (c : ℕ) → Chose c
 unfolding chosen fieldOf
-chose zero = offered Thirteen refl refl refl
-chose (suc zero) = offered Fourteen refl refl refl
+chose zero = known Thirteen refl refl refl
+chose (suc zero) = known Fourteen refl refl refl
 chose (suc (suc c)) = unknown refl (lt-ltb 1 (suc (suc c)) (omega arith))
 
 -- ---- starting
@@ -50,48 +51,58 @@ module _ (f : Field) (level n : ℕ) where
   unfolding tooLong shapeFor shapeWith
   long-coded h = rw (ne-eqb (2 * level) 0 (λ e. omega arith))
 
-  block-follows : Follows (blockRules f level n) (startReply f level n) 0
+module _ (edition : ℕ) (f : Field) (level n : ℕ) where
+  block-follows : Follows (blockRules edition f level n) (startReply edition f level n) 0
   unfolding blockRules number block
-  block-follows = elim (decLt 20 level) [
-    | yes h ↦ rw (← reply-level f level n h) (follows-here _ (lt-ltb 20 level h))
+  block-follows = elim (decLt (highest edition) level) [
+    | yes h ↦ rw (← reply-level edition f level n h) (follows-here _ (lt-ltb (highest edition) level h))
     | no h ↦ elim (decLt 0 n) [
-      | no k ↦ rw (← reply-empty f level n (omega arith) (omega arith))
-          (follows-next _ (le-ltb 20 level (omega arith)) (follows-here _ (eq-eqb n 0 (omega arith))))
+      | no k ↦ rw (← reply-empty edition f level n (omega arith) (omega arith))
+          (follows-next _ (le-ltb (highest edition) level (omega arith)) (follows-here _ (eq-eqb n 0 (omega arith))))
       | yes k ↦ elim (decLt 0 level) [
-        | no c ↦ rw (← reply-plain f level n (omega arith) k (omega arith))
-            (follows-next _ (le-ltb 20 level (omega arith)) (follows-next _ (ne-eqb n 0 (λ e. omega arith)) (follows-next _ (long-plain (omega arith)) follows-done)))
+        | no c ↦ rw (← reply-plain edition f level n (omega arith) k (omega arith))
+            (follows-next _ (le-ltb (highest edition) level (omega arith)) (follows-next _ (ne-eqb n 0 (λ e. omega arith)) (follows-next _ (long-plain f level n (omega arith)) follows-done)))
         | yes c ↦ elim (decLt (longest f) (8 * n + degree f * (2 * level))) [
-          | yes l ↦ rw (← reply-long f level n (omega arith) k c l)
-              (follows-next _ (le-ltb 20 level (omega arith)) (follows-next _ (ne-eqb n 0 (λ e. omega arith)) (follows-here _ (long-coded c ∙ lt-ltb (longest f) (8 * n + degree f * (2 * level)) l))))
-          | no l ↦ rw (← reply-right f level n (omega arith) k c (omega arith))
-              (follows-next _ (le-ltb 20 level (omega arith)) (follows-next _ (ne-eqb n 0 (λ e. omega arith))
-              (follows-next _ (long-coded c ∙ le-ltb (longest f) (8 * n + degree f * (2 * level)) (omega arith)) follows-done)))
+          | yes l ↦ rw (← reply-long edition f level n (omega arith) k c l)
+              (follows-next _ (le-ltb (highest edition) level (omega arith)) (follows-next _ (ne-eqb n 0 (λ e. omega arith)) (follows-here _ (long-coded f level n c ∙ lt-ltb (longest f) (8 * n + degree f * (2 * level)) l))))
+          | no l ↦ rw (← reply-right edition f level n (omega arith) k c (omega arith))
+              (follows-next _ (le-ltb (highest edition) level (omega arith)) (follows-next _ (ne-eqb n 0 (λ e. omega arith))
+              (follows-next _ (long-coded f level n c ∙ le-ltb (longest f) (8 * n + degree f * (2 * level)) (omega arith)) follows-done)))
         ]
       ]
     ]
   ]
 
-  start-reply : (s : State) → startIn f s level n .reply ≡ startReply f level n
+  start-reply : (s : State) → startIn edition f s level n .reply ≡ startReply edition f level n
   unfolding startIn
-  start-reply s = go (startReply f level n)
+  start-reply s = go (startReply edition f level n)
     where
       go : (r : ℕ) → cond (eqb r 0) (answered 0 (stateOf f level n [])) (answered r s) .reply ≡ r
       go zero = refl
       go (suc r) = rw (eqb·suc-zero r)
 
-module _ (s : State) (level choice n : ℕ) where
-  pub start-replies : Follows (startRules level choice n) (startOf s level choice n .reply) 0
-  unfolding startRules startOf startFor number block
-  start-replies = elim (chose choice) [
-    | offered f e l k ↦ rw (e, k, start-reply f level n s) (follows-next _ l (block-follows f level n))
+module _ (s : State) (edition level choice n : ℕ) where
+  for-follows : Follows (drop 1 (startRules edition level choice n)) (startFor edition (chosen choice) s level n .reply) 0
+  unfolding startRules startFor number block
+  for-follows = elim (chose choice) [
+    | known f e l k ↦ rw (e, k, start-reply edition f level n s) (follows-next _ l (block-follows edition f level n))
     | unknown e l ↦ rw e (follows-here _ l)
   ]
 
-  pub start-exactly : Exactly (startRules level choice n) (startOf s level choice n .reply) 0
-  start-exactly = exactly (startRules level choice n) start-replies
+  pub start-replies : Follows (startRules edition level choice n) (startOf s edition level choice n .reply) 0
+  unfolding startRules startOf number block
+  start-replies = go (offered edition) refl
+    where
+      go : (o : Bool) → offered edition ≡ o → Follows (startRules edition level choice n)
+          (cond o (startFor edition (chosen choice) s level n) (answered 7 s) .reply) 0
+      go true e = follows-next _ (rw e) for-follows
+      go false e = follows-here _ (rw e)
 
-  -- After the field choice, which is looked at first, the turns never fall.
-  pub start-ascending : ascending (drop 1 (startRules level choice n)) ≡ true
+  pub start-exactly : Exactly (startRules edition level choice n) (startOf s edition level choice n .reply) 0
+  start-exactly = exactly (startRules edition level choice n) start-replies
+
+  -- After the edition and the field choice, which are looked at first, the turns never fall.
+  pub start-ascending : ascending (drop 2 (startRules edition level choice n)) ≡ true
   unfolding startRules blockRules ascending atMost turn number
   start-ascending = refl
 
@@ -111,7 +122,7 @@ module _ (s : State) (piece : List ℕ) where
   pub feed-replies : Follows (feedRules s piece) (feedOf s piece .reply) 0
   unfolding feedRules goesOn feedOf feedFor number block
   feed-replies = elim (chose (s .choice)) [
-    | offered f e l k ↦ rw (e, l, k) (feed-in f)
+    | known f e l k ↦ rw (e, l, k) (feed-in f)
     | unknown e l ↦ rw (e, l) (follows-here _ refl)
   ]
 
@@ -138,7 +149,7 @@ module _ (s : State) (buffer : List ℕ) where
   pub finish-replies : Follows (finishRules s buffer) (finishOf s buffer .reply) 0
   unfolding finishRules goesOn finishOf finishFor finished number block
   finish-replies = elim (chose (s .choice)) [
-    | offered f e l k ↦ rw (e, l, k) (finish-in f)
+    | known f e l k ↦ rw (e, l, k) (finish-in f)
     | unknown e l ↦ rw (e, l) (follows-here _ refl)
   ]
 

@@ -1,13 +1,13 @@
 -- The calls of a writer that takes one block's message in pieces (document 02, E4): what each answers and leaves.
 -- Each is a function of everything that is handed in or lent, for every state, whoever made it. Of several replies the first in the
--- order 7, 1, 2, 3, 6 is given. A refusal leaves the state and the parity buffer as they were, and finishing leaves the state.
+-- order 7 for the edition, 7, 1, 2, 3, 6 is given. A refusal leaves the state and the parity buffer as they were, and finishing leaves the state.
 --
 -- shapeFor f level n        the shape of a block with a message of n bytes (layout/Plan)
--- startReply f level n      1, 2 or 3 where a block of a page would get it (layout/Acceptance), else 0
--- usable f s                a start in the field f accepts the numbers of the state, no more is fed than the message has, and what is carried is below 2^(mt)
+-- startReply edition f level n      1, 2 or 3 where a block of a page would get it (layout/Acceptance), else 0
+-- usable f s                a start in the field f under some edition accepts the numbers of the state, no more is fed than the message has, and what is carried is below 2^(mt)
 -- answered reply s          an answer; Finished: a reply, the state and the lent parity buffer afterwards
 -- startIn, feedIn, finishIn     the calls in a field; startFor, feedFor, finishFor: with the answer to a field choice
--- startOf s level choice n  starting a block: the state before the first byte of its message
+-- startOf s edition level choice n   starting a block: the state before the first byte of its message
 -- feedOf s piece            feeding a piece: all of it is taken in, or none
 -- finishOf s buffer         finishing: the parity in the buffer
 use mathlib.Core.Bool.{Bool, false, cond}
@@ -21,6 +21,7 @@ use Rattle.field.specs.declared.Choice.the-variants.{Offered, Unknown}
 use Rattle.field.specs.Field.{degree, chosen}
 use Rattle.replies.specs.declared.Refusal.the-variants as refusal
 use Rattle.replies.specs.Replies.{number, unless}
+use Rattle.replies.specs.Edition.{offered}
 use Rattle.layout.specs.declared.Shape.{Shape}
 use Rattle.layout.specs.declared.Finding.{Finding}
 use Rattle.layout.specs.declared.Finding.the-variants.{Kept, Broken}
@@ -42,15 +43,17 @@ findingReply Kept = 0
 findingReply (Broken reason) = ruleNumber (reason .rule)
 
 -- The rules of one block, in their order.
-unfoldable pub startReply : Field → ℕ → ℕ → ℕ
-startReply f level n =
+unfoldable pub startReply : ℕ → Field → ℕ → ℕ → ℕ
+startReply edition f level n =
     findingReply
-    (either (levelRule First (record { ecc = level; gf = f; units = 0 }))
+    (either (levelRule edition First (record { ecc = level; gf = f; units = 0 }))
     (either (messageRule First (shapeFor f level n)) (lengthRule First (shapeFor f level n))))
 
+-- A state does not say under which edition it was started. What edition 1 accepts edition 2 accepts too (proofs/Replies `right-second`), so the
+-- editions together accept what edition 2 does.
 unfoldable pub usable : Field → State → Bool
 usable f s =
-    cond (eqb (startReply f (s .level) (s .size)) 0)
+    cond (eqb (startReply 2 f (s .level) (s .size)) 0)
     (cond (leb (s .fed) (s .size)) (ltb (register (s .words)) (2 ^ (degree f * (2 * s .level)))) false)
     false
 
@@ -66,16 +69,19 @@ pub record Finished : Type 0 where
 unfoldable pub finished : Answered → List ℕ → Finished
 finished a parity = record { reply = a .reply; state = a .state; parity = parity }
 
-unfoldable pub startIn : Field → State → ℕ → ℕ → Answered
-startIn f s level n = cond (eqb (startReply f level n) 0) (answered 0 (stateOf f level n [])) (answered (startReply f level n) s)
+unfoldable pub startIn : ℕ → Field → State → ℕ → ℕ → Answered
+startIn edition f s level n =
+    cond (eqb (startReply edition f level n) 0) (answered 0 (stateOf f level n [])) (answered (startReply edition f level n) s)
 
 -- 7: a field choice that is not offered
-unfoldable pub startFor : Choice → State → ℕ → ℕ → Answered
-startFor (Offered f) s level n = startIn f s level n
-startFor Unknown s level n = answered (number refusal.OutOfRange) s
+unfoldable pub startFor : ℕ → Choice → State → ℕ → ℕ → Answered
+startFor edition (Offered f) s level n = startIn edition f s level n
+startFor edition Unknown s level n = answered (number refusal.OutOfRange) s
 
-unfoldable pub startOf : State → ℕ → ℕ → ℕ → Answered
-startOf s level choice n = startFor (chosen choice) s level n
+-- 7: an edition that is not offered (document 02, E13)
+unfoldable pub startOf : State → ℕ → ℕ → ℕ → ℕ → Answered
+startOf s edition level choice n =
+    cond (offered edition) (startFor edition (chosen choice) s level n) (answered (number refusal.OutOfRange) s)
 
 -- 7: a state that cannot be gone on with. 6: a piece that would pass the length stated at the start.
 unfoldable pub feedIn : Field → State → List ℕ → Answered

@@ -1,7 +1,7 @@
 -- The replies of starting, feeding and finishing, each as one list of rules in the order in which they are looked at (document 02, E4). The first that
 -- applies is given (replies/Given). The block beside the reply is always 0.
 --
--- blockRules f level n     1, 2 and 3 as a block of a page gets them
+-- blockRules edition f level n     1, 2 and 3 as a block of a page gets them
 -- goesOn s                 the state can be gone on with: its field choice is offered, and it is usable in that field
 -- startRules, feedRules, finishRules     the calls
 use mathlib.Core.Bool.{Bool, false, cond, not}
@@ -11,6 +11,7 @@ use lib.ListN.{length}
 use lib.Dec.{eqb, ltb}
 use Rattle.replies.specs.declared.Refusal.the-variants.{LevelTooHigh, EmptyMessage, BlockTooLong, BufferLength, OutOfRange}
 use Rattle.replies.specs.Replies.{unequal, Rule, rule}
+use Rattle.replies.specs.Edition.{offered, highest}
 use Rattle.field.specs.declared.Field.{Field}
 use Rattle.field.specs.Field.{degree}
 use Rattle.layout.specs.Record.{fieldOf}
@@ -19,16 +20,19 @@ use Rattle.remainder.specs.Remainder.{bytesFor}
 use Rattle.pieces.specs.declared.State.{State}
 use Rattle.pieces.specs.Calls.{shapeFor, usable}
 
-unfoldable pub blockRules : Field → ℕ → ℕ → List Rule
-blockRules f level n =
-    rule (ltb 20 level) LevelTooHigh
+unfoldable pub blockRules : ℕ → Field → ℕ → ℕ → List Rule
+blockRules edition f level n =
+    rule (ltb (highest edition) level) LevelTooHigh
     ∷ rule (eqb n 0) EmptyMessage
     ∷ rule (tooLong (shapeFor f level n)) BlockTooLong
     ∷ []
 
--- 7 first: a field choice that is not offered.
-unfoldable pub startRules : ℕ → ℕ → ℕ → List Rule
-startRules level choice n = rule (ltb 1 choice) OutOfRange ∷ blockRules (fieldOf choice) level n
+-- 7 first: an edition that is not offered, and then a field choice.
+unfoldable pub startRules : ℕ → ℕ → ℕ → ℕ → List Rule
+startRules edition level choice n =
+    rule (not (offered edition)) OutOfRange
+    ∷ rule (ltb 1 choice) OutOfRange
+    ∷ blockRules edition (fieldOf choice) level n
 
 unfoldable pub goesOn : State → Bool
 goesOn s = cond (ltb 1 (s .choice)) false (usable (fieldOf (s .choice)) s)

@@ -1,6 +1,6 @@
 // The parity of one block whose message arrives in pieces (document 02, E4).
 //
-//   start     a block by level field, field choice and message length: 7, 1, 2 or 3 as for a block of a page
+//   start     a block by edition, level field, field choice and message length: 7, 1, 2 or 3 as for a block of a page
 //   feed      one more piece of the message, of any length; a piece that would pass the message's length is 6
 //   finish    the parity of the message, as document 01 hands a remainder in; 6 before the message is whole
 //
@@ -35,11 +35,11 @@ pub struct Answered {
 }
 
 // Starts a block in the lent state.
-pub fn start(state: &mut State, level_field: u64, field_choice: u64, size: u64) -> u8
-    ensures { λ r. ⌜ answered r (now (state .exit)) ≡ startOf (now (state .entry)) «level_field» «field_choice» size ⌝ }
+pub fn start(state: &mut State, edition: u64, level_field: u64, field_choice: u64, size: u64) -> u8
+    ensures { λ r. ⌜ answered r (now (state .exit)) ≡ startOf (now (state .entry)) edition «level_field» «field_choice» size ⌝ }
 {
     let s = *state;
-    let a = value::start(s, level_field, field_choice, size);
+    let a = value::start(s, edition, level_field, field_choice, size);
     *state = a.state;
     a.reply
 }

@@ -5,14 +5,15 @@ use remainder::Register;
 use remainder::coefficients::bytes_for;
 use remainder::coefficients::is_below;
 use remainder::coefficients::parity_bits;
+use replies::highest;
 ghost use mathlib.Core.Path.{_≡_};
 ghost use Rattle.pieces.specs.Calls.{startReply, usable, finishReply};
 
-// The reply about starting a block of this level field with a message of so many bytes: 1, 2 or 3 as a layout's rules give it, else 0.
-pub fn start_reply(f: Field, level_field: u64, size: u64) -> u8
-    ensures { λ r. ⌜ r ≡ startReply f «level_field» size ⌝ }
+// The reply about starting a block of this level field under an edition with a message of so many bytes: 1, 2 or 3 as a layout's rules give it, else 0.
+pub fn start_reply(edition: u64, f: Field, level_field: u64, size: u64) -> u8
+    ensures { λ r. ⌜ r ≡ startReply edition f «level_field» size ⌝ }
 {
-    if 20 < level_field {
+    if highest(edition) < level_field {
         return 1;
     }
     if size == 0 {
@@ -33,12 +34,12 @@ pub fn start_reply(f: Field, level_field: u64, size: u64) -> u8
     0
 }
 
-// Whether a state can be gone on with in a field: a start would have accepted its numbers, no more was fed than the message has,
-// and what is carried is below 2^(mt).
+// Whether a state can be gone on with in a field: a start under some edition would have accepted its numbers, which is one under
+// edition 2, no more was fed than the message has, and what is carried is below 2^(mt).
 pub fn is_usable(f: Field, state: State) -> bool
     ensures { λ r. ⌜ r ≡ usable f state ⌝ }
 {
-    if start_reply(f, state.level, state.size) != 0 {
+    if start_reply(2, f, state.level, state.size) != 0 {
         return false;
     }
     if state.size < state.fed {

@@ -9,6 +9,7 @@ use field::Field;
 use piece_parity::carried;
 use remainder::Register;
 use remainder::digits::to_bytes;
+use replies::offered;
 ghost use mathlib.Core.Path.{_≡_};
 ghost use Prim.Native.Nat.{_+_, _≤_};
 ghost use mathlib.Core.Bool.{true};
@@ -27,10 +28,10 @@ fn choice_of(f: Field) -> u64
 }
 
 // Starts a block in a field.
-fn start_in(f: Field, state: State, level_field: u64, size: u64) -> Answered
-    ensures { λ r. ⌜ r ≡ startIn f state «level_field» size ⌝ }
+fn start_in(edition: u64, f: Field, state: State, level_field: u64, size: u64) -> Answered
+    ensures { λ r. ⌜ r ≡ startIn edition f state «level_field» size ⌝ }
 {
-    let reply = start_reply(f, level_field, size);
+    let reply = start_reply(edition, f, level_field, size);
     if reply != 0 {
         return Answered {
             reply: reply,
@@ -52,11 +53,17 @@ fn start_in(f: Field, state: State, level_field: u64, size: u64) -> Answered
 }
 
 // Starts a block: the state for it, or the state as it was.
-pub fn start(state: State, level_field: u64, field_choice: u64, size: u64) -> Answered
-    ensures { λ r. ⌜ r ≡ startOf state «level_field» «field_choice» size ⌝ }
+pub fn start(state: State, edition: u64, level_field: u64, field_choice: u64, size: u64) -> Answered
+    ensures { λ r. ⌜ r ≡ startOf state edition «level_field» «field_choice» size ⌝ }
 {
+    if !offered(edition) {
+        return Answered {
+            reply: 7,
+            state: state,
+        };
+    }
     match Field::choose(field_choice) {
-        Choice::Offered(f) => start_in(f, state, level_field, size),
+        Choice::Offered(f) => start_in(edition, f, state, level_field, size),
         Choice::Unknown => Answered {
             reply: 7,
             state: state,

@@ -1,5 +1,6 @@
 -- The parity of a message in pieces is what stands after that message in the stream of the written page (document 02, E4).
 use mathlib.Core.Path.{_≡_, refl, sym, ap, _∙_}
+use mathlib.Core.Bool.{true}
 use mathlib.Core.List.{List, _++_}
 use Prim.Native.Nat.{ℕ, zero, suc, _+_, _-_, _*_, _≤_, _<_}
 use native.Mathlib.Omega.{arith}
@@ -10,12 +11,14 @@ use Rattle.field.specs.Field.{degree}
 use Rattle.bits.specs.Bits.{bitOf, run}
 use Rattle.bits.proofs.Runs.{run-length, run-append}
 use Rattle.mark.specs.Mark.{streamBit}
+use Rattle.replies.specs.Edition.{offered, highest}
+use Rattle.replies.proofs.Editions.{highest-small}
 use Rattle.layout.specs.declared.Fields.{Fields}
 use Rattle.layout.specs.declared.Plan.{Plan}
-use Rattle.layout.specs.Record.{fieldsIn, layoutOf}
+use Rattle.layout.specs.Record.{Words, fieldsAt, fieldsUnder, fieldsIn, layoutOf}
 use Rattle.layout.specs.Plan.{shapeWith, shapeOf, planFor, shape, bits, field, level, covered, start}
 use Rattle.layout.proofs.Plans.{later-some}
-use Rattle.layout.proofs.Accepting.{Keeps, keeps, accepted-plan, accepted-kept}
+use Rattle.layout.proofs.Accepting.{Keeps, keeps, accepted-taken, accepted-plan, accepted-kept}
 use Rattle.code.specs.Generator.{parity}
 use Rattle.remainder.specs.Remainder.{bytesFor}
 use Rattle.page_theory.specs.Page.{message, blockWord}
@@ -37,35 +40,39 @@ use Rattle.pieces_page.specs.InPieces.{InPieces, finished}
 -- ---- an accepted layout
 
 module _ (f : Fields) (k : Keeps f (planFor f)) where
-  level-forty : (b : ℕ) → b < planFor f .blocks → level (planFor f) b ≤ 40
+  level-low : (b : ℕ) → b < planFor f .blocks → level (planFor f) b ≤ 2 * highest (f .edition)
   unfolding shape planFor shapeOf shapeWith
-  level-forty zero h = omega (arith, k .levels)
-  level-forty (suc b) h = let n : 0 < f .nblocks = omega arith in rw (later-some f n) (omega (arith, k .levels-later n))
+  level-low zero h = omega (arith, k .levels)
+  level-low (suc b) h = let n : 0 < f .nblocks = omega arith in rw (later-some f n) (omega (arith, k .levels-later n))
 
-accepted-forty : (rec : List ℕ) (q : Plan) → Accepts rec q → (b : ℕ) → b < q .blocks → level q b ≤ 40
-accepted-forty rec q a b h =
+accepted-low : (rec : Words) (q : Plan) → Accepts rec q → (b : ℕ) → b < q .blocks → level q b ≤ 2 * highest (rec .edition)
+unfolding fieldsUnder fieldsAt
+accepted-low rec q a b h =
     let l = accepts-layout rec q a in
     let e = a .plan ∙ accepted-plan rec (layoutOf rec) l in
-    rw e (level-forty (fieldsIn rec) (keeps (fieldsIn rec) _ (accepted-kept rec (layoutOf rec) l)) b (rw e at h))
+    rw e (level-low (fieldsIn rec) (keeps (fieldsIn rec) _ (accepted-kept rec (layoutOf rec) l)) b (rw e at h))
 
 -- ---- the law
 
-module _ (rec : List ℕ) (q : Plan) (accepted : Accepts rec q) (m d page : List ℕ) (payload : Payload q m d) (lent : length page ≡ q .size)
+module _ (rec : Words) (q : Plan) (accepted : Accepts rec q) (m d page : List ℕ) (payload : Payload q m d) (lent : length page ≡ q .size)
     (b : ℕ) (inside : b < q .blocks) (ecc : ℕ) (ps : List (List ℕ)) (given : InPieces q (m ++ d) b ecc ps) where
-  low : ecc ≤ 20
-  low = let h = accepted-forty rec q accepted b inside in omega (arith, given .twice)
+  low : ecc ≤ highest (rec .edition)
+  low = let h = accepted-low rec q accepted b inside in omega (arith, given .twice)
+
+  known : offered (rec .edition) ≡ true
+  known = accepted-taken rec (layoutOf rec) (accepts-layout rec q accepted) .edition
 
   size : 8 * length (joined ps) ≡ bits q b
   unfolding bitsOf
   size = sym (run-length (bitOf (joined ps)) 0 (8 * length (joined ps))) ∙ ap length (given .bits) ∙ message-length q (m ++ d) b
 
   -- a start accepts the block
-  right : startReply (field q b) ecc (length (joined ps)) ≡ 0
+  right : startReply (rec .edition) (field q b) ecc (length (joined ps)) ≡ 0
   right = let v = accepts-valid rec q accepted in let c = v .sums b in let t = given .twice in let n = size in let f = v .filled b inside in elim (decLt 0 ecc) [
-    | no h ↦ sym (reply-plain (field q b) ecc (length (joined ps)) low (omega arith) (omega arith))
+    | no h ↦ sym (reply-plain (rec .edition) (field q b) ecc (length (joined ps)) low (omega arith) (omega arith))
     | yes h ↦ (let s = v .short b inside (omega arith) in
         let e : degree (field q b) * level q b ≡ degree (field q b) * (2 * ecc) = ap (λ x. degree (field q b) * x) t in
-        sym (reply-right (field q b) ecc (length (joined ps)) low (omega arith) h (omega arith)))
+        sym (reply-right (rec .edition) (field q b) ecc (length (joined ps)) low (omega arith) h (omega arith)))
   ]
 
   -- what stands in the stream of the page after the message
@@ -80,15 +87,15 @@ module _ (rec : List ℕ) (q : Plan) (accepted : Accepts rec q) (m d page : List
       ∙ drop-at (message q (m ++ d) b) _ (bits q b) (message-length q (m ++ d) b)
 
   module _ (s : State) (buffer : List ℕ) (room : length buffer ≡ bytesFor (degree (field q b) * level q b)) where
-    ended : finished s (field q b) ecc ps buffer
+    ended : finished s (rec .edition) (field q b) ecc ps buffer
         ≡ calls.finished (answered 0 (stateOf (field q b) ecc (length (joined ps)) (joined ps))) (parityIn (field q b) (2 * ecc) (joined ps))
     unfolding finished
-    ended = cutting (field q b) ecc (length (joined ps)) right s ps buffer refl (rw (given .twice) at room)
+    ended = cutting (rec .edition) (field q b) ecc (length (joined ps)) known right s ps buffer refl (rw (given .twice) at room)
 
     -- Finishing answers 0, and the last mt bits of the buffer are those that stand in the stream of the page after the message.
-    pub pieces-done : finished s (field q b) ecc ps buffer .reply ≡ 0
+    pub pieces-done : finished s (rec .edition) (field q b) ecc ps buffer .reply ≡ 0
     pieces-done = rw ended (unfold calls.finished in refl)
 
-    pub parity-after-message : run (bitOf (finished s (field q b) ecc ps buffer .parity)) (8 * length buffer - degree (field q b) * level q b) (degree (field q b) * level q b)
+    pub parity-after-message : run (bitOf (finished s (rec .edition) (field q b) ecc ps buffer .parity)) (8 * length buffer - degree (field q b) * level q b) (degree (field q b) * level q b)
         ≡ run (streamBit (q .mark) (writeOf rec m d page .page)) (start q b + bits q b) (degree (field q b) * level q b)
-    parity-after-message = rw (stands, ended, room, ← given .bits, given .twice) (unfold calls.finished in parity-last (field q b) ecc (joined ps) (let h = low in omega arith))
+    parity-after-message = rw (stands, ended, room, ← given .bits, given .twice) (unfold calls.finished in parity-last (field q b) ecc (joined ps) (omega (arith, low, highest-small (rec .edition))))

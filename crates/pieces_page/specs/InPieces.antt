@@ -1,7 +1,8 @@
 -- A block of a page whose message arrives in pieces (document 02, E4).
 --
 -- InPieces q payload b ecc ps      the pieces are the message of block b, bit for bit, and ecc is the block's level field
--- finished s f ecc ps buffer       a start in the field f with the length of the message, the pieces one after the other, and a finish
+-- finished s edition f ecc ps buffer    a start in the field f under the edition with the length of the message, the pieces one after the
+--                                  other, and a finish
 use mathlib.Core.Path.{_≡_}
 use mathlib.Core.List.{List}
 use Prim.Native.Nat.{ℕ, _*_}
@@ -20,5 +21,5 @@ pub record InPieces (q : Plan) (payload : List ℕ) (b ecc : ℕ) (ps : List (Li
   pub twice : level q b ≡ 2 * ecc
   pub bits : bitsOf (joined ps) ≡ message q payload b
 
-unfoldable pub finished : State → Field → ℕ → List (List ℕ) → List ℕ → Finished
-finished s f ecc ps buffer = finishOf (feeds (startOf s ecc (choiceOf f) (length (joined ps)) .state) ps) buffer
+unfoldable pub finished : State → ℕ → Field → ℕ → List (List ℕ) → List ℕ → Finished
+finished s edition f ecc ps buffer = finishOf (feeds (startOf s edition ecc (choiceOf f) (length (joined ps)) .state) ps) buffer

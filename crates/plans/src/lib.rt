@@ -73,14 +73,21 @@ fn reason(out: &mut [u8; 32768], fields: Fields, reason: Reason) {
 }
 
 // A refusal of a layout, a page bit or a code bit.
-pub fn refused(out: &mut [u8; 32768], record: &[u8; 12], refusal: Refusal, range: &[u8]) {
+pub fn refused(
+    out: &mut [u8; 32768],
+    edition: u64,
+    record: &[u8; 12],
+    refusal: Refusal,
+    range: &[u8],
+) {
     say::reply(out, layout::refusal_reply(refusal));
     match refusal {
+        Refusal::Edition => say::put(out, b"there is no such edition, only 1 and 2\n"),
         Refusal::RecordLength => say::put(
             out,
             b"the layout record has not eight or twelve bytes\n",
         ),
-        Refusal::Rule(r) => reason(out, layout::fields_of(record), r),
+        Refusal::Rule(r) => reason(out, layout::fields_of(edition, record), r),
         Refusal::Range => say::put(out, range),
     }
 }
@@ -97,13 +104,13 @@ pub fn plan_of_words(out: &mut [u8; 32768], options: Options) -> Planned {
         return Planned::Not;
     };
     let record = arguments::record_of(words);
-    match layout::check_layout(&record) {
+    match layout::check_layout(words.edition, &record) {
         Acceptance::Accepted(l) => Planned::Under {
             words: words,
             plan: layout::plan_of(l),
         },
         Acceptance::Refused(refusal) => {
-            refused(out, &record, refusal, b"\n");
+            refused(out, words.edition, &record, refusal, b"\n");
             Planned::Not
         }
     }

@@ -95,6 +95,7 @@ pub fn fill_place(run: Run, plan: Plan, totals: Totals, counts: &[u8; 256]) -> T
 // saved of it put there.
 fn refused(
     out: &mut [u8; 32768],
+    edition: u64,
     record: &[u8],
     plan: Plan,
     run: Run,
@@ -113,12 +114,13 @@ fn refused(
     if run.list < 0 {
         return fill_place(run, plan, totals, counts);
     }
-    saving::save(out, record, plan, run, totals, page, n, counts)
+    saving::save(out, edition, record, plan, run, totals, page, n, counts)
 }
 
 // Reads a page of a dump, of which the first n bytes of the buffer are there.
 pub fn read_next(
     out: &mut [u8; 32768],
+    edition: u64,
     record: &[u8],
     plan: Plan,
     run: Run,
@@ -130,6 +132,7 @@ pub fn read_next(
     counts: &mut [u8; 256],
 ) -> Totals {
     match page_lines::read_into(
+        edition,
         record,
         plan,
         totals::wants(run),
@@ -144,6 +147,7 @@ pub fn read_next(
         }
         Answer::Refused(refusal) => refused(
             out,
+            edition,
             record,
             plan,
             run,
@@ -164,6 +168,7 @@ pub fn fill(fd: i32, buffer: &mut [u8], size: usize, from: usize) -> Filled {
 // The next page of a dump, of which the buffer may have the first byte already.
 fn next(
     out: &mut [u8; 32768],
+    edition: u64,
     record: &[u8],
     plan: Plan,
     run: Run,
@@ -184,6 +189,7 @@ fn next(
     }
     read_next(
         out,
+        edition,
         record,
         plan,
         run,
@@ -199,6 +205,7 @@ fn next(
 // Reads the pages of a dump that are left after the first ones.
 pub fn pages(
     out: &mut [u8; 32768],
+    edition: u64,
     record: &[u8],
     plan: Plan,
     run: Run,
@@ -212,7 +219,18 @@ pub fn pages(
     let mut turns = streams::left(u64::MAX, first.more);
     while 0 < turns {
         totals = progress(plan, run, totals);
-        totals = next(out, record, plan, run, totals, page, metadata, data, counts);
+        totals = next(
+            out,
+            edition,
+            record,
+            plan,
+            run,
+            totals,
+            page,
+            metadata,
+            data,
+            counts,
+        );
         turns = streams::left(turns, totals.more);
     }
     totals

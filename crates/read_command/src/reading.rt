@@ -94,6 +94,7 @@ fn run_outputs(
     out: &mut [u8; 32768],
     command: Command,
     options: Options,
+    edition: u64,
     record: &[u8],
     plan: Plan,
     input: i32,
@@ -110,7 +111,7 @@ fn run_outputs(
         return;
     }
     let run = run_of(command, options, plan, input, m, d, l);
-    let totals = running::read_file(out, record, plan, run);
+    let totals = running::read_file(out, edition, record, plan, run);
     finishing::finish(out, run, totals, page, metadata, data, list);
 }
 
@@ -119,6 +120,7 @@ fn run_paths(
     out: &mut [u8; 32768],
     command: Command,
     options: Options,
+    edition: u64,
     record: &[u8],
     plan: Plan,
     page: &[u8],
@@ -134,6 +136,7 @@ fn run_paths(
         out,
         command,
         options,
+        edition,
         record,
         plan,
         input,
@@ -148,6 +151,7 @@ fn run_paths(
 fn read_paths(
     out: &mut [u8; 32768],
     options: Options,
+    edition: u64,
     record: &[u8],
     plan: Plan,
     page: &[u8],
@@ -165,6 +169,7 @@ fn read_paths(
         out,
         Command::Read,
         options,
+        edition,
         record,
         plan,
         page,
@@ -174,7 +179,7 @@ fn read_paths(
     );
 }
 
-fn read_under(out: &mut [u8; 32768], options: Options, record: &[u8], plan: Plan) {
+fn read_under(out: &mut [u8; 32768], options: Options, edition: u64, record: &[u8], plan: Plan) {
     let mut page = io::buffer();
     let p = os::arg(arguments::place(options.at, 2), &mut page);
     if !arguments::whole(out, b"PAGE") {
@@ -193,6 +198,7 @@ fn read_under(out: &mut [u8; 32768], options: Options, record: &[u8], plan: Plan
     read_paths(
         out,
         options,
+        edition,
         record,
         plan,
         &page[..p],
@@ -201,11 +207,15 @@ fn read_under(out: &mut [u8; 32768], options: Options, record: &[u8], plan: Plan
     );
 }
 
-// nandpage read [--mark WORD2] [--from N] [--pages M] [--quiet] [--stdout] WORD0 WORD1 PAGE METADATA DATA
+// nandpage read [--edition N] [--mark WORD2] [--from N] [--pages M] [--quiet] [--stdout] WORD0 WORD1 PAGE METADATA DATA
 pub fn read(out: &mut [u8; 32768]) {
     let options = arguments::find_options(
         out,
-        arguments::MARK + arguments::RANGE + arguments::QUIET + arguments::STDOUT,
+        arguments::MARK
+            + arguments::EDITION
+            + arguments::RANGE
+            + arguments::QUIET
+            + arguments::STDOUT,
     );
     if !options.good {
         return;
@@ -214,17 +224,23 @@ pub fn read(out: &mut [u8; 32768]) {
         out,
         options.at,
         5,
-        b"usage: nandpage read [--mark WORD2] [--from N] [--pages M] [--quiet] [--stdout] WORD0 WORD1 PAGE METADATA DATA",
+        b"usage: nandpage read [--edition N] [--mark WORD2] [--from N] [--pages M] [--quiet] [--stdout] WORD0 WORD1 PAGE METADATA DATA",
     ) {
         return;
     }
     let Planned::Under { words, plan } = plans::plan_of_words(out, options) else {
         return;
     };
-    read_under(out, options, &arguments::record_of(words), plan);
+    read_under(
+        out,
+        options,
+        words.edition,
+        &arguments::record_of(words),
+        plan,
+    );
 }
 
-fn look_under(out: &mut [u8; 32768], options: Options, record: &[u8], plan: Plan) {
+fn look_under(out: &mut [u8; 32768], options: Options, edition: u64, record: &[u8], plan: Plan) {
     let mut page = io::buffer();
     let p = os::arg(arguments::place(options.at, 2), &mut page);
     if !arguments::whole(out, b"PAGE") {
@@ -234,6 +250,7 @@ fn look_under(out: &mut [u8; 32768], options: Options, record: &[u8], plan: Plan
         out,
         Command::Look,
         options,
+        edition,
         record,
         plan,
         &page[..p],
@@ -243,11 +260,11 @@ fn look_under(out: &mut [u8; 32768], options: Options, record: &[u8], plan: Plan
     );
 }
 
-// nandpage look [--mark WORD2] [--from N] [--pages M] [--quiet] WORD0 WORD1 PAGE
+// nandpage look [--edition N] [--mark WORD2] [--from N] [--pages M] [--quiet] WORD0 WORD1 PAGE
 pub fn look(out: &mut [u8; 32768]) {
     let options = arguments::find_options(
         out,
-        arguments::MARK + arguments::RANGE + arguments::QUIET,
+        arguments::MARK + arguments::EDITION + arguments::RANGE + arguments::QUIET,
     );
     if !options.good {
         return;
@@ -256,19 +273,26 @@ pub fn look(out: &mut [u8; 32768]) {
         out,
         options.at,
         3,
-        b"usage: nandpage look [--mark WORD2] [--from N] [--pages M] [--quiet] WORD0 WORD1 PAGE",
+        b"usage: nandpage look [--edition N] [--mark WORD2] [--from N] [--pages M] [--quiet] WORD0 WORD1 PAGE",
     ) {
         return;
     }
     let Planned::Under { words, plan } = plans::plan_of_words(out, options) else {
         return;
     };
-    look_under(out, options, &arguments::record_of(words), plan);
+    look_under(
+        out,
+        options,
+        words.edition,
+        &arguments::record_of(words),
+        plan,
+    );
 }
 
 fn salvage_paths(
     out: &mut [u8; 32768],
     options: Options,
+    edition: u64,
     record: &[u8],
     plan: Plan,
     page: &[u8],
@@ -288,6 +312,7 @@ fn salvage_paths(
         out,
         Command::Salvage,
         options,
+        edition,
         record,
         plan,
         page,
@@ -297,7 +322,7 @@ fn salvage_paths(
     );
 }
 
-fn salvage_under(out: &mut [u8; 32768], options: Options, record: &[u8], plan: Plan) {
+fn salvage_under(out: &mut [u8; 32768], options: Options, edition: u64, record: &[u8], plan: Plan) {
     let mut page = io::buffer();
     let p = os::arg(arguments::place(options.at, 2), &mut page);
     if !arguments::whole(out, b"PAGE") {
@@ -316,6 +341,7 @@ fn salvage_under(out: &mut [u8; 32768], options: Options, record: &[u8], plan: P
     salvage_paths(
         out,
         options,
+        edition,
         record,
         plan,
         &page[..p],
@@ -324,11 +350,11 @@ fn salvage_under(out: &mut [u8; 32768], options: Options, record: &[u8], plan: P
     );
 }
 
-// nandpage salvage [--mark WORD2] [--raw] [--from N] [--pages M] [--quiet] WORD0 WORD1 PAGE METADATA DATA LIST
+// nandpage salvage [--edition N] [--mark WORD2] [--raw] [--from N] [--pages M] [--quiet] WORD0 WORD1 PAGE METADATA DATA LIST
 pub fn salvage(out: &mut [u8; 32768]) {
     let options = arguments::find_options(
         out,
-        arguments::MARK + arguments::RAW + arguments::RANGE + arguments::QUIET,
+        arguments::MARK + arguments::EDITION + arguments::RAW + arguments::RANGE + arguments::QUIET,
     );
     if !options.good {
         return;
@@ -337,12 +363,18 @@ pub fn salvage(out: &mut [u8; 32768]) {
         out,
         options.at,
         6,
-        b"usage: nandpage salvage [--mark WORD2] [--raw] [--from N] [--pages M] [--quiet] WORD0 WORD1 PAGE METADATA DATA LIST",
+        b"usage: nandpage salvage [--edition N] [--mark WORD2] [--raw] [--from N] [--pages M] [--quiet] WORD0 WORD1 PAGE METADATA DATA LIST",
     ) {
         return;
     }
     let Planned::Under { words, plan } = plans::plan_of_words(out, options) else {
         return;
     };
-    salvage_under(out, options, &arguments::record_of(words), plan);
+    salvage_under(
+        out,
+        options,
+        words.edition,
+        &arguments::record_of(words),
+        plan,
+    );
 }

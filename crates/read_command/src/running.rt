@@ -25,6 +25,7 @@ fn done(out: &mut [u8; 32768], run: Run, plan: Plan, totals: Totals, counts: &[u
 // A file of at most one page, of n bytes. A page that is refused leaves the files as they are.
 fn single(
     out: &mut [u8; 32768],
+    edition: u64,
     record: &[u8],
     plan: Plan,
     run: Run,
@@ -36,6 +37,7 @@ fn single(
 ) -> Totals {
     let totals = totals::start(run.began);
     match page_lines::read_into(
+        edition,
         record,
         plan,
         totals::wants(run),
@@ -76,6 +78,7 @@ fn pass(run: Run, plan: Plan, page: &mut [u8]) -> Passed {
 // The pages of a dump that the options ask for, after those before them were passed over.
 fn range(
     out: &mut [u8; 32768],
+    edition: u64,
     record: &[u8],
     plan: Plan,
     run: Run,
@@ -88,6 +91,7 @@ fn range(
     match pass(run, plan, page) {
         Passed::All => totals::some(dumping::pages(
             out,
+            edition,
             record,
             plan,
             run,
@@ -105,6 +109,7 @@ fn range(
 // The whole file. One byte more than a page is read first, so that a longer file is known.
 fn whole(
     out: &mut [u8; 32768],
+    edition: u64,
     record: &[u8],
     plan: Plan,
     run: Run,
@@ -119,10 +124,22 @@ fn whole(
         return totals::broken(start, Failed::Page);
     };
     if n <= size {
-        return single(out, record, plan, run, page, n, metadata, data, counts);
+        return single(
+            out,
+            edition,
+            record,
+            plan,
+            run,
+            page,
+            n,
+            metadata,
+            data,
+            counts,
+        );
     }
     let first = dumping::read_next(
         out,
+        edition,
         record,
         plan,
         run,
@@ -135,11 +152,28 @@ fn whole(
     );
     carry(page, size);
     let next = totals::carrying(first);
-    dumping::pages(out, record, plan, run, next, page, metadata, data, counts)
+    dumping::pages(
+        out,
+        edition,
+        record,
+        plan,
+        run,
+        next,
+        page,
+        metadata,
+        data,
+        counts,
+    )
 }
 
 // Reads the file of a run: all of it, or the pages that are asked for.
-pub fn read_file(out: &mut [u8; 32768], record: &[u8], plan: Plan, run: Run) -> Totals {
+pub fn read_file(
+    out: &mut [u8; 32768],
+    edition: u64,
+    record: &[u8],
+    plan: Plan,
+    run: Run,
+) -> Totals {
     let mut page = io::large_buffer();
     let mut metadata = [0u8; 256];
     let mut data = io::large_buffer();
@@ -147,6 +181,7 @@ pub fn read_file(out: &mut [u8; 32768], record: &[u8], plan: Plan, run: Run) -> 
     if run.dump {
         return range(
             out,
+            edition,
             record,
             plan,
             run,
@@ -158,6 +193,7 @@ pub fn read_file(out: &mut [u8; 32768], record: &[u8], plan: Plan, run: Run) -> 
     }
     whole(
         out,
+        edition,
         record,
         plan,
         run,

@@ -107,6 +107,7 @@ fn stored(
 // Saves what can be saved of a page, of which the first n bytes of the buffer are there.
 pub fn save(
     out: &mut [u8; 32768],
+    edition: u64,
     record: &[u8],
     plan: Plan,
     run: Run,
@@ -118,6 +119,7 @@ pub fn save(
     let mut metadata = [255u8; 256];
     let mut data = [255u8; 65536];
     if salvage::salvage(
+        edition,
         record,
         plan,
         run.raw,

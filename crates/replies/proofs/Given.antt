@@ -8,7 +8,7 @@
 -- exactly                               so a call that answers by its list of rules answers exactly then
 -- append-kept, append-refused           two lists one after the other: the second decides where the first is kept
 -- follows-done, follows-next, follows-here     what the rules give, one after the other
--- smallest, smallest-after              in a list whose turns never fall, the first left out or not, the first turn of those that apply wins
+-- smallest, smallest-after              in a list whose turns never fall, after others that do not apply or not, the first turn of those that apply wins
 -- turn-smallest                         which is the smallest number, 11 aside
 use mathlib.Core.Path.{_≡_, refl, sym, ap, _∙_}
 use mathlib.Core.Bool.{Bool, true, false, cond, true≢false}
@@ -221,8 +221,8 @@ pub smallest : (rules : List Rule) → ascending rules ≡ true → (before afte
     → rules ≡ before ++ (rule true why ∷ after) → turn (reply rules) ≤ turn (number why)
 smallest rules up before after why e = rw e (smallest-in after why before (rw e at up))
 
--- The same after one rule that is looked at first and does not apply.
-pub smallest-after : (first : Rule) (rules : List Rule) → ascending rules ≡ true → first .applies ≡ false
-    → (before after : List Rule) (why : Refusal) → rules ≡ before ++ (rule true why ∷ after) → turn (reply (first ∷ rules)) ≤ turn (number why)
+-- The same after rules that are looked at first and do not apply.
+pub smallest-after : (first rules : List Rule) → None first → ascending rules ≡ true
+    → (before after : List Rule) (why : Refusal) → rules ≡ before ++ (rule true why ∷ after) → turn (reply (first ++ rules)) ≤ turn (number why)
 unfolding reply
-smallest-after first rules up kept before after why e = rw (verdict-kept first rules kept) (smallest rules up before after why e)
+smallest-after first rules kept up before after why e = rw (append-kept first rules kept) (smallest rules up before after why e)

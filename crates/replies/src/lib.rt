@@ -2,9 +2,15 @@
 //
 //   refusal_number    the number of a refusal in the table; reply 0, done, is none of them
 //   refusal_block     the block that goes with it
+//   offered           whether there is such an edition (document 02, E13)
+//   highest           the highest level field of an edition
 //
 // Every call of the library that refuses answers one of these. specs/Replies.antt has the table, and says of a list of rules which
-// of them gives the reply.
+// of them gives the reply. Every call that takes a layout record or a level field takes the edition beside it.
+mod edition;
+
+pub use edition::highest;
+pub use edition::offered;
 ghost use mathlib.Core.Path.{_≡_};
 ghost use Rattle.replies.specs.Replies.{number, block};
 

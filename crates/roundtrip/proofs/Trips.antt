@@ -14,6 +14,7 @@ use Rattle.bits.proofs.Pages.{bytes-length, bytes-bytes, bytes-bit}
 use Rattle.replies.specs.declared.Refusal.{Refusal}
 use Rattle.replies.specs.Replies.{number}
 use Rattle.replies.proofs.Given.{number-positive}
+use Rattle.layout.specs.Record.{Words}
 use Rattle.layout.specs.declared.Plan.{Plan}
 use Rattle.layout.specs.declared.Layout.{Layout}
 use Rattle.layout.specs.declared.Acceptance.the-variants.{Accepted}
@@ -41,7 +42,7 @@ use Rattle.roundtrip.specs.Mask.{named, allowed, overlaid}
 use Rattle.roundtrip.specs.Round.{Round, roundEnded, Back, backEnded, backBy, backOf, roundTaken, roundRead, roundIn}
 use Rattle.roundtrip.proofs.Masks.{Allowed, allowed-each}
 
-pub accepted-plan : (rec : List ℕ) (l : Layout) → acceptance rec ≡ Accepted l → Accepts rec (planOf l)
+pub accepted-plan : (rec : Words) (l : Layout) → acceptance rec ≡ Accepted l → Accepts rec (planOf l)
 accepted-plan rec l e =
     let h = accepted-accepts rec l e in
     let f = sym e ∙ accepts-layout rec _ h in
@@ -61,12 +62,12 @@ write-told {r} {x} {page} b e h =
 
 -- a look that is refused ends the reading; after one that is not, the take does
 
-pub back-refused : {r : LookAnswer} {x : Refusal} {n : ℕ} {c : List ℕ} (rec page m' d' c' : List ℕ)
+pub back-refused : {r : LookAnswer} {x : Refusal} {n : ℕ} {c : List ℕ} (rec : Words) (page m' d' c' : List ℕ)
     → lookEnded (lookNumber r) (lookBlock r) c ≡ lookOf rec page c' → r ≡ look.Refused x → n ≡ number x → backEnded n m' d' c ≡ backOf rec page m' d' c'
 unfolding backOf backBy lookNumber lookBlock
 back-refused {x = x} rec page m' d' c' e f g = rw (← e, f, g, ne-eqb (number x) 0 (λ z. omega (arith, number-positive x)))
 
-pub back-taken : {r : LookAnswer} {s t : TakeAnswer} {m d c : List ℕ} (rec page m' d' c' : List ℕ)
+pub back-taken : {r : LookAnswer} {s t : TakeAnswer} {m d c : List ℕ} (rec : Words) (page m' d' c' : List ℕ)
     → lookEnded (lookNumber r) (lookBlock r) c ≡ lookOf rec page c' → r ≡ look.Done
     → takeEnded (takeNumber s) (takeBlock s) m d ≡ takeOf rec page m' d' → s ≡ t → backEnded (takeNumber t) m d c ≡ backOf rec page m' d' c'
 unfolding backOf backBy lookNumber lookBlock
@@ -124,7 +125,7 @@ pageOf-length : (q : Plan) (lent d : List ℕ) → length (pageOf q lent d) ≡ 
 unfolding pageOf
 pageOf-length q lent d = bytes-length _ (q .size)
 
-module _ (rec : List ℕ) (q : Plan) (h : Accepts rec q) (m d mask page m' d' c' : List ℕ) where
+module _ (rec : Words) (q : Plan) (h : Accepts rec q) (m d mask page m' d' c' : List ℕ) where
   -- a page that was not written
   pub trip-unwritten : {r : ℕ} {after : List ℕ} → writeEnded r 0 after ≡ writeOf rec m d page → (r ≡ 0 → ⊥)
       → roundEnded (Refused r) after m' d' c' ≡ roundIn q m d mask page m' d' c'

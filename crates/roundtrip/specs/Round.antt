@@ -14,6 +14,7 @@ use Prim.Native.Nat.{ℕ}
 use lib.ListN.{length}
 use lib.Dec.{eqb}
 use Rattle.bits.specs.Bits.{run}
+use Rattle.layout.specs.Record.{Words}
 use Rattle.layout.specs.declared.Plan.{Plan}
 use Rattle.layout.specs.declared.Acceptance.{Acceptance}
 use Rattle.layout.specs.declared.Acceptance.the-variants as layout
@@ -51,7 +52,7 @@ backBy look take metadata «data» =
     (backEnded (take .reply) (take .metadata) (take .«data») (look .counts))
     (backEnded (look .reply) metadata «data» (look .counts))
 
-unfoldable pub backOf : (rec page metadata body counts : List ℕ) → Back
+unfoldable pub backOf : (rec : Words) (page metadata body counts : List ℕ) → Back
 backOf rec page metadata body counts = backBy (lookOf rec page counts) (takeOf rec page metadata body) metadata body
 
 -- m and d are written over the page that is lent; m', d' and c' are lent to look and take into. With outputs of another length nothing is taken.
@@ -79,5 +80,5 @@ unfoldable pub roundFor : Acceptance → (m d mask page m' d' c' : List ℕ) →
 roundFor (layout.Accepted l) m d mask page m' d' c' = roundIn (planOf l) m d mask page m' d' c'
 roundFor (layout.Refused r) m d mask page m' d' c' = roundEnded (Refused (refusalReply r)) page m' d' c'
 
-unfoldable pub roundOf : (rec m d mask page m' d' c' : List ℕ) → Round
+unfoldable pub roundOf : (rec : Words) (m d mask page m' d' c' : List ℕ) → Round
 roundOf rec m d mask page m' d' c' = roundFor (acceptance rec) m d mask page m' d' c'

@@ -15,16 +15,17 @@ use page_write::WriteAnswer;
 use page_write::write_page;
 use replies::refusal_number;
 ghost use mathlib.Core.Path.{_≡_};
+ghost use Rattle.layout.specs.Record.{wordsOf};
 ghost use Rattle.page_theory.specs.Damage.{Accepts};
 ghost use Rattle.page_theory.specs.Calls.{writeEnded, writeOf};
 ghost use Rattle.roundtrip.specs.Round.{backEnded, backOf, roundEnded, roundIn, roundOf};
 
 // Writes a page. The result is the reply.
-fn write(words: &[u8], metadata: &[u8], data: &[u8], page: &mut [u8]) -> u8
+fn write(edition: u64, words: &[u8], metadata: &[u8], data: &[u8], page: &mut [u8]) -> u8
     ensures { λ r. ⌜ writeEnded r 0 (now (page .exit))
-        ≡ writeOf (now (words .entry)) (now (metadata .entry)) (now («data» .entry)) (now (page .entry)) ⌝ }
+        ≡ writeOf (wordsOf edition (now (words .entry))) (now (metadata .entry)) (now («data» .entry)) (now (page .entry)) ⌝ }
 {
-    match write_page(words, metadata, data, page) {
+    match write_page(edition, words, metadata, data, page) {
         WriteAnswer::Done => 0,
         WriteAnswer::Refused(refusal) => refusal_number(refusal),
     }
@@ -32,6 +33,7 @@ fn write(words: &[u8], metadata: &[u8], data: &[u8], page: &mut [u8]) -> u8
 
 // Looks at a page, and takes it where it is not refused. The result is the reply of the last call.
 fn read_back(
+    edition: u64,
     words: &[u8],
     page: &[u8],
     metadata: &mut [u8],
@@ -39,11 +41,11 @@ fn read_back(
     counts: &mut [u8],
 ) -> u8
     ensures { λ r. ⌜ backEnded r (now (metadata .exit)) (now («data» .exit)) (now (counts .exit))
-        ≡ backOf (now (words .entry)) (now (page .entry)) (now (metadata .entry)) (now («data» .entry)) (now (counts .entry)) ⌝ }
+        ≡ backOf (wordsOf edition (now (words .entry))) (now (page .entry)) (now (metadata .entry)) (now («data» .entry)) (now (counts .entry)) ⌝ }
 {
-    match look_page(words, page, counts) {
+    match look_page(edition, words, page, counts) {
         LookAnswer::Refused(refusal) => refusal_number(refusal),
-        LookAnswer::Done => match take_page(words, page, metadata, data) {
+        LookAnswer::Done => match take_page(edition, words, page, metadata, data) {
             TakeAnswer::Done => 0,
             TakeAnswer::Refused(why) => refusal_number(why),
         },
@@ -53,6 +55,7 @@ fn read_back(
 // The round trip under a plan.
 fn round_in(
     plan: Plan,
+    edition: u64,
     words: &[u8],
     metadata: &[u8],
     data: &[u8],
@@ -62,12 +65,12 @@ fn round_in(
     data_out: &mut [u8],
     counts: &mut [u8],
 ) -> RoundTrip
-    requires { ⌜ Accepts (now words) plan ⌝ }
+    requires { ⌜ Accepts (wordsOf edition (now words)) plan ⌝ }
     ensures { λ r. ⌜ roundEnded r (now (page .exit)) (now («metadata_out» .exit)) (now («data_out» .exit)) (now (counts .exit))
         ≡ roundIn plan (now (metadata .entry)) (now («data» .entry)) (now (mask .entry)) (now (page .entry))
         (now («metadata_out» .entry)) (now («data_out» .entry)) (now (counts .entry)) ⌝ }
 {
-    let written = write(words, metadata, data, page);
+    let written = write(edition, words, metadata, data, page);
     if written != 0 {
         return RoundTrip::Refused(written);
     }
@@ -75,7 +78,7 @@ fn round_in(
         return RoundTrip::Mask;
     }
     flip_by(mask, page);
-    let reply = read_back(words, page, metadata_out, data_out, counts);
+    let reply = read_back(edition, words, page, metadata_out, data_out, counts);
     if reply != 0 {
         return RoundTrip::Refused(reply);
     }
@@ -84,6 +87,7 @@ fn round_in(
 
 // Writes a page, flips the bits that a mask names, looks at the page, and takes it.
 pub fn round_trip(
+    edition: u64,
     words: &[u8],
     metadata: &[u8],
     data: &[u8],
@@ -94,13 +98,14 @@ pub fn round_trip(
     counts: &mut [u8],
 ) -> RoundTrip
     ensures { λ r. ⌜ roundEnded r (now (page .exit)) (now («metadata_out» .exit)) (now («data_out» .exit)) (now (counts .exit))
-        ≡ roundOf (now (words .entry)) (now (metadata .entry)) (now («data» .entry)) (now (mask .entry)) (now (page .entry))
+        ≡ roundOf (wordsOf edition (now (words .entry))) (now (metadata .entry)) (now («data» .entry)) (now (mask .entry)) (now (page .entry))
         (now («metadata_out» .entry)) (now («data_out» .entry)) (now (counts .entry)) ⌝ }
 {
-    match check_layout(words) {
+    match check_layout(edition, words) {
         Acceptance::Accepted(layout) => {
             round_in(
                 plan_of(layout),
+                edition,
                 words,
                 metadata,
                 data,

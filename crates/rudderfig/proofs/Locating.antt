@@ -1,4 +1,4 @@
--- What locating from a remainder returns: the set has at most 40 exponents, so that its size fits the answer word; reply and size come back out of
+-- What locating from a remainder returns: the set has at most 62 exponents, so that its size fits the answer word; reply and size come back out of
 -- the word.
 use mathlib.Core.Path.{_≡_, refl, sym, ap, _∙_}
 use mathlib.Core.Bool.{Bool, true, false, cond}
@@ -19,6 +19,8 @@ use Rattle.bch.specs.declared.LocateAnswer.{LocateAnswer}
 use Rattle.bch.specs.declared.LocateAnswer.the-variants as answer
 use Rattle.replies.specs.declared.Refusal.{Refusal}
 use Rattle.replies.specs.Replies.{number, block}
+use Rattle.replies.specs.Edition.{offered, highest}
+use Rattle.replies.proofs.Editions.{highest-small}
 use Rattle.bch.specs.Answers.{Ended, refused, ended, levelOf, requestReply, listIn, remainderIn, locateIn, locateFor, locateOf}
 use Rattle.rudderfig.specs.Answer.{answerWord, doneWord, refusedWord}
 use Rattle.rudderfig.specs.Locating.{LocateReturns}
@@ -46,33 +48,37 @@ remainder-few f t n x places = go (ltb x (2 ^ (degree f * t)))
     go true = list-few f t n x places
     go false = omega arith
 
--- a request that gets no reply has a level of at most 40
-request-level : (f : Field) (field n remainder places : ℕ) → requestReply f field n remainder places ≡ 0 → levelOf field ≤ 40
+-- a request that gets no reply has a level of at most 62
+request-level : (edition : ℕ) (f : Field) (field n remainder places : ℕ) → requestReply edition f field n remainder places ≡ 0 → levelOf field ≤ 62
 unfolding requestReply levelOf
-request-level f field n remainder places h = go (leb field 20) _ refl h
+request-level edition f field n remainder places h = go (leb field (highest edition)) _ refl h
   where
-    go : (b : Bool) (rest : ℕ) → leb field 20 ≡ b → cond b rest 1 ≡ 0 → 2 * field ≤ 40
-    go true rest e k = omega (arith, leb-true field 20 e)
+    go : (b : Bool) (rest : ℕ) → leb field (highest edition) ≡ b → cond b rest 1 ≡ 0 → 2 * field ≤ 62
+    go true rest e k = omega (arith, leb-true field (highest edition) e, highest-small edition)
     go false rest e k = absurd (omega arith)
 
-locate-in-few : (f : Field) (field n : ℕ) (remainder places : List ℕ) → locateIn f field n remainder places .size ≤ 40
+locate-in-few : (edition : ℕ) (f : Field) (field n : ℕ) (remainder places : List ℕ) → locateIn edition f field n remainder places .size ≤ 62
 unfolding locateIn
-locate-in-few f field n remainder places = go (eqb reply 0) _ refl (remainder-few f (levelOf field) n _ places)
+locate-in-few edition f field n remainder places = go (eqb reply 0) _ refl (remainder-few f (levelOf field) n _ places)
   where
     reply : ℕ
-    reply = requestReply f field n (length remainder) (length places)
+    reply = requestReply edition f field n (length remainder) (length places)
 
-    go : (b : Bool) (w : Ended) → eqb reply 0 ≡ b → w .size ≤ levelOf field → cond b w (refused reply places) .size ≤ 40
-    go true w e h = omega (arith, request-level f field n (length remainder) (length places) (eqb-true _ _ e))
+    go : (b : Bool) (w : Ended) → eqb reply 0 ≡ b → w .size ≤ levelOf field → cond b w (refused reply places) .size ≤ 62
+    go true w e h = omega (arith, request-level edition f field n (length remainder) (length places) (eqb-true _ _ e))
     go false w e h = omega arith
 
-pub locate-few : (field choice n : ℕ) (remainder places : List ℕ) → locateOf field choice n remainder places .size ≤ 40
+pub locate-few : (edition field choice n : ℕ) (remainder places : List ℕ) → locateOf edition field choice n remainder places .size ≤ 62
 unfolding locateOf locateFor
-locate-few field choice n remainder places = go (chosen choice)
+locate-few edition field choice n remainder places = under (offered edition)
   where
-    go : (c : Choice) → locateFor c field n remainder places .size ≤ 40
-    go (Offered f) = locate-in-few f field n remainder places
+    go : (c : Choice) → locateFor edition c field n remainder places .size ≤ 62
+    go (Offered f) = locate-in-few edition f field n remainder places
     go Unknown = omega arith
+
+    under : (b : Bool) → cond b (locateFor edition (chosen choice) field n remainder places) (refused 7 places) .size ≤ 62
+    under true = go (chosen choice)
+    under false = omega arith
 
 -- locating ends with a small reply, about block 0, and after a refusal with no set
 record Ends (w : Ended) : Type 0 where
@@ -80,10 +86,10 @@ record Ends (w : Ended) : Type 0 where
   first : w .block ≡ 0
   none : 0 < w .reply → w .size ≡ 0
 
-request-low : (f : Field) (field n remainder places : ℕ) → requestReply f field n remainder places < 256
+request-low : (edition : ℕ) (f : Field) (field n remainder places : ℕ) → requestReply edition f field n remainder places < 256
 unfolding requestReply
-request-low f field n remainder places =
-    go (leb field 20) (ltb 0 field) (ltb (degree f * levelOf field) n) (leb n (longest f)) (eqb remainder (bytesFor (degree f * levelOf field))) (leb (levelOf field) places)
+request-low edition f field n remainder places =
+    go (leb field (highest edition)) (ltb 0 field) (ltb (degree f * levelOf field) n) (leb n (longest f)) (eqb remainder (bytesFor (degree f * levelOf field))) (leb (levelOf field) places)
   where
     go : (a b c d e g : Bool) → cond a (cond b (cond c (cond d (cond e (cond g 0 6) 6) 3) 2) 2) 1 < 256
     go true true true true true true = omega arith
@@ -110,33 +116,38 @@ remainder-ends f t n x places = go (ltb x (2 ^ (degree f * t)))
     go true = list-ends (locate f t n x) places
     go false = refused-ends 8 places (omega arith)
 
-locate-in-ends : (f : Field) (field n : ℕ) (remainder places : List ℕ) → Ends (locateIn f field n remainder places)
+locate-in-ends : (edition : ℕ) (f : Field) (field n : ℕ) (remainder places : List ℕ) → Ends (locateIn edition f field n remainder places)
 unfolding locateIn
-locate-in-ends f field n remainder places = go (eqb reply 0) _ (remainder-ends f (levelOf field) n _ places)
+locate-in-ends edition f field n remainder places = go (eqb reply 0) _ (remainder-ends f (levelOf field) n _ places)
   where
     reply : ℕ
-    reply = requestReply f field n (length remainder) (length places)
+    reply = requestReply edition f field n (length remainder) (length places)
 
     go : (b : Bool) (w : Ended) → Ends w → Ends (cond b w (refused reply places))
     go true w h = h
-    go false w h = refused-ends reply places (request-low f field n (length remainder) (length places))
+    go false w h = refused-ends reply places (request-low edition f field n (length remainder) (length places))
 
-pub locate-holds : (field choice n : ℕ) (remainder places : List ℕ)
-    → let w = locateOf field choice n remainder places in Holds (w .reply) (w .block) (w .size) (answerWord (w .reply) (w .block) 0 (w .size))
+pub locate-holds : (edition field choice n : ℕ) (remainder places : List ℕ)
+    → let w = locateOf edition field choice n remainder places in Holds (w .reply) (w .block) (w .size) (answerWord (w .reply) (w .block) 0 (w .size))
 unfolding locateOf locateFor
-locate-holds field choice n remainder places = go (chosen choice)
+locate-holds edition field choice n remainder places = under (offered edition)
   where
     holds : (w : Ended) → Ends w → Holds (w .reply) (w .block) (w .size) (answerWord (w .reply) (w .block) 0 (w .size))
     holds w h = word-holds (w .size) (h .low) (omega (arith, h .first)) (h .none)
 
-    go : (c : Choice) → let w = locateFor c field n remainder places in Holds (w .reply) (w .block) (w .size) (answerWord (w .reply) (w .block) 0 (w .size))
-    go (Offered f) = holds _ (locate-in-ends f field n remainder places)
-    go Unknown = holds _ (refused-ends 7 places (omega arith))
+    go : (c : Choice) → Ends (locateFor edition c field n remainder places)
+    go (Offered f) = locate-in-ends edition f field n remainder places
+    go Unknown = refused-ends 7 places (omega arith)
+
+    under : (b : Bool) → let w = cond b (locateFor edition (chosen choice) field n remainder places) (refused 7 places) in
+        Holds (w .reply) (w .block) (w .size) (answerWord (w .reply) (w .block) 0 (w .size))
+    under true = holds _ (go (chosen choice))
+    under false = holds _ (refused-ends 7 places (omega arith))
 
 -- from what the call of the crate below ensures, and which of its answers it was
 
 module _ {a : LocateAnswer} {w : Ended} (p : List ℕ) (e : ended a p ≡ w) where
-  pub located-size : {k : ℕ} → a ≡ answer.Located k → w .size ≤ 40 → k ≤ 40
+  pub located-size : {k : ℕ} → a ≡ answer.Located k → w .size ≤ 62 → k ≤ 62
   unfolding ended
   located-size {k} h s = let z : w .size ≡ k = simp (sym e, h) in omega arith
 

@@ -8,6 +8,7 @@ use native.Mathlib.Omega.{arith}
 use lib.ListN.{length, getD}
 use lib.Dec.{eqb, ltb}
 use borrow.Author.Tests.{eqb-true, ltb-true}
+use Rattle.layout.specs.Record.{Words}
 use Rattle.layout.specs.declared.Plan.{Plan}
 use Rattle.layout.specs.declared.Acceptance.{Acceptance}
 use Rattle.layout.specs.declared.Acceptance.the-variants.{Accepted, Refused}
@@ -74,7 +75,7 @@ judge-block q page b = go (eqb (length page) (q .size)) (ltb b (q .blocks)) refl
     go true false e o = omega arith
     go false t e o = omega arith
 
-module _ (rec : List ℕ) (bytes : (i : ℕ) → getD rec i 0 < 256) where
+module _ (rec : Words) (bytes : (i : ℕ) → getD (rec .bytes) i 0 < 256) where
   look-low : (page c : List ℕ) → lookOf rec page c .block < 65536
   unfolding lookOf lookFor
   look-low page c = go (acceptance rec) refl

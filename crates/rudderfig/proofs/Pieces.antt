@@ -22,8 +22,8 @@ parity-returns a e h = record {
   parity = ap (λ (x : Finished). x .parity) e;
 }
 
-pub start-holds : (s : State) (level choice n : ℕ) → let a = startOf s level choice n in Holds (a .reply) 0 0 (answerWord (a .reply) 0 0 0)
-start-holds s level choice n = word-holds 0 (omega (arith, start-small (start-ends s level choice n .table))) (omega arith) (λ h. refl)
+pub start-holds : (s : State) (edition level choice n : ℕ) → let a = startOf s edition level choice n in Holds (a .reply) 0 0 (answerWord (a .reply) 0 0 0)
+start-holds s edition level choice n = word-holds 0 (omega (arith, start-small (start-ends s edition level choice n .table))) (omega arith) (λ h. refl)
 
 pub feed-holds : (s : State) (piece : List ℕ) → let a = feedOf s piece in Holds (a .reply) 0 0 (answerWord (a .reply) 0 0 0)
 feed-holds s piece = word-holds 0 (omega (arith, piece-small (feed-ends s piece .table))) (omega arith) (λ h. refl)

@@ -15,7 +15,7 @@ use Rattle.layout.specs.declared.Acceptance.{Acceptance}
 use Rattle.layout.specs.declared.Acceptance.the-variants.{Accepted, Refused}
 use Rattle.layout.specs.declared.BitAnswer.the-variants as bit
 use Rattle.layout.specs.declared.PositionAnswer.the-variants as position
-use Rattle.layout.specs.Record.{blockFields, fieldsAt, fieldsIn}
+use Rattle.layout.specs.Record.{Words, blockFields, fieldsAt, fieldsUnder, fieldsIn}
 use Rattle.layout.specs.Plan.{shapeWith, shapeOf, laterShape, planFor, planOf, shape, covered}
 use Rattle.layout.specs.Acceptance.{acceptance}
 use Rattle.layout.specs.Bits.{bitAnswer, bitFor, positionAnswer, positionFor}
@@ -33,13 +33,13 @@ shape-low : (metadata : ℕ) (fields : BlockFields) → metadata < 256 → field
 unfolding shapeOf shapeWith
 shape-low metadata fields m e u = let p = product-le 14 62 {a = degree (fields .gf)} {b = 2 * fields .ecc} (degree-small (fields .gf)) (omega arith) in omega arith
 
-module _ (rec : List ℕ) (bytes : (i : ℕ) → getD rec i 0 < 256) where
+module _ (rec : Words) (bytes : (i : ℕ) → getD (rec .bytes) i 0 < 256) where
   first-low : shapeOf (fieldsIn rec .metadata) (fieldsIn rec .first) .covered < 65536
-  unfolding fieldsIn fieldsAt blockFields
+  unfolding fieldsUnder fieldsAt blockFields
   first-low = shape-low _ _ (bytes 1) (omega (arith, bytes 2)) (omega (arith, bytes 2, bytes 3))
 
   later-low : laterShape (fieldsIn rec) .covered < 65536
-  unfolding fieldsIn fieldsAt blockFields
+  unfolding fieldsUnder fieldsAt blockFields
   later-low =
       ⊎-elim
       (λ (e : fieldsIn rec .nblocks ≡ 0). rw (later-none (fieldsIn rec) e) (unfold shapeWith in omega arith))
@@ -47,7 +47,7 @@ module _ (rec : List ℕ) (bytes : (i : ℕ) → getD rec i 0 < 256) where
       (eq-zero-or-pos (fieldsIn rec .nblocks))
 
   narrow : Narrow (planFor (fieldsIn rec))
-  unfolding planFor fieldsIn fieldsAt shape
+  unfolding planFor fieldsUnder fieldsAt shape
   narrow = record { blocks = omega (arith, bytes 0); size = omega (arith, bytes 4, bytes 5); covered = go }
     where
       go : (b : ℕ) → covered (planFor (fieldsIn rec)) b < 65536
@@ -65,7 +65,7 @@ pub record Located (b e : ℕ) : Type 0 where
   pub block : b < 256
   pub exponent : e < 65536
 
-module _ (rec : List ℕ) (bytes : (i : ℕ) → getD rec i 0 < 256) where
+module _ (rec : Words) (bytes : (i : ℕ) → getD (rec .bytes) i 0 < 256) where
   pub bit-low : (p b e : ℕ) → bitAnswer rec p ≡ bit.InBlock b e → Located b e
   unfolding bitAnswer bitFor
   bit-low p b e h = go (acceptance rec) refl h

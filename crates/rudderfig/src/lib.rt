@@ -33,6 +33,7 @@ use page_take::TakeAnswer;
 use page_write::WriteAnswer;
 ghost use mathlib.Core.Path.{_≡_};
 ghost use Rattle.bch.specs.Answers.{locateOf};
+ghost use Rattle.layout.specs.Record.{wordsOf};
 ghost use Rattle.layout.specs.Acceptance.{acceptance};
 ghost use Rattle.layout.specs.Bits.{bitAnswer, positionAnswer};
 ghost use Rattle.page_theory.specs.Calls.{writeOf, lookOf, takeOf, judgeOf, claimOf};
@@ -42,10 +43,10 @@ ghost use Rattle.rudderfig.specs.Pages.{WriteReturns, LookReturns, TakeR
 
 // Is this layout acceptable?
 #[no_mangle]
-pub extern "C" fn rudderfig_check_layout(words: &[u8]) -> u64
-    ensures { λ r. ⌜ r ≡ acceptanceWord (acceptance (now (words .entry))) ⌝ }
+pub extern "C" fn rudderfig_check_layout(edition: u64, words: &[u8]) -> u64
+    ensures { λ r. ⌜ r ≡ acceptanceWord (acceptance (wordsOf edition (now (words .entry)))) ⌝ }
 {
-    match layout::check_layout(words) {
+    match layout::check_layout(edition, words) {
         Acceptance::Accepted(_) => done(0, 0),
         Acceptance::Refused(refusal) => refused(layout::refusal_reply(refusal), 0),
     }
@@ -53,10 +54,10 @@ pub extern "C" fn rudderfig_check_layout(words: &[u8]) -> u64
 
 // Where does the page bit at `position` belong? Kind 0: block times 2^16 plus exponent. Kind 1: in the tail. Kind 2: in the mark.
 #[no_mangle]
-pub extern "C" fn rudderfig_locate_bit(words: &[u8], position: u64) -> u64
-    ensures { λ r. ⌜ r ≡ bitWord (bitAnswer (now (words .entry)) position) ⌝ }
+pub extern "C" fn rudderfig_locate_bit(edition: u64, words: &[u8], position: u64) -> u64
+    ensures { λ r. ⌜ r ≡ bitWord (bitAnswer (wordsOf edition (now (words .entry))) position) ⌝ }
 {
-    match page_bits::locate_bit(words, position) {
+    match page_bits::locate_bit(edition, words, position) {
         BitAnswer::InBlock { block, exponent } => done(0, 0x10000 * block as u32 + exponent as u32),
         BitAnswer::Tail => done(1, 0),
         BitAnswer::Mark => done(2, 0),
@@ -66,10 +67,15 @@ pub extern "C" fn rudderfig_locate_bit(words: &[u8], position: u64) -> u64
 
 // Where does the coefficient of x^exponent of a block lie? The value is the position.
 #[no_mangle]
-pub extern "C" fn rudderfig_bit_position(words: &[u8], block: u64, exponent: u64) -> u64
-    ensures { λ r. ⌜ r ≡ positionWord (positionAnswer (now (words .entry)) block exponent) ⌝ }
+pub extern "C" fn rudderfig_bit_position(
+    edition: u64,
+    words: &[u8],
+    block: u64,
+    exponent: u64,
+) -> u64
+    ensures { λ r. ⌜ r ≡ positionWord (positionAnswer (wordsOf edition (now (words .entry))) block exponent) ⌝ }
 {
-    match page_bits::bit_position(words, block, exponent) {
+    match page_bits::bit_position(edition, words, block, exponent) {
         PositionAnswer::Position(position) => done(0, position as u32),
         PositionAnswer::Refused(refusal) => refused(layout::refusal_reply(refusal), 0),
     }
@@ -78,15 +84,16 @@ pub extern "C" fn rudderfig_bit_position(words: &[u8], block: u64, exponent: u64
 // Writes a page from metadata and data.
 #[no_mangle]
 pub extern "C" fn rudderfig_write_page(
+    edition: u64,
     words: &[u8],
     metadata: &[u8],
     data: &[u8],
     page: &mut [u8],
 ) -> u64
-    ensures { λ r. ⌜ WriteReturns (writeOf (now (words .entry)) (now (metadata .entry)) (now («data» .entry)) (now (page .entry)))
+    ensures { λ r. ⌜ WriteReturns (writeOf (wordsOf edition (now (words .entry))) (now (metadata .entry)) (now («data» .entry)) (now (page .entry)))
         r (now (page .exit)) ⌝ }
 {
-    match page_write::write_page(words, metadata, data, page) {
+    match page_write::write_page(edition, words, metadata, data, page) {
         WriteAnswer::Done => done(0, 0),
         WriteAnswer::Refused(refusal) => refused_by(refusal),
     }
@@ -94,10 +101,15 @@ pub extern "C" fn rudderfig_write_page(
 
 // Looks at a page: the count of each block. Reply 9 names the lowest ruined block, and the counts are written all the same.
 #[no_mangle]
-pub extern "C" fn rudderfig_look_page(words: &[u8], page: &[u8], counts: &mut [u8]) -> u64
-    ensures { λ r. ⌜ LookReturns (lookOf (now (words .entry)) (now (page .entry)) (now (counts .entry))) r (now (counts .exit)) ⌝ }
+pub extern "C" fn rudderfig_look_page(
+    edition: u64,
+    words: &[u8],
+    page: &[u8],
+    counts: &mut [u8],
+) -> u64
+    ensures { λ r. ⌜ LookReturns (lookOf (wordsOf edition (now (words .entry))) (now (page .entry)) (now (counts .entry))) r (now (counts .exit)) ⌝ }
 {
-    match page_look::look_page(words, page, counts) {
+    match page_look::look_page(edition, words, page, counts) {
         LookAnswer::Done => done(0, 0),
         LookAnswer::Refused(refusal) => refused_by(refusal),
     }
@@ -106,15 +118,16 @@ pub extern "C" fn rudderfig_look_page(words: &[u8], page: &[u8], counts: &mut [u
 // Takes metadata and data out of a page. Reply 9 names the lowest ruined block.
 #[no_mangle]
 pub extern "C" fn rudderfig_take_page(
+    edition: u64,
     words: &[u8],
     page: &[u8],
     metadata: &mut [u8],
     data: &mut [u8],
 ) -> u64
-    ensures { λ r. ⌜ TakeReturns (takeOf (now (words .entry)) (now (page .entry)) (now (metadata .entry)) (now («data» .entry)))
+    ensures { λ r. ⌜ TakeReturns (takeOf (wordsOf edition (now (words .entry))) (now (page .entry)) (now (metadata .entry)) (now («data» .entry)))
         r (now (metadata .exit)) (now («data» .exit)) ⌝ }
 {
-    match page_take::take_page(words, page, metadata, data) {
+    match page_take::take_page(edition, words, page, metadata, data) {
         TakeAnswer::Done => done(0, 0),
         TakeAnswer::Refused(refusal) => refused_by(refusal),
     }
@@ -122,10 +135,10 @@ pub extern "C" fn rudderfig_take_page(
 
 // Judges one block of a page. The value is the number of its flips; reply 9 names the block.
 #[no_mangle]
-pub extern "C" fn rudderfig_judge_block(words: &[u8], page: &[u8], block: u64) -> u64
-    ensures { λ r. ⌜ r ≡ judgeWord (judgeOf (now (words .entry)) (now (page .entry)) block) ⌝ }
+pub extern "C" fn rudderfig_judge_block(edition: u64, words: &[u8], page: &[u8], block: u64) -> u64
+    ensures { λ r. ⌜ r ≡ judgeWord (judgeOf (wordsOf edition (now (words .entry))) (now (page .entry)) block) ⌝ }
 {
-    match page_judge::judge_block(words, page, block) {
+    match page_judge::judge_block(edition, words, page, block) {
         JudgeAnswer::Flips(flips) => done(0, flips as u32),
         JudgeAnswer::Refused(refusal) => refused_by(refusal),
     }
@@ -134,14 +147,15 @@ pub extern "C" fn rudderfig_judge_block(words: &[u8], page: &[u8], block: u64) -
 // Are these error locations of a block, reported by a hardware locator, right?
 #[no_mangle]
 pub extern "C" fn rudderfig_check_claim(
+    edition: u64,
     words: &[u8],
     page: &[u8],
     block: u64,
     claims: &[u16],
 ) -> u64
-    ensures { λ r. ⌜ r ≡ claimWord (claimOf (now (words .entry)) (now (page .entry)) block (now (claims .entry))) ⌝ }
+    ensures { λ r. ⌜ r ≡ claimWord (claimOf (wordsOf edition (now (words .entry))) (now (page .entry)) block (now (claims .entry))) ⌝ }
 {
-    match page_claim::check_claim(words, page, block, claims) {
+    match page_claim::check_claim(edition, words, page, block, claims) {
         ClaimAnswer::Accepted => done(0, 0),
         ClaimAnswer::Refused(refusal) => refused(replies::refusal_number(refusal), 0),
     }
@@ -150,16 +164,17 @@ pub extern "C" fn rudderfig_check_claim(
 // From a remainder alone, which bits are wrong? The value is how many.
 #[no_mangle]
 pub extern "C" fn rudderfig_locate_errors(
+    edition: u64,
     level_field: u64,
     field_choice: u64,
     n: u64,
     remainder: &[u8],
     places: &mut [u16],
 ) -> u64
-    ensures { λ r. ⌜ LocateReturns (locateOf «level_field» «field_choice» n (now (remainder .entry)) (now (places .entry)))
+    ensures { λ r. ⌜ LocateReturns (locateOf edition «level_field» «field_choice» n (now (remainder .entry)) (now (places .entry)))
         r (now (places .exit)) ⌝ }
 {
-    match bch::locate_errors(level_field, field_choice, n, remainder, places) {
+    match bch::locate_errors(edition, level_field, field_choice, n, remainder, places) {
         LocateAnswer::Located(count) => done(0, count as u32),
         LocateAnswer::Refused(refusal) => refused_by(refusal),
     }

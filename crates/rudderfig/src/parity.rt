@@ -11,10 +11,16 @@ pub struct Worded {
 }
 
 // Starts a block, by value.
-pub fn started(state: State, level_field: u64, field_choice: u64, length: u64) -> Worded
-    ensures { λ r. ⌜ StateReturns (startOf state «level_field» «field_choice» length) (r .word) (r .state) ⌝ }
+pub fn started(
+    state: State,
+    edition: u64,
+    level_field: u64,
+    field_choice: u64,
+    length: u64,
+) -> Worded
+    ensures { λ r. ⌜ StateReturns (startOf state edition «level_field» «field_choice» length) (r .word) (r .state) ⌝ }
 {
-    let answered = pieces::value::start(state, level_field, field_choice, length);
+    let answered = pieces::value::start(state, edition, level_field, field_choice, length);
     let word = answer_word(answered.reply, 0, 0, 0);
     let next = answered.state;
     Worded {
@@ -49,18 +55,19 @@ pub fn finished(state: State, parity: &mut [u8]) -> Worded
     }
 }
 
-// Starts the parity of a block in the lent state: its level field, its field choice and the bytes of its message.
+// Starts the parity of a block in the lent state: the edition, its level field, its field choice and the bytes of its message.
 #[no_mangle]
 pub extern "C" fn rudderfig_parity_start(
     state: &mut State,
+    edition: u64,
     level_field: u64,
     field_choice: u64,
     length: u64,
 ) -> u64
-    ensures { λ r. ⌜ StateReturns (startOf (now (state .entry)) «level_field» «field_choice» length) r (now (state .exit)) ⌝ }
+    ensures { λ r. ⌜ StateReturns (startOf (now (state .entry)) edition «level_field» «field_choice» length) r (now (state .exit)) ⌝ }
 {
     let s = *state;
-    let a = started(s, level_field, field_choice, length);
+    let a = started(s, edition, level_field, field_choice, length);
     *state = a.state;
     a.word
 }

@@ -180,6 +180,7 @@ fn are_same(counts: &[u8; 256], again: &[u8; 256]) -> bool {
 
 // Reads the page with ones in place of the ruined blocks: whether that gave the same counts of the others.
 fn read_others(
+    edition: u64,
     record: &[u8],
     plan: Plan,
     page: &[u8],
@@ -188,7 +189,16 @@ fn read_others(
     counts: &[u8; 256],
 ) -> bool {
     let mut again = [0u8; 256];
-    match page_lines::read_into(record, plan, true, page, metadata, data, &mut again) {
+    match page_lines::read_into(
+        edition,
+        record,
+        plan,
+        true,
+        page,
+        metadata,
+        data,
+        &mut again,
+    ) {
         Answer::Done => are_same(counts, &again),
         Answer::Refused(_) => false,
     }
@@ -209,6 +219,7 @@ fn covered(plan: Plan, page: &[u8], work: &mut [u8], counts: &[u8; 256]) {
 
 // Puts what can be saved of a page with these counts to the front of metadata and data, and says whether that is done.
 pub fn salvage(
+    edition: u64,
     record: &[u8],
     plan: Plan,
     raw: bool,
@@ -220,7 +231,15 @@ pub fn salvage(
     let n = page.len();
     let mut work = io::large_buffer();
     covered(plan, page, text::front_mut(&mut work, n), counts);
-    if !read_others(record, plan, text::front(&work, n), metadata, data, counts) {
+    if !read_others(
+        edition,
+        record,
+        plan,
+        text::front(&work, n),
+        metadata,
+        data,
+        counts,
+    ) {
         return false;
     }
     put_all(

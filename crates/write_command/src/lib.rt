@@ -121,6 +121,7 @@ fn lay(plan: Plan, run: Run, page: &mut [u8]) -> bool {
 
 fn write_from(
     out: &mut [u8; 32768],
+    edition: u64,
     record: &[u8],
     plan: Plan,
     run: Run,
@@ -132,7 +133,7 @@ fn write_from(
     if !lay(plan, run, page) {
         return stopped(image, Failed::Page);
     }
-    match page_write::write_page(record, metadata, data, page) {
+    match page_write::write_page(edition, record, metadata, data, page) {
         WriteAnswer::Done => put(run, image, page),
         WriteAnswer::Refused(refusal) => refused(
             out,
@@ -181,6 +182,7 @@ fn is_end(image: Image, m: usize, d: usize) -> bool {
 // The next page, of which m bytes of metadata and d of data were read, or the end.
 fn write_read(
     out: &mut [u8; 32768],
+    edition: u64,
     record: &[u8],
     plan: Plan,
     run: Run,
@@ -196,6 +198,7 @@ fn write_read(
     }
     write_from(
         out,
+        edition,
         record,
         plan,
         run,
@@ -209,6 +212,7 @@ fn write_read(
 // The next page, from buffers that are as long as the metadata and the data of a page.
 fn one(
     out: &mut [u8; 32768],
+    edition: u64,
     record: &[u8],
     plan: Plan,
     run: Run,
@@ -223,12 +227,25 @@ fn one(
     let Filled::Bytes(d) = fill(run.data, data) else {
         return stopped(image, Failed::Data);
     };
-    write_read(out, record, plan, run, image, metadata, m, data, d, page)
+    write_read(
+        out,
+        edition,
+        record,
+        plan,
+        run,
+        image,
+        metadata,
+        m,
+        data,
+        d,
+        page,
+    )
 }
 
 // Writes page after page, as far as the files go.
 fn pages(
     out: &mut [u8; 32768],
+    edition: u64,
     record: &[u8],
     plan: Plan,
     run: Run,
@@ -244,18 +261,19 @@ fn pages(
     };
     let mut turns = u64::MAX;
     while 0 < turns {
-        image = one(out, record, plan, run, image, metadata, data, page);
+        image = one(out, edition, record, plan, run, image, metadata, data, page);
         turns = streams::left(turns, image.more);
     }
     image
 }
 
-fn all(out: &mut [u8; 32768], record: &[u8], plan: Plan, run: Run) -> Image {
+fn all(out: &mut [u8; 32768], edition: u64, record: &[u8], plan: Plan, run: Run) -> Image {
     let mut metadata = [0u8; 256];
     let mut data = io::large_buffer();
     let mut page = io::large_buffer();
     pages(
         out,
+        edition,
         record,
         plan,
         run,
@@ -341,6 +359,7 @@ fn standing(out: &mut [u8; 32768], plan: Plan, path: &[u8]) -> i32 {
 
 fn write_run(
     out: &mut [u8; 32768],
+    edition: u64,
     record: &[u8],
     plan: Plan,
     run: Run,
@@ -351,7 +370,7 @@ fn write_run(
     if files::is_dash(page) {
         say::to_stderr(out);
     }
-    let image = all(out, record, plan, run);
+    let image = all(out, edition, record, plan, run);
     let failed = image.failed;
     complain(out, failed, metadata, data, page);
     files::close_input(run.metadata);
@@ -362,6 +381,7 @@ fn write_run(
 
 fn write_paths(
     out: &mut [u8; 32768],
+    edition: u64,
     record: &[u8],
     plan: Plan,
     metadata: &[u8],
@@ -390,10 +410,10 @@ fn write_paths(
         page: p,
         before: b,
     };
-    write_run(out, record, plan, run, metadata, data, page);
+    write_run(out, edition, record, plan, run, metadata, data, page);
 }
 
-fn write_under(out: &mut [u8; 32768], options: Options, record: &[u8], plan: Plan) {
+fn write_under(out: &mut [u8; 32768], options: Options, edition: u64, record: &[u8], plan: Plan) {
     let mut metadata = io::buffer();
     let m = os::arg(arguments::place(options.at, 2), &mut metadata);
     if !arguments::whole(out, b"METADATA") {
@@ -409,12 +429,20 @@ fn write_under(out: &mut [u8; 32768], options: Options, record: &[u8], plan: Pla
     if !arguments::whole(out, b"PAGE") {
         return;
     }
-    write_paths(out, record, plan, &metadata[..m], &data[..d], &page[..p]);
+    write_paths(
+        out,
+        edition,
+        record,
+        plan,
+        &metadata[..m],
+        &data[..d],
+        &page[..p],
+    );
 }
 
-// nandpage write [--mark WORD2] WORD0 WORD1 METADATA DATA PAGE
+// nandpage write [--edition N] [--mark WORD2] WORD0 WORD1 METADATA DATA PAGE
 pub fn write(out: &mut [u8; 32768]) {
-    let options = arguments::find_options(out, arguments::MARK);
+    let options = arguments::find_options(out, arguments::MARK + arguments::EDITION);
     if !options.good {
         return;
     }
@@ -422,12 +450,18 @@ pub fn write(out: &mut [u8; 32768]) {
         out,
         options.at,
         5,
-        b"usage: nandpage write [--mark WORD2] WORD0 WORD1 METADATA DATA PAGE",
+        b"usage: nandpage write [--edition N] [--mark WORD2] WORD0 WORD1 METADATA DATA PAGE",
     ) {
         return;
     }
     let Planned::Under { words, plan } = plans::plan_of_words(out, options) else {
         return;
     };
-    write_under(out, options, &arguments::record_of(words), plan);
+    write_under(
+        out,
+        options,
+        words.edition,
+        &arguments::record_of(words),
+        plan,
+    );
 }

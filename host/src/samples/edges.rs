@@ -1,5 +1,5 @@
-//! The edges of the rules for erased and for ruined blocks and for marks (document 02, E1, E6 and E7), and how
-//! often a call meets them.
+//! The edges of the rules for erased and for ruined blocks, for marks and for the levels of edition 2 (document 02,
+//! E1, E6, E7 and E13), and how often a call meets them.
 
 use crate::call::Call;
 use crate::layout::{Layout, check_layout};
@@ -8,7 +8,7 @@ use crate::page::block_word;
 
 /// The edges: of a block, where t is above 0 if it is not said to be 0; of a page; of the lengths beside
 /// a page; of the mark.
-pub const EDGES: [&str; 33] = [
+pub const EDGES: [&str; 36] = [
     "erased with no zero",
     "erased with t zeros",
     "ruined with t + 1 zeros",
@@ -20,6 +20,9 @@ pub const EDGES: [&str; 33] = [
     "t = 0 and at most 3 zeros",
     "block 0 erased with metadata",
     "erased from inside a byte on",
+    "t above 40 and t flips",
+    "t above 40 and erased with t zeros",
+    "t above 40 and ruined",
     "page with blocks erased and blocks written",
     "ruined block behind an erased one",
     "only the first of several blocks ruined",
@@ -44,7 +47,7 @@ pub const EDGES: [&str; 33] = [
     "mark before the tail or inside it",
 ];
 
-const OF_BLOCK: usize = 11;
+const OF_BLOCK: usize = 14;
 const OF_PAGE: usize = 10;
 const OF_LENGTHS: usize = 2;
 /// How many edges a mark has: the last ones.
@@ -97,18 +100,28 @@ pub fn add(met: &mut [usize], edges: impl IntoIterator<Item = bool>) {
 
 /// The layout and the page of a call that decides blocks, and the block if it is one alone.
 fn decided(call: &Call) -> Option<(Layout, &[u8], Option<usize>)> {
-    let (record, page, judged) = match call {
-        Call::LookPage { record, page, .. } | Call::TakePage { record, page, .. } => {
-            (record, page, None)
+    let (edition, record, page, judged) = match call {
+        Call::LookPage {
+            edition,
+            record,
+            page,
+            ..
         }
+        | Call::TakePage {
+            edition,
+            record,
+            page,
+            ..
+        } => (edition, record, page, None),
         Call::JudgeBlock {
+            edition,
             record,
             page,
             block,
-        } => (record, page, Some(*block)),
+        } => (edition, record, page, Some(*block)),
         _ => return None,
     };
-    let layout = check_layout(record).ok()?;
+    let layout = check_layout(*edition, record).ok()?;
     let inside = judged.is_none_or(|block| block < layout.blocks() as u64);
     let fits = inside && page.len() == layout.page_length;
     fits.then_some((layout, page, judged.map(|block| block as usize)))
@@ -148,6 +161,9 @@ fn block_edges(layout: &Layout, number: usize, word: &[bool], found: &Outcome) -
         t == 0 && all <= 3,
         erased && number == 0 && layout.metadata_length > 0,
         erased && layout.start(number) % 8 != 0,
+        t > 40 && matches!(found, Outcome::Repaired { flips, .. } if *flips == t),
+        t > 40 && erased && all == t,
+        t > 40 && ruined,
     ]
 }
 

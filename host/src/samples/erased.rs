@@ -127,8 +127,8 @@ pub fn codeword_of_ones(block: Block, random: &mut Random) -> Option<Vec<usize>>
 
 /// Layouts under which every edge is met: blocks with t = 2 that are long enough for a codeword of
 /// nearly all ones, of both fields, with metadata and inside bytes; t = 0 before and after them; and
-/// the highest level.
-pub fn edge_layouts() -> [LayoutWords; 5] {
+/// the highest level of either edition.
+pub fn edge_layouts() -> [LayoutWords; 6] {
     let words = |meta_size, block0: (u8, u8, u16), later: (u8, u8, u16)| {
         let words = LayoutWords {
             nblocks: 3,
@@ -150,5 +150,6 @@ pub fn edge_layouts() -> [LayoutWords; 5] {
         words(10, (0, 0, 2), (1, 0, 14)),
         words(2, (1, 1, 17), (0, 1, 1)),
         words(5, (0x14, 0, 1), (0x14, 1, 3)),
+        words(5, (0x1F, 0, 1), (0x1F, 1, 3)),
     ]
 }

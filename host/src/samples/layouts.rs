@@ -1,5 +1,6 @@
-//! Samples of layout words and records.
+//! Samples of layout words, records and editions.
 
+use crate::edition::Edition;
 use crate::field::FieldChoice;
 use crate::layout::{Layout, LayoutWords, check_layout};
 use crate::random::Random;
@@ -24,6 +25,40 @@ pub fn records(random: &mut Random) -> Vec<Vec<u8>> {
     records.extend([0, 1, 7, 9, 12].map(|length| random.bytes(length)));
     records.extend(marks::records(&words, random));
     records
+}
+
+/// Numbers that are no edition.
+pub const NO_EDITIONS: [u64; 5] = [0, 3, 257, (1 << 32) + 2, u64::MAX];
+
+/// Editions beside level fields: both editions and a number that is none, each with the fields at the edges.
+pub fn level_edges(random: &mut Random) -> Vec<(u64, u64)> {
+    let editions = [1, 2, random.pick(&NO_EDITIONS)];
+    let fields = [0x14, 0x15, 0x1F, 0x20];
+    let beside = |edition| fields.map(|level_field| (edition, level_field));
+    editions.map(beside).concat()
+}
+
+/// The editions under which a record is tried: both where they answer differently, else one of them; and a number
+/// that is no edition beside a record of a wrong length, and now and then beside another.
+pub fn editions(record: &[u8], random: &mut Random) -> Vec<u64> {
+    let both = Edition::ALL.map(|edition| edition as u64);
+    let [first, second] = both.map(|edition| check_layout(edition, record).err());
+    let mut editions = match first == second {
+        true => vec![random.pick(&both)],
+        false => both.to_vec(),
+    };
+    if ![8, 12].contains(&record.len()) || random.chance(10) {
+        editions.push(random.pick(&NO_EDITIONS));
+    }
+    editions
+}
+
+/// An edition that accepts a layout which the second one does.
+pub fn accepting_edition(layout: &Layout, random: &mut Random) -> u64 {
+    match layout.reason(Edition::First) {
+        None => random.pick(&[1, 1, 2]),
+        Some(_) => 2,
+    }
 }
 
 /// Numbers that a library might cut short.
@@ -73,7 +108,7 @@ pub fn code_bits(layout: &Layout, random: &mut Random) -> Vec<(u64, u64)> {
     code_bits
 }
 
-/// Layout words that are accepted, with a page of at most this many bytes.
+/// Layout words that edition 2 accepts, with a page of at most this many bytes.
 pub fn accepted_words(random: &mut Random, most_page_bytes: usize) -> LayoutWords {
     loop {
         let mut words = plain_words(random, most_page_bytes);
@@ -81,14 +116,24 @@ pub fn accepted_words(random: &mut Random, most_page_bytes: usize) -> LayoutWord
         let slack = random.pick(&[0, 0, 1, 2, 9]);
         if used + slack <= most_page_bytes {
             words.page_size = (used + slack) as u16;
-            if check_layout(&words.pack()).is_ok() {
+            if check_layout(2, &words.pack()).is_ok() {
                 return words;
             }
         }
     }
 }
 
-/// Words with level fields up to 0x14 and sizes that may suit a page of this many bytes.
+/// Accepted words of a page of at most 300 bytes, with a level field above 0x14 in a block.
+pub fn strong_words(random: &mut Random) -> LayoutWords {
+    loop {
+        let words = accepted_words(random, 300);
+        if Layout::from(words).reason(Edition::First).is_some() {
+            return words;
+        }
+    }
+}
+
+/// Words with sizes that may suit a page of this many bytes.
 fn plain_words(random: &mut Random, page_bytes: usize) -> LayoutWords {
     let units = (page_bytes / 4).clamp(1, 1023);
     let nblocks = match random.below(8) {
@@ -115,10 +160,11 @@ fn plain_words(random: &mut Random, page_bytes: usize) -> LayoutWords {
     }
 }
 
-/// A level field up to 0x14; the small ones, 0 included, come often.
+/// A level field. The small ones, 0 included, come often, and one in six is of edition 2 alone.
 fn level_field(random: &mut Random) -> u8 {
-    match random.below(3) {
-        0 => random.below(3) as u8,
+    match random.below(6) {
+        0 | 1 => random.below(3) as u8,
+        2 => random.within(0x15, 0x1F) as u8,
         _ => random.below(0x15) as u8,
     }
 }
@@ -162,7 +208,7 @@ fn one_block(meta_size: u8, ecc0: u8, gf0: u8, data0_size: u16) -> LayoutWords {
     }
 }
 
-/// The cases of document 01 about layouts, and each with one field a step up or down.
+/// The cases of document 01 and of document 02, E13, about layouts, and each with one field a step up or down.
 fn document_cases() -> Vec<LayoutWords> {
     let cases = [
         CASE_A,
@@ -172,6 +218,7 @@ fn document_cases() -> Vec<LayoutWords> {
         one_block(0, 0x15, 0, 0),
         one_block(0, 0x14, 0, 0),
         one_block(1, 0x14, 0, 0),
+        one_block(3, 0x1F, 0, 230),
     ];
     cases.into_iter().flat_map(with_neighbours).collect()
 }
@@ -230,7 +277,7 @@ fn longest_blocks() -> Vec<LayoutWords> {
     let mut all = Vec::new();
     for choice in FieldChoice::ALL {
         let (field, gf) = (choice.field(), choice as u8);
-        for level in 0..=0x14 {
+        for level in 0..=0x1F {
             let bytes = match level {
                 0 => 4 * 1023 + 3,
                 _ => (field.order() - field.m * 2 * level as usize) / 8,
@@ -299,6 +346,7 @@ fn many_blocks() -> Vec<LayoutWords> {
         (0, 0, 1),
         (1, 0, 1),
         (20, 1, 1),
+        (31, 1, 1),
         (20, 0, 45),
         (0, 1, 63),
         (0, 1, 64),

@@ -5,13 +5,15 @@ use crate::call::Call;
 use crate::layout::{Layout, LayoutRecord, LayoutWords, check_layout};
 use crate::page::write_page;
 use crate::random::Random;
+use crate::samples::layouts::{NO_EDITIONS, accepting_edition};
 use crate::samples::marks::outside;
 
 /// What each byte of a lent output holds before a sampled call.
 pub const BEFORE: u8 = 0xA5;
 
-/// A layout, a payload and the page written for it.
+/// An edition and a layout that it accepts, a payload and the page written for it.
 pub struct WrittenPage {
+    pub edition: u64,
     pub record: Vec<u8>,
     pub layout: Layout,
     pub metadata: Vec<u8>,
@@ -20,15 +22,17 @@ pub struct WrittenPage {
 }
 
 impl WrittenPage {
-    /// The page of a random payload under an accepted layout.
+    /// The page of a random payload under a layout that edition 2 accepts, in either edition that does.
     pub fn new(record: impl Into<LayoutRecord>, random: &mut Random) -> WrittenPage {
         let record = record.into().pack();
-        let layout = check_layout(&record).unwrap();
+        let layout = check_layout(2, &record).unwrap();
+        let edition = accepting_edition(&layout, random);
         let metadata = random.bytes(layout.metadata_length);
         let data = random.bytes(layout.data_length());
         let mut page = vec![BEFORE; layout.page_length];
-        write_page(&record, &metadata, &data, &mut page).unwrap();
+        write_page(edition, &record, &metadata, &data, &mut page).unwrap();
         WrittenPage {
+            edition,
             record,
             layout,
             metadata,
@@ -39,6 +43,7 @@ impl WrittenPage {
 
     pub fn write(&self) -> Call {
         Call::WritePage {
+            edition: self.edition,
             record: self.record.clone(),
             metadata: self.metadata.clone(),
             data: self.data.clone(),
@@ -48,6 +53,7 @@ impl WrittenPage {
 
     pub fn look(&self, page: Vec<u8>) -> Call {
         Call::LookPage {
+            edition: self.edition,
             record: self.record.clone(),
             page,
             counts: vec![BEFORE; self.layout.blocks()],
@@ -56,6 +62,7 @@ impl WrittenPage {
 
     pub fn take(&self, page: Vec<u8>) -> Call {
         Call::TakePage {
+            edition: self.edition,
             record: self.record.clone(),
             page,
             metadata: vec![BEFORE; self.metadata.len()],
@@ -70,6 +77,7 @@ impl WrittenPage {
 
     pub fn judge(&self, page: Vec<u8>, block: usize) -> Call {
         Call::JudgeBlock {
+            edition: self.edition,
             record: self.record.clone(),
             page,
             block: block as u64,
@@ -78,6 +86,7 @@ impl WrittenPage {
 
     pub fn claim(&self, page: Vec<u8>, block: usize, claims: Vec<u16>) -> Call {
         Call::CheckClaim {
+            edition: self.edition,
             record: self.record.clone(),
             page,
             block: block as u64,
@@ -202,52 +211,66 @@ pub fn damage_tail(page: &mut [u8], layout: &Layout, random: &mut Random) {
     }
 }
 
-/// Spoils one argument of a call about a page: a buffer's length, the record or the block.
+/// Spoils one argument of a call about a page: a buffer's length, the edition, the record or the block.
 pub fn spoil(call: &mut Call, random: &mut Random) {
     match call {
         Call::WritePage {
+            edition,
             record,
             metadata,
             data,
             page,
         }
         | Call::TakePage {
+            edition,
             record,
             page,
             metadata,
             data,
-        } => match random.below(4) {
+        } => match random.below(5) {
             0 => spoil_record(record, random),
             1 => spoil_length(page, random),
             2 => spoil_length(metadata, random),
-            _ => spoil_length(data, random),
+            3 => spoil_length(data, random),
+            _ => spoil_edition(edition, random),
         },
         Call::LookPage {
+            edition,
             record,
             page,
             counts,
-        } => match random.below(4) {
+        } => match random.below(5) {
             0 => spoil_record(record, random),
             1 => spoil_length(page, random),
+            2 => spoil_edition(edition, random),
             _ => spoil_length(counts, random),
         },
         Call::JudgeBlock {
+            edition,
             record,
             page,
             block,
         }
         | Call::CheckClaim {
+            edition,
             record,
             page,
             block,
             ..
-        } => match random.below(4) {
+        } => match random.below(5) {
             0 => spoil_record(record, random),
             1 => spoil_length(page, random),
+            2 => spoil_edition(edition, random),
             _ => spoil_block(block, record, random),
         },
         _ => (),
     }
+}
+
+/// A number that is no edition, the other edition, or one that would be an edition if it were cut.
+fn spoil_edition(edition: &mut u64, random: &mut Random) {
+    let none = random.pick(&NO_EDITIONS);
+    *edition = random.pick(&[none, none, *edition ^ 3, *edition | 1 << 32]);
 }
 
 fn spoil_length(buffer: &mut Vec<u8>, random: &mut Random) {

@@ -5,9 +5,11 @@ use crate::code::bch;
 use crate::field::FieldChoice;
 use crate::pieces::STATE_WORDS;
 use crate::random::Random;
+use crate::samples::layouts::level_edges;
 
 /// A message and the code that it is taken by.
 pub struct Message {
+    edition: u64,
     choice: FieldChoice,
     level: usize,
     content: Vec<u8>,
@@ -17,7 +19,11 @@ impl Message {
     /// One of any level and field: of a byte, short, or as long as it can be.
     pub fn new(random: &mut Random) -> Message {
         let choice = random.pick(&FieldChoice::ALL);
-        let level = random.within(0, 20);
+        let level = random.within(0, 31);
+        let edition = match level {
+            ..=20 => random.pick(&[1, 1, 2]),
+            _ => 2,
+        };
         let longest = (choice.field().order() - choice.field().m * 2 * level) / 8;
         let (short, any) = (random.within(1, 40), random.within(1, longest));
         let length = match random.below(8) {
@@ -27,6 +33,7 @@ impl Message {
             _ => short,
         };
         Message {
+            edition,
             choice,
             level,
             content: random.bytes(length),
@@ -36,6 +43,7 @@ impl Message {
     pub fn start(&self, state: Vec<u64>) -> Call {
         Call::ParityStart {
             state,
+            edition: self.edition,
             level_field: self.level as u64,
             field_choice: self.choice as u64,
             length: self.content.len() as u64,
@@ -76,9 +84,26 @@ pub fn random_state(random: &mut Random) -> Vec<u64> {
     (0..STATE_WORDS).map(|_| random.number()).collect()
 }
 
+/// Starts at both sides of each edge of the level fields, with a message and with none.
+pub fn levels(random: &mut Random) -> Vec<Call> {
+    let mut starts = Vec::new();
+    for (edition, level_field) in level_edges(random) {
+        for (field_choice, length) in [(0, 9), (0, 0), (1, 9), (1, 0)] {
+            starts.push(Call::ParityStart {
+                state: random_state(random),
+                edition,
+                level_field,
+                field_choice,
+                length,
+            });
+        }
+    }
+    starts
+}
+
 /// A start at the edges of the rules, or a feed or a finish of a state that no start has made.
 pub fn spoilt(random: &mut Random) -> Call {
-    let edges = [0, 1, 19, 20, 21, 256, 1 << 32, (1 << 32) + 1, u64::MAX];
+    let edges = [0, 1, 20, 21, 31, 32, 256, 1 << 32, (1 << 32) + 1, u64::MAX];
     let mut state = random_state(random);
     let level = random.pick(&edges);
     if random.chance(3) {
@@ -86,6 +111,7 @@ pub fn spoilt(random: &mut Random) -> Call {
         let lengths = [0, 0, 0, 1, 900, 1023, 1024, 2047, 2048, 1 << 61, u64::MAX];
         return Call::ParityStart {
             state,
+            edition: random.pick(&[1, 1, 1, 2, 2, 2, 0, 3, u64::MAX]),
             level_field: level,
             field_choice,
             length: random.pick(&lengths),
@@ -97,7 +123,7 @@ pub fn spoilt(random: &mut Random) -> Call {
         state = vec![0; STATE_WORDS];
         state[4 + random.below(4)] = random.number() >> random.below(64);
     }
-    state[0] = random.below(24) as u64;
+    state[0] = random.below(35) as u64;
     state[1] = random.below(3) as u64;
     state[2] = random.below(400) as u64;
     let near = random.below(20) as u64;
@@ -113,6 +139,6 @@ pub fn spoilt(random: &mut Random) -> Call {
     if random.chance(2) {
         state[3] = state[2];
     }
-    let parity = vec![0; random.below(80)];
+    let parity = vec![0; random.below(115)];
     Call::ParityFinish { state, parity }
 }

@@ -5,6 +5,7 @@ use crate::call::Call;
 use crate::code::{Code, bch, flip_exponents};
 use crate::field::FieldChoice;
 use crate::random::Random;
+use crate::samples::layouts::{NO_EDITIONS, level_edges};
 
 /// What each place of a lent list holds before a sampled sample.
 pub const BEFORE: u16 = 0xA5A5;
@@ -12,6 +13,7 @@ pub const BEFORE: u16 = 0xA5A5;
 /// The arguments of a call; of the list only the number of places.
 #[derive(Clone)]
 pub struct Remainder {
+    pub edition: u64,
     pub level_field: u64,
     pub field_choice: u64,
     pub n: u64,
@@ -22,6 +24,7 @@ pub struct Remainder {
 impl From<Remainder> for Call {
     fn from(sample: Remainder) -> Call {
         Call::LocateErrors {
+            edition: sample.edition,
             level_field: sample.level_field,
             field_choice: sample.field_choice,
             n: sample.n,
@@ -37,7 +40,7 @@ fn right_aligned(remainder: &[bool]) -> Vec<u8> {
     bytes_of(&[&zeros, remainder].concat())
 }
 
-/// A call with this remainder and a list of t places or a few more.
+/// A call with this remainder in an edition that has the level, and a list of t places or a few more.
 fn sample(
     choice: FieldChoice,
     code: &Code,
@@ -46,6 +49,10 @@ fn sample(
     random: &mut Random,
 ) -> Remainder {
     Remainder {
+        edition: match code.t {
+            ..=40 => random.pick(&[1, 1, 2]),
+            _ => 2,
+        },
         level_field: code.t as u64 / 2,
         field_choice: choice as u64,
         n: n as u64,
@@ -143,6 +150,7 @@ pub fn document_cases() -> Vec<Remainder> {
     ];
     samples
         .map(|(level_field, n, digits)| Remainder {
+            edition: 1,
             level_field,
             field_choice: 0,
             n,
@@ -155,10 +163,29 @@ pub fn document_cases() -> Vec<Remainder> {
         .to_vec()
 }
 
+/// Calls that are done where the edition has the level field, at both sides of each edge.
+pub fn levels(random: &mut Random) -> Vec<Remainder> {
+    let mut samples = Vec::new();
+    for (edition, level_field) in level_edges(random) {
+        for choice in FieldChoice::ALL {
+            let t = 2 * level_field as usize;
+            samples.push(Remainder {
+                edition,
+                level_field,
+                field_choice: choice as u64,
+                n: choice.field().order() as u64,
+                remainder: vec![0; (choice.field().m * t).div_ceil(8)],
+                places: t,
+            });
+        }
+    }
+    samples
+}
+
 /// A call that would be done or answered 9, but for one to three arguments spoilt.
 pub fn spoilt(random: &mut Random) -> Remainder {
     let choice = random.pick(&FieldChoice::ALL);
-    let code = bch(choice, 2 * random.within(1, 0x14));
+    let code = bch(choice, 2 * random.within(1, 0x1F));
     let (parity_length, longest) = (code.parity_length(), code.field.order());
     let n = random.pick(&[parity_length + 1, longest]);
     let count = random.below(code.t + 2);
@@ -166,15 +193,19 @@ pub fn spoilt(random: &mut Random) -> Remainder {
     let remainder = remainder_of_sum(code, &exponents);
     let mut sample = sample(choice, code, n, &remainder, random);
     for _ in 0..random.within(1, 3) {
-        match random.below(7) {
+        match random.below(8) {
             0 => sample.field_choice = random.pick(&[2, 3, 256, 1 << 32, (1 << 32) + 1, u64::MAX]),
             1 => {
                 sample.level_field =
-                    random.pick(&[0, 0x15, 0x1F, 256, 257, (1 << 32) + 1, u64::MAX])
+                    random.pick(&[0, 0x15, 0x1F, 0x20, 256, 257, (1 << 32) + 1, u64::MAX])
             }
             2 => sample.n = random.pick(&[0, 1, parity_length, longest + 1]) as u64,
             3 => sample.n = random.pick(&[1 << 16, (1 << 32) + 1000, 1 << 63, u64::MAX]),
             4 => spoil_length(&mut sample, code.t, random),
+            5 => {
+                let none = random.pick(&NO_EDITIONS);
+                sample.edition = random.pick(&[none, none, 1]);
+            }
             _ => set_bit_above(&mut sample, parity_length, random),
         }
     }
@@ -197,6 +228,6 @@ fn spoil_length(sample: &mut Remainder, t: usize, random: &mut Random) {
         1 => sample.remainder.truncate(sample.remainder.len() - 1),
         2 => sample.places = t - 1,
         3 => sample.places = random.below(t),
-        _ => sample.remainder = vec![0; random.within(1, 72)],
+        _ => sample.remainder = vec![0; random.within(1, 110)],
     }
 }

@@ -38,21 +38,37 @@ impl Archive {
 // SAFETY of all calls: each pointer comes with the length of the slice it was taken from; a state has
 // as many words as struct rudderfig_parity.
 impl Library for Archive {
-    fn check_layout(&self, record: &[u8]) -> u64 {
-        unsafe { interface::rudderfig_check_layout(self.of(record), record.len()) }
+    fn check_layout(&self, edition: u64, record: &[u8]) -> u64 {
+        unsafe { interface::rudderfig_check_layout(edition, self.of(record), record.len()) }
     }
 
-    fn locate_bit(&self, record: &[u8], position: u64) -> u64 {
-        unsafe { interface::rudderfig_locate_bit(self.of(record), record.len(), position) }
+    fn locate_bit(&self, edition: u64, record: &[u8], position: u64) -> u64 {
+        unsafe { interface::rudderfig_locate_bit(edition, self.of(record), record.len(), position) }
     }
 
-    fn bit_position(&self, record: &[u8], block: u64, exponent: u64) -> u64 {
-        unsafe { interface::rudderfig_bit_position(self.of(record), record.len(), block, exponent) }
+    fn bit_position(&self, edition: u64, record: &[u8], block: u64, exponent: u64) -> u64 {
+        unsafe {
+            interface::rudderfig_bit_position(
+                edition,
+                self.of(record),
+                record.len(),
+                block,
+                exponent,
+            )
+        }
     }
 
-    fn write_page(&self, record: &[u8], metadata: &[u8], data: &[u8], page: &mut [u8]) -> u64 {
+    fn write_page(
+        &self,
+        edition: u64,
+        record: &[u8],
+        metadata: &[u8],
+        data: &[u8],
+        page: &mut [u8],
+    ) -> u64 {
         unsafe {
             interface::rudderfig_write_page(
+                edition,
                 self.of(record),
                 record.len(),
                 self.of(metadata),
@@ -65,9 +81,10 @@ impl Library for Archive {
         }
     }
 
-    fn look_page(&self, record: &[u8], page: &[u8], counts: &mut [u8]) -> u64 {
+    fn look_page(&self, edition: u64, record: &[u8], page: &[u8], counts: &mut [u8]) -> u64 {
         unsafe {
             interface::rudderfig_look_page(
+                edition,
                 self.of(record),
                 record.len(),
                 self.of(page),
@@ -78,9 +95,17 @@ impl Library for Archive {
         }
     }
 
-    fn take_page(&self, record: &[u8], page: &[u8], metadata: &mut [u8], data: &mut [u8]) -> u64 {
+    fn take_page(
+        &self,
+        edition: u64,
+        record: &[u8],
+        page: &[u8],
+        metadata: &mut [u8],
+        data: &mut [u8],
+    ) -> u64 {
         unsafe {
             interface::rudderfig_take_page(
+                edition,
                 self.of(record),
                 record.len(),
                 self.of(page),
@@ -93,9 +118,10 @@ impl Library for Archive {
         }
     }
 
-    fn judge_block(&self, record: &[u8], page: &[u8], block: u64) -> u64 {
+    fn judge_block(&self, edition: u64, record: &[u8], page: &[u8], block: u64) -> u64 {
         unsafe {
             interface::rudderfig_judge_block(
+                edition,
                 self.of(record),
                 record.len(),
                 self.of(page),
@@ -107,6 +133,7 @@ impl Library for Archive {
 
     fn locate_errors(
         &self,
+        edition: u64,
         level_field: u64,
         field_choice: u64,
         n: u64,
@@ -115,6 +142,7 @@ impl Library for Archive {
     ) -> u64 {
         unsafe {
             interface::rudderfig_locate_errors(
+                edition,
                 level_field,
                 field_choice,
                 n,
@@ -126,9 +154,17 @@ impl Library for Archive {
         }
     }
 
-    fn check_claim(&self, record: &[u8], page: &[u8], block: u64, claims: &[u16]) -> u64 {
+    fn check_claim(
+        &self,
+        edition: u64,
+        record: &[u8],
+        page: &[u8],
+        block: u64,
+        claims: &[u16],
+    ) -> u64 {
         unsafe {
             interface::rudderfig_check_claim(
+                edition,
                 self.of(record),
                 record.len(),
                 self.of(page),
@@ -164,9 +200,16 @@ impl Library for Archive {
         }
     }
 
-    fn parity_start(&self, state: &mut [u64], level: u64, choice: u64, length: u64) -> u64 {
+    fn parity_start(
+        &self,
+        state: &mut [u64],
+        edition: u64,
+        level: u64,
+        choice: u64,
+        length: u64,
+    ) -> u64 {
         let state = state.as_mut_ptr().cast();
-        unsafe { interface::rudderfig_parity_start(state, level, choice, length) }
+        unsafe { interface::rudderfig_parity_start(state, edition, level, choice, length) }
     }
 
     fn parity_feed(&self, state: &mut [u64], piece: &[u8]) -> u64 {

@@ -11,6 +11,27 @@ use std::cell::Cell;
 /// One thing that a library does wrongly.
 #[derive(Clone, Copy, Debug, PartialEq)]
 pub enum Fault {
+    FieldAboveTwentyAccepted,
+    HighestFieldRefused,
+    EditionAfterLength,
+    EditionCutShort,
+    BitForgetsEdition,
+    PositionForgetsEdition,
+    WriteForgetsEdition,
+    LookForgetsEdition,
+    TakeForgetsEdition,
+    JudgeForgetsEdition,
+    ClaimForgetsEdition,
+    LocateForgetsEdition,
+    LocatedFieldAboveTwenty,
+    LocatedHighestFieldRefused,
+    LocateEditionNotLookedAt,
+    StartForgetsEdition,
+    StartedFieldAboveTwenty,
+    StartedHighestFieldRefused,
+    StartEditionNotLookedAt,
+    StateAboveTwentyRefused,
+    CountsEndAt168,
     RecordOfTwelveRefused,
     LongRecordTaken,
     MarkAtTheEndRefused,
@@ -78,6 +99,8 @@ pub struct Faulty {
     pub looked: Cell<u64>,
 }
 
+const LEVEL_TOO_HIGH: u64 = Reply::LevelTooHigh as u64;
+const OUT_OF_RANGE: u64 = Reply::OutOfRange as u64;
 const PAGE_TOO_SMALL: u64 = Reply::PageTooSmall as u64;
 const PAGE_LENGTH: u64 = Reply::PageLength as u64;
 const BUFFER_LENGTH: u64 = Reply::BufferLength as u64;
@@ -89,24 +112,24 @@ const IN_TAIL: u64 = 1 << 24;
 const IN_MARK: u64 = 2 << 24;
 
 /// The counts of a page by the model.
-fn counts_of(record: &[u8], page: &[u8]) -> Vec<u8> {
-    let mut counts = vec![0; check_layout(record).unwrap().blocks()];
-    Model.look_page(record, page, &mut counts);
+fn counts_of(edition: u64, record: &[u8], page: &[u8]) -> Vec<u8> {
+    let mut counts = vec![0; check_layout(edition, record).unwrap().blocks()];
+    Model.look_page(edition, record, page, &mut counts);
     counts
 }
 
 /// Reply 9 with the highest ruined block.
-fn highest_named(record: &[u8], page: &[u8]) -> u64 {
-    let counts = counts_of(record, page);
+fn highest_named(edition: u64, record: &[u8], page: &[u8]) -> u64 {
+    let counts = counts_of(edition, record, page);
     let highest = counts.iter().rposition(|&count| count == RUINED).unwrap();
     UNCORRECTABLE | (highest as u64) << 8
 }
 
 /// The page with zeros in the place of each ruined block, so that every block can be taken.
-fn without_ruined(record: &[u8], page: &[u8]) -> Vec<u8> {
-    let layout = check_layout(record).unwrap();
+fn without_ruined(edition: u64, record: &[u8], page: &[u8]) -> Vec<u8> {
+    let layout = check_layout(edition, record).unwrap();
     let mut page = page.to_vec();
-    for (block, count) in counts_of(record, &page).into_iter().enumerate() {
+    for (block, count) in counts_of(edition, record, &page).into_iter().enumerate() {
         let positions = layout.block_places(block).into_iter();
         for position in positions.filter(|_| count == RUINED) {
             put(&mut page, position, false);
@@ -116,19 +139,48 @@ fn without_ruined(record: &[u8], page: &[u8]) -> Vec<u8> {
 }
 
 /// Whether a byte of the mark is not 0xFF, as the factory marks a bad block.
-fn mark_is_bad(record: &[u8], page: &[u8]) -> bool {
-    let mark = check_layout(record).unwrap().mark_places();
+fn mark_is_bad(edition: u64, record: &[u8], page: &[u8]) -> bool {
+    let mark = check_layout(edition, record).unwrap().mark_places();
     page[mark.start / 8..mark.end / 8]
         .iter()
         .any(|&byte| byte != 0xFF)
 }
 
+impl Faulty {
+    /// The edition that a call goes on with: 1 in the place of 2 where it has the fault to forget it.
+    fn kept(&self, edition: u64, forgets: Fault) -> u64 {
+        match edition {
+            2 if self.fault == forgets => 1,
+            _ => edition,
+        }
+    }
+}
+
+/// Whether a block of the layout that is examined has the highest level field.
+fn has_highest_field(layout: &Layout) -> bool {
+    let blocks = [Some(layout.block0), layout.later];
+    let mut blocks = blocks.iter().flatten();
+    blocks.any(|block| block.level_field == 0x1F)
+}
+
 impl Library for Faulty {
-    fn check_layout(&self, record: &[u8]) -> u64 {
-        let answer = Model.check_layout(record);
+    fn check_layout(&self, edition: u64, record: &[u8]) -> u64 {
+        let answer = Model.check_layout(edition, record);
+        match (self.fault, answer) {
+            (Fault::FieldAboveTwentyAccepted, LEVEL_TOO_HIGH) => {
+                return Model.check_layout(2, record);
+            }
+            (Fault::EditionAfterLength, OUT_OF_RANGE) if ![8, 12].contains(&record.len()) => {
+                return BUFFER_LENGTH;
+            }
+            (Fault::EditionCutShort, _) => return Model.check_layout(edition & 0xFF, record),
+            _ => (),
+        }
         let Some(unpacked) = LayoutRecord::unpack(record) else {
             return match self.fault {
-                Fault::LongRecordTaken if record.len() > 12 => Model.check_layout(&record[..12]),
+                Fault::LongRecordTaken if record.len() > 12 => {
+                    Model.check_layout(edition, &record[..12])
+                }
                 _ => answer,
             };
         };
@@ -137,10 +189,11 @@ impl Library for Faulty {
         let at_the_end = layout.mark.offset as usize == layout.page_length;
         match (self.fault, answer) {
             (Fault::RecordOfTwelveRefused, _) if record.len() == 12 => BUFFER_LENGTH,
+            (Fault::HighestFieldRefused, 0) if has_highest_field(&layout) => LEVEL_TOO_HIGH,
             (Fault::MarkAtTheEndRefused, 0) if at_the_end => MARK_OUTSIDE,
             (Fault::SumNotLookedAt, MARK_OUTSIDE) if layout.mark.zero_bits == 0 => 0,
             (Fault::ZeroBitsNotLookedAt, MARK_OUTSIDE) => {
-                Model.check_layout(&[&record[..11], &[0]].concat())
+                Model.check_layout(edition, &[&record[..11], &[0]].concat())
             }
             (Fault::OutsideAfterRoom, MARK_OUTSIDE) if needed > room => PAGE_TOO_SMALL,
             (Fault::RoomOfWholePage, PAGE_TOO_SMALL) if needed <= 8 * layout.page_length => 0,
@@ -148,42 +201,56 @@ impl Library for Faulty {
         }
     }
 
-    fn locate_bit(&self, record: &[u8], position: u64) -> u64 {
-        let answer = Model.locate_bit(record, position);
+    fn locate_bit(&self, edition: u64, record: &[u8], position: u64) -> u64 {
+        let edition = self.kept(edition, Fault::BitForgetsEdition);
+        let answer = Model.locate_bit(edition, record, position);
         match (self.fault, answer) {
-            (Fault::PositionCutShort, _) => Model.locate_bit(record, position as u32 as u64),
+            (Fault::PositionCutShort, _) => {
+                Model.locate_bit(edition, record, position as u32 as u64)
+            }
             (Fault::TailAsMark, IN_TAIL) => IN_MARK,
             (Fault::MarkAsTail, IN_MARK) => IN_TAIL,
-            (Fault::MarkAsCovered, IN_MARK) => Model.locate_bit(&record[..8], position),
+            (Fault::MarkAsCovered, IN_MARK) => Model.locate_bit(edition, &record[..8], position),
             _ => answer,
         }
     }
 
-    fn bit_position(&self, record: &[u8], block: u64, exponent: u64) -> u64 {
-        let answer = Model.bit_position(record, block, exponent);
+    fn bit_position(&self, edition: u64, record: &[u8], block: u64, exponent: u64) -> u64 {
+        let edition = self.kept(edition, Fault::PositionForgetsEdition);
+        let answer = Model.bit_position(edition, record, block, exponent);
         match self.fault {
-            Fault::BlockCutShort => Model.bit_position(record, block as u32 as u64, exponent),
+            Fault::BlockCutShort => {
+                Model.bit_position(edition, record, block as u32 as u64, exponent)
+            }
             Fault::PositionInStream if answer & 0xFF == 0 => {
-                Model.bit_position(&record[..8], block, exponent)
+                Model.bit_position(edition, &record[..8], block, exponent)
             }
             _ => answer,
         }
     }
 
-    fn write_page(&self, record: &[u8], metadata: &[u8], data: &[u8], page: &mut [u8]) -> u64 {
+    fn write_page(
+        &self,
+        edition: u64,
+        record: &[u8],
+        metadata: &[u8],
+        data: &[u8],
+        page: &mut [u8],
+    ) -> u64 {
+        let edition = self.kept(edition, Fault::WriteForgetsEdition);
         let held = page.to_vec();
-        let answer = Model.write_page(record, metadata, data, page);
+        let answer = Model.write_page(edition, record, metadata, data, page);
         match self.fault {
             Fault::NothingWritten => page.copy_from_slice(&held),
             Fault::TailOfZeros if answer == 0 => {
-                let tail = check_layout(record).unwrap().tail_places();
+                let tail = check_layout(edition, record).unwrap().tail_places();
                 tail.for_each(|position| put(page, position, false));
             }
             Fault::MarkWritten if answer == 0 => {
-                Model.write_page(&record[..8], metadata, data, page);
+                Model.write_page(edition, &record[..8], metadata, data, page);
             }
             Fault::MarkWrittenAsOnes if answer == 0 => {
-                let mark = check_layout(record).unwrap().mark_places();
+                let mark = check_layout(edition, record).unwrap().mark_places();
                 mark.into_iter()
                     .for_each(|position| put(page, position, true));
             }
@@ -192,17 +259,18 @@ impl Library for Faulty {
         answer
     }
 
-    fn look_page(&self, record: &[u8], page: &[u8], counts: &mut [u8]) -> u64 {
+    fn look_page(&self, edition: u64, record: &[u8], page: &[u8], counts: &mut [u8]) -> u64 {
+        let edition = self.kept(edition, Fault::LookForgetsEdition);
         let held = counts.to_vec();
-        let answer = Model.look_page(record, page, counts);
+        let answer = Model.look_page(edition, record, page, counts);
         self.looked.set(answer);
         let named = (answer >> 8) as usize;
         let is_erased = |count: u8| (128..RUINED).contains(&count);
         match (self.fault, answer & 0xFF) {
             (Fault::LookReadsMark, 0 | UNCORRECTABLE) => {
-                return Model.look_page(&record[..8], page, counts);
+                return Model.look_page(edition, &record[..8], page, counts);
             }
-            (Fault::CountDependsOnMark, 0) => counts[0] ^= mark_is_bad(record, page) as u8,
+            (Fault::CountDependsOnMark, 0) => counts[0] ^= mark_is_bad(edition, record, page) as u8,
             (Fault::EveryLookRefused, 0) => return UNCORRECTABLE,
             (Fault::CountsOfBlock0Only, 0) => counts[1..].fill(0),
             (Fault::LookStopsAtRuined, UNCORRECTABLE) => {
@@ -217,44 +285,70 @@ impl Library for Faulty {
                 let erased = counts.iter_mut().filter(|count| is_erased(**count));
                 erased.for_each(|count| *count = RUINED);
             }
+            (Fault::CountsEndAt168, 0) if counts.iter().any(|&count| count > 168) => {
+                counts.iter_mut().for_each(|count| *count = 168.min(*count));
+            }
             (Fault::ErasedCountedAsFlips, 0 | UNCORRECTABLE) => {
                 let erased = counts.iter_mut().filter(|count| is_erased(**count));
                 erased.for_each(|count| *count -= 128);
             }
-            (Fault::LookedHighestNamed, UNCORRECTABLE) => return highest_named(record, page),
+            (Fault::LookedHighestNamed, UNCORRECTABLE) => {
+                return highest_named(edition, record, page);
+            }
             (Fault::LookedBlockNotNamed, UNCORRECTABLE) => return UNCORRECTABLE,
             _ => (),
         }
         answer
     }
 
-    fn take_page(&self, record: &[u8], page: &[u8], metadata: &mut [u8], data: &mut [u8]) -> u64 {
-        let (held, answer) = (data.to_vec(), Model.take_page(record, page, metadata, data));
+    fn take_page(
+        &self,
+        edition: u64,
+        record: &[u8],
+        page: &[u8],
+        metadata: &mut [u8],
+        data: &mut [u8],
+    ) -> u64 {
+        let edition = self.kept(edition, Fault::TakeForgetsEdition);
+        let (held, answer) = (
+            data.to_vec(),
+            Model.take_page(edition, record, page, metadata, data),
+        );
         match (self.fault, answer & 0xFF) {
             (Fault::TakeReadsMark, 0 | UNCORRECTABLE) => {
-                return Model.take_page(&record[..8], page, metadata, data);
+                return Model.take_page(edition, &record[..8], page, metadata, data);
             }
             (Fault::EveryTakeRefused, 0) => return UNCORRECTABLE,
             (Fault::PayloadOfZeros, 0) => data.fill(0),
             (Fault::MetadataBeforeRefusal, UNCORRECTABLE) => metadata.fill(0),
             (Fault::EarlyBlocksBeforeRefusal, UNCORRECTABLE) if answer >> 8 > 0 => {
-                Model.take_page(record, &without_ruined(record, page), metadata, data);
-                let layout = check_layout(record).unwrap();
+                Model.take_page(
+                    edition,
+                    record,
+                    &without_ruined(edition, record, page),
+                    metadata,
+                    data,
+                );
+                let layout = check_layout(edition, record).unwrap();
                 let message = |block| layout.block(block).message_bits / 8;
                 let early = (0..(answer >> 8) as usize).map(message).sum::<usize>();
                 let kept = early - metadata.len()..;
                 data[kept.clone()].copy_from_slice(&held[kept]);
             }
             (Fault::TakeTrustsLook, UNCORRECTABLE) if self.looked.get() == 0 => {
-                let repaired = without_ruined(record, page);
-                return Model.take_page(record, &repaired, metadata, data);
+                let repaired = without_ruined(edition, record, page);
+                return Model.take_page(edition, record, &repaired, metadata, data);
             }
-            (Fault::TakenHighestNamed, UNCORRECTABLE) => return highest_named(record, page),
+            (Fault::TakenHighestNamed, UNCORRECTABLE) => {
+                return highest_named(edition, record, page);
+            }
             (Fault::TakenBlockNotNamed, UNCORRECTABLE) => return UNCORRECTABLE,
-            (Fault::ErasedTakeRefused, 0) if counts_of(record, page).iter().any(|&c| c >= 128) => {
+            (Fault::ErasedTakeRefused, 0)
+                if counts_of(edition, record, page).iter().any(|&c| c >= 128) =>
+            {
                 return UNCORRECTABLE;
             }
-            (Fault::ErasedMessageAsRead, 0) if counts_of(record, page)[0] >= 128 => {
+            (Fault::ErasedMessageAsRead, 0) if counts_of(edition, record, page)[0] >= 128 => {
                 metadata.copy_from_slice(&page[..metadata.len()]);
             }
             _ => (),
@@ -262,19 +356,20 @@ impl Library for Faulty {
         answer
     }
 
-    fn judge_block(&self, record: &[u8], page: &[u8], block: u64) -> u64 {
-        let answer = Model.judge_block(record, page, block);
+    fn judge_block(&self, edition: u64, record: &[u8], page: &[u8], block: u64) -> u64 {
+        let edition = self.kept(edition, Fault::JudgeForgetsEdition);
+        let answer = Model.judge_block(edition, record, page, block);
         if answer & 0xFF != 0 && answer & 0xFF != UNCORRECTABLE {
             return answer;
         }
-        let layout = check_layout(record).unwrap();
+        let layout = check_layout(edition, record).unwrap();
         let shape = layout.block(block as usize);
         let word = block_word(&layout, page, block as usize);
         let (t, all) = (shape.t(), zeros(&word));
         let in_message = zeros(&word[..shape.message_bits]);
         let erased = |zeros: usize| (128 + zeros as u64) << 32;
         match self.fault {
-            Fault::JudgeReadsMark => Model.judge_block(&record[..8], page, block),
+            Fault::JudgeReadsMark => Model.judge_block(edition, &record[..8], page, block),
             Fault::FlipsOfJudgedBlockForgotten => answer & 0xFFFF_FFFF,
             Fault::ZerosBeforeDecoding if t > 0 && all <= t => erased(all),
             Fault::OneZeroMore if answer != 0 && all == t + 1 => erased(all),
@@ -286,13 +381,20 @@ impl Library for Faulty {
 
     fn locate_errors(
         &self,
+        edition: u64,
         level_field: u64,
         field_choice: u64,
         n: u64,
         remainder: &[u8],
         places: &mut [u16],
     ) -> u64 {
-        let answer = Model.locate_errors(level_field, field_choice, n, remainder, places);
+        let edition = match (self.fault, edition, level_field) {
+            (Fault::LocatedFieldAboveTwenty, 1, 0x15) => 2,
+            (Fault::LocatedHighestFieldRefused, 2, 0x1F) => 1,
+            (Fault::LocateEditionNotLookedAt, 0 | 3.., _) => 2,
+            _ => self.kept(edition, Fault::LocateForgetsEdition),
+        };
+        let answer = Model.locate_errors(edition, level_field, field_choice, n, remainder, places);
         let size = (answer >> 32) as usize;
         match (self.fault, answer & 0xFF) {
             (Fault::PlacesAscending, 0) => places[..size].reverse(),
@@ -303,17 +405,25 @@ impl Library for Faulty {
         answer
     }
 
-    fn check_claim(&self, record: &[u8], page: &[u8], block: u64, claims: &[u16]) -> u64 {
+    fn check_claim(
+        &self,
+        edition: u64,
+        record: &[u8],
+        page: &[u8],
+        block: u64,
+        claims: &[u16],
+    ) -> u64 {
+        let edition = self.kept(edition, Fault::ClaimForgetsEdition);
         let mut claims = claims.to_vec();
         if self.fault == Fault::EqualClaimsAccepted {
             claims.sort();
             claims.dedup();
         }
         let record = match self.fault {
-            Fault::ClaimReadsMark if check_layout(record).is_ok() => &record[..8],
+            Fault::ClaimReadsMark if check_layout(edition, record).is_ok() => &record[..8],
             _ => record,
         };
-        Model.check_claim(record, page, block, &claims)
+        Model.check_claim(edition, record, page, block, &claims)
     }
 
     fn export_fragments(&self, level_field: u64, remainder: &[u8], fragments: &mut [u32]) -> u64 {
@@ -338,8 +448,21 @@ impl Library for Faulty {
         answer
     }
 
-    fn parity_start(&self, state: &mut [u64], level: u64, choice: u64, length: u64) -> u64 {
-        let answer = Model.parity_start(state, level, choice, length);
+    fn parity_start(
+        &self,
+        state: &mut [u64],
+        edition: u64,
+        level: u64,
+        choice: u64,
+        length: u64,
+    ) -> u64 {
+        let edition = match (self.fault, edition, level) {
+            (Fault::StartedFieldAboveTwenty, 1, 0x15) => 2,
+            (Fault::StartedHighestFieldRefused, 2, 0x1F) => 1,
+            (Fault::StartEditionNotLookedAt, 0 | 3.., _) => 2,
+            _ => self.kept(edition, Fault::StartForgetsEdition),
+        };
+        let answer = Model.parity_start(state, edition, level, choice, length);
         if self.fault == Fault::StateWrittenOnRefusal && answer != 0 {
             state[0] ^= 1;
         }
@@ -347,6 +470,9 @@ impl Library for Faulty {
     }
 
     fn parity_feed(&self, state: &mut [u64], piece: &[u8]) -> u64 {
+        if self.fault == Fault::StateAboveTwentyRefused && state[0] > 20 {
+            return OUT_OF_RANGE;
+        }
         let answer = Model.parity_feed(state, piece);
         if self.fault == Fault::PieceTakenInPart && answer == BUFFER_LENGTH {
             let left = (state[2] - state[3]) as usize;

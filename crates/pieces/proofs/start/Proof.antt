@@ -1,4 +1,4 @@
--- `pieces::start` meets its contract: a walk of its MIR, by hand. The borrow of the state is opened, the state is copied out, `value::start` is called on it and the three numbers, the state that it returns is stored whole, and the
+-- `pieces::start` meets its contract: a walk of its MIR, by hand. The borrow of the state is opened, the state is copied out, `value::start` is called on it and the four numbers, the state that it returns is stored whole, and the
 -- borrow is closed at it. All that the proof knows of `value::start` is that it meets its contract. Both structs are plain data: what one owns is made anew from its relation wherever it is asked for.
 use mathlib.Core.Path.{_≡_, refl, ap}
 use Prim.Native.Nat.{ℕ}
@@ -55,18 +55,18 @@ use Rattle.pieces.proofs.start.Statement as stated
 use Rattle.pieces.proofs.start.Code as code
 
 abbrev stayed : Stays (start.ended .signature .params) (start.ended .kept)
-stayed = (stay-ref (0 ∷ []) tt (plain (λ _. T.the-row)), (stay-none (λ _. u64) yes, (stay-none (λ _. u64) yes, (stay-none (λ _. u64) yes, tt))))
+stayed = (stay-ref (0 ∷ []) tt (plain (λ _. T.the-row)), (stay-none (λ _. u64) yes, (stay-none (λ _. u64) yes, (stay-none (λ _. u64) yes, (stay-none (λ _. u64) yes, tt)))))
 
 -- the contract that the proof cites
 abbrev Value : {M : Type 1} (𝓤 : URA M) (H : Heap 𝓤) (A : Atoms 𝓤) (mem : Memory → SProp 𝓤) (run : Routine → Fun 𝓤) → Contract 𝓤
 Value 𝓤 H A mem run = tripleOf 𝓤 H A value.signature (value.spec 𝓤 H A mem run)
 
-module _ {M : Type 1} (𝓤 : URA M) (H : Heap 𝓤) (A : Atoms 𝓤) (W : Given 𝓤 H A) (at-mem : Memory → SProp 𝓤) (run : Routine → Fun 𝓤) (κ : Lft) (q : Share) (b o : ℕ) (γ : GName) (h : State) (i j n : ℕ) where
+module _ {M : Type 1} (𝓤 : URA M) (H : Heap 𝓤) (A : Atoms 𝓤) (W : Given 𝓤 H A) (at-mem : Memory → SProp 𝓤) (run : Routine → Fun 𝓤) (κ : Lft) (q : Share) (b o : ℕ) (γ : GName) (h : State) (m i j n : ℕ) where
   abbrev Arg : Type 0
-  Arg = RefT State × (ℕ × (ℕ × (ℕ × Unit {0})))
+  Arg = RefT State × (ℕ × (ℕ × (ℕ × (ℕ × Unit {0}))))
 
   abbrev x : Arg
-  x = (record { ptr = (b, o); name = γ; now = h }, (i, (j, (n, tt))))
+  x = (record { ptr = (b, o); name = γ; now = h }, (m, (i, (j, (n, tt)))))
 
   -- the machine value of a state
   abbrev mach : State → Val
@@ -75,21 +75,21 @@ module _ {M : Type 1} (𝓤 : URA M) (H : Heap 𝓤) (A : Atoms 𝓤) (W : Given
   abbrev number : ℕ → Type 0
   number k = Is u64 k (vint w64 k ∷ [])
 
-  abbrev at : List Val × (List Val × (List Val × (List Val × Unit {0})))
-  at = (vptr b o ∷ [], (vint w64 i ∷ [], (vint w64 j ∷ [], (vint w64 n ∷ [], tt))))
+  abbrev at : List Val × (List Val × (List Val × (List Val × (List Val × Unit {0}))))
+  at = (vptr b o ∷ [], (vint w64 m ∷ [], (vint w64 i ∷ [], (vint w64 j ∷ [], (vint w64 n ∷ [], tt)))))
 
   abbrev found : Answered
-  found = startOf h i j n
+  found = startOf h m i j n
 
   abbrev Post : Val → SProp 𝓤
   Post = walkOf 𝓤 H A start.ended stayed (start.clauses 𝓤 H A at-mem run) .post (((κ, tt), (q, tt), tt, x, at), tt)
 
   -- the call of `value::start`: what it is passed, and what is known of its result
   abbrev to-value : Value 𝓤 H A at-mem run .Ghost
-  to-value = ((tt, tt, tt, (h, (i, (j, (n, tt)))), (mach h ∷ [], (vint w64 i ∷ [], (vint w64 j ∷ [], (vint w64 n ∷ [], tt))))), tt)
+  to-value = ((tt, tt, tt, (h, (m, (i, (j, (n, tt))))), (mach h ∷ [], (vint w64 m ∷ [], (vint w64 i ∷ [], (vint w64 j ∷ [], (vint w64 n ∷ [], tt)))))), tt)
 
-  value-said : (r : Answered) → ent 𝓤 (ensured 𝓤 H A value.ended (value.clauses 𝓤 H A at-mem run) tt (h, (i, (j, (n, tt)))) tt r) (fact 𝓤 (r ≡ found))
-  value-said r = exE 𝓤 _ (λ ws. snd∗ 𝓤 (sem 𝓤 H A (lasts value.ended tt (h, (i, (j, (n, tt)))) ws)) (fact 𝓤 (r ≡ found)))
+  value-said : (r : Answered) → ent 𝓤 (ensured 𝓤 H A value.ended (value.clauses 𝓤 H A at-mem run) tt (h, (m, (i, (j, (n, tt))))) tt r) (fact 𝓤 (r ≡ found))
+  value-said r = exE 𝓤 _ (λ ws. snd∗ 𝓤 (sem 𝓤 H A (lasts value.ended tt (h, (m, (i, (j, (n, tt))))) ws)) (fact 𝓤 (r ≡ found)))
 
   -- what whoever holds the result knows of its fields
   kept : (r : Answered) (u : Val) → Is F.the-row r (u ∷ []) → Is T.the-row (r .state) (mach (r .state) ∷ [])
@@ -98,55 +98,55 @@ module _ {M : Type 1} (𝓤 : URA M) (H : Heap 𝓤) (A : Atoms 𝓤) (W : Given
   replied : (r : Answered) (u : Val) → Is F.the-row r (u ∷ []) → Is u8 (r .reply) (vint w8 (r .reply) ∷ [])
   replied r u is = LL.owed F.the-type F′.the-laws r (u ∷ []) is .0
 
-  exits : number i → number j → number n → (r : Answered) → r ≡ found → Is u8 (r .reply) (vint w8 (r .reply) ∷ [])
+  exits : number m → number i → number j → number n → (r : Answered) → r ≡ found → Is u8 (r .reply) (vint w8 (r .reply) ∷ [])
       → ent 𝓤 (⋆ 𝓤 H A (‵ (fobs γ (T.the-row .coded .code (r .state))) ∷ ‵ (fbor κ (Body (mem T.the-row) b o γ)) ∷ ‵ (flft κ q) ∷ [])) (Post (vint w8 (r .reply)))
-  exits gi gj gn r e is =
+  exits gm gi gj gn r e is =
       qed W (‵ (fobs γ (T.the-row .coded .code (r .state))) ∷ ‵ (fbor κ (Body (mem T.the-row) b o γ)) ∷ ‵ (flft κ q) ∷ []) ∵
-      suffices ! _ (ends-at 𝓤 H A start.ended stayed (start.clauses 𝓤 H A at-mem run) W (((κ, tt), (q, tt), tt, x, at), tt) (vint w8 (r .reply)) (r .reply) (r .state, (tt, (tt, (tt, tt)))) (tt, (tt, (tt, (tt, tt))))) $ says ! e $
+      suffices ! _ (ends-at 𝓤 H A start.ended stayed (start.clauses 𝓤 H A at-mem run) W (((κ, tt), (q, tt), tt, x, at), tt) (vint w8 (r .reply)) (r .reply) (r .state, (tt, (tt, (tt, (tt, tt))))) (tt, (tt, (tt, (tt, (tt, tt)))))) $ says ! e $
       nothing ! $ move ! (3 ∷ 0 ∷ []) $ join ! $ frame ! $ feqI ! (List Val) (vptr b o ∷ []) (vptr b o ∷ []) refl $ fjoin3 ! $ nothing ! $
-      owned ! u64 (Is u64) (uint-makes 𝓤 H A W w64) n _ gn $ fjoin ! $ owned ! u64 (Is u64) (uint-makes 𝓤 H A W w64) j _ gj $ fjoin ! $ owned ! u64 (Is u64) (uint-makes 𝓤 H A W w64) i _ gi $ fjoin ! $
+      owned ! u64 (Is u64) (uint-makes 𝓤 H A W w64) n _ gn $ fjoin ! $ owned ! u64 (Is u64) (uint-makes 𝓤 H A W w64) j _ gj $ fjoin ! $ owned ! u64 (Is u64) (uint-makes 𝓤 H A W w64) i _ gi $ fjoin ! $ owned ! u64 (Is u64) (uint-makes 𝓤 H A W w64) m _ gm $ fjoin ! $
       move ! (1 ∷ 0 ∷ []) $ fjoin ! $ frame ! $ owned ! u8 (Is u8) (uint-makes 𝓤 H A W w8) (r .reply) _ is $ done !
 
   module _ (C : Calls 𝓤 H) (Λ : Loops 𝓤 H) (fm : FmC 𝓤 H (W .laws) C) (known : Triple 𝓤 (C #pieces·value·start) (Value 𝓤 H A at-mem run)) where
-    walk : number i → number j → number n → ent 𝓤 (onEntry 𝓤 H A start.signature (κ, tt) (q, tt) x at) (WpFn 𝓤 H C Λ code.function (vptr b o ∷ vint w64 i ∷ vint w64 j ∷ vint w64 n ∷ []) Post)
-    walk gi gj gn =
-        qed W ((‵ (flft κ q) ⊛ ‵ ftrue) ∷ ‵ (owns (MutRef (named 0) κ T.the-row ∷ u64 ∷ u64 ∷ u64 ∷ []) x at) ∷ []) ∵ enter ! C Λ code.function (vptr b o ∷ vint w64 i ∷ vint w64 j ∷ vint w64 n ∷ []) _ $
-        alloc1 ! (λ l₀. alloc1 ! (λ l₁. alloc1 ! (λ l₂. alloc1 ! (λ l₃. alloc1 ! (λ l₄. alloc1 ! (λ l₅. alloc1 ! (λ l₆. alloc0 ! $ params1 ! $ pass1 ! (init ! 10 refl (tt, tt)) $ pass1 ! (init ! 8 refl (tt, record { fits = gi .1 })) $
-        pass1 ! (init ! 6 refl (tt, record { fits = gj .1 })) $ pass1 ! (init ! 4 refl (tt, record { fits = gn .1 })) $ pass0 ! $
+    walk : number m → number i → number j → number n → ent 𝓤 (onEntry 𝓤 H A start.signature (κ, tt) (q, tt) x at) (WpFn 𝓤 H C Λ code.function (vptr b o ∷ vint w64 m ∷ vint w64 i ∷ vint w64 j ∷ vint w64 n ∷ []) Post)
+    walk gm gi gj gn =
+        qed W ((‵ (flft κ q) ⊛ ‵ ftrue) ∷ ‵ (owns (MutRef (named 0) κ T.the-row ∷ u64 ∷ u64 ∷ u64 ∷ u64 ∷ []) x at) ∷ []) ∵ enter ! C Λ code.function (vptr b o ∷ vint w64 m ∷ vint w64 i ∷ vint w64 j ∷ vint w64 n ∷ []) _ $
+        alloc1 ! (λ l₀. alloc1 ! (λ l₁. alloc1 ! (λ l₂. alloc1 ! (λ l₃. alloc1 ! (λ l₄. alloc1 ! (λ l₅. alloc1 ! (λ l₆. alloc1 ! (λ l₇. alloc0 ! $ params1 ! $ pass1 ! (init ! 12 refl (tt, tt)) $ pass1 ! (init ! 10 refl (tt, record { fits = gm .1 })) $
+        pass1 ! (init ! 8 refl (tt, record { fits = gi .1 })) $ pass1 ! (init ! 6 refl (tt, record { fits = gj .1 })) $ pass1 ! (init ! 4 refl (tt, record { fits = gn .1 })) $ pass0 ! $
         -- the borrow is opened
-        move ! (15 ∷ []) $ fsplit ! $ move ! (1 ∷ []) $ drop ! $ fsplit3 ! $ drop ! $ move ! (16 ∷ []) $ split ! $ move ! (1 ∷ []) $ drop ! $ move ! (1 ∷ 2 ∷ 0 ∷ []) $
+        move ! (17 ∷ []) $ fsplit ! $ move ! (1 ∷ []) $ drop ! $ fsplit3 ! $ drop ! $ move ! (18 ∷ []) $ split ! $ move ! (1 ∷ []) $ drop ! $ move ! (1 ∷ 2 ∷ 0 ∷ []) $
         opens ! tt T.the-row {h = h} b o (λ vs. spelt ! T.the-row (Is T.the-row) (shows 𝓤 H A T.the-row) (LL.vals T.the-type T′.the-laws) (LL.tells T.the-type T′.the-laws) fullShare h vs b o $
         move ! (1 ∷ []) $ facts ! T.the-row (Is T.the-row) (shows 𝓤 H A T.the-row) h (mach h ∷ []) (λ was.
-        -- [the state's cell; the open borrow; obs; auth; _6; …; _5; …; _4; …; _3; …; _2; …; _1; …; room for _0; …]
-        assigns ! (of-opd ! (load ! (from ! (hop ! (look ! 14 refl) (stop !))) (look-raw ! 0 refl))) (from ! (stop !)) (init ! 6 refl (LL.lawful T.the-type T′.the-laws 𝓤 H A W .typed h _ was .0)) $
-        nothing ! $ owned ! u64 (Is u64) (uint-makes 𝓤 H A W w64) n _ gn $ fjoin ! $ owned ! u64 (Is u64) (uint-makes 𝓤 H A W w64) j _ gj $ fjoin ! $ owned ! u64 (Is u64) (uint-makes 𝓤 H A W w64) i _ gi $ fjoin ! $
+        -- [the state's cell; the open borrow; obs; auth; _7; …; _6; …; _5; …; _4; …; _3; …; _2; …; _1; …; room for _0; …]
+        assigns ! (of-opd ! (load ! (from ! (hop ! (look ! 16 refl) (stop !))) (look-raw ! 0 refl))) (from ! (stop !)) (init ! 6 refl (LL.lawful T.the-type T′.the-laws 𝓤 H A W .typed h _ was .0)) $
+        nothing ! $ owned ! u64 (Is u64) (uint-makes 𝓤 H A W w64) n _ gn $ fjoin ! $ owned ! u64 (Is u64) (uint-makes 𝓤 H A W w64) j _ gj $ fjoin ! $ owned ! u64 (Is u64) (uint-makes 𝓤 H A W w64) i _ gi $ fjoin ! $ owned ! u64 (Is u64) (uint-makes 𝓤 H A W w64) m _ gm $ fjoin ! $
         owned ! T.the-row (Is T.the-row) (LL.makes T.the-type T′.the-plain 𝓤 H A) h _ was $ fjoin ! $ nothing ! $
-        use2 W (raw (Value 𝓤 H A at-mem run .pre to-value)) (qed W (‵ ftrue ∷ ‵ (owns (T.the-row ∷ u64 ∷ u64 ∷ u64 ∷ []) (h, (i, (j, (n, tt)))) (mach h ∷ [], (vint w64 i ∷ [], (vint w64 j ∷ [], (vint w64 n ∷ [], tt))))) ∷ []) ∵ join ! $ frame ! $ done !) $
-        -- [what is asked; the state's cell; the open borrow; obs; auth; _6; …; _5; …; _4; …; _3; …; _2; …; _1; …; room for _0; …]
-        calls-at ! fm (Value 𝓤 H A at-mem run) known to-value (and-then ! (load ! (from ! (stop !)) (look ! 7 refl)) (and-then ! (load ! (from ! (stop !)) (look ! 13 refl)) (and-then ! (load ! (from ! (stop !)) (look ! 11 refl))
-        (and-then ! (load ! (from ! (stop !)) (look ! 9 refl)) (no-more !))))) (λ u.
-        use1 W (later (some (λ (r : Answered). (‵ ftrue ⊛ ‵ (F.the-row .own r (u ∷ []))) ⊛ raw (ensured 𝓤 H A value.ended (value.clauses 𝓤 H A at-mem run) tt (h, (i, (j, (n, tt)))) tt r)))) (id⊢ 𝓤 _) $ await ! tt $ pick ! (λ r.
+        use2 W (raw (Value 𝓤 H A at-mem run .pre to-value)) (qed W (‵ ftrue ∷ ‵ (owns (T.the-row ∷ u64 ∷ u64 ∷ u64 ∷ u64 ∷ []) (h, (m, (i, (j, (n, tt))))) (mach h ∷ [], (vint w64 m ∷ [], (vint w64 i ∷ [], (vint w64 j ∷ [], (vint w64 n ∷ [], tt)))))) ∷ []) ∵ join ! $ frame ! $ done !) $
+        -- [what is asked; the state's cell; the open borrow; obs; auth; _7; …; _6; …; _5; …; _4; …; _3; …; _2; …; _1; …; room for _0; …]
+        calls-at ! fm (Value 𝓤 H A at-mem run) known to-value (and-then ! (load ! (from ! (stop !)) (look ! 7 refl)) (and-then ! (load ! (from ! (stop !)) (look ! 15 refl)) (and-then ! (load ! (from ! (stop !)) (look ! 13 refl))
+        (and-then ! (load ! (from ! (stop !)) (look ! 11 refl)) (and-then ! (load ! (from ! (stop !)) (look ! 9 refl)) (no-more !)))))) (λ u.
+        use1 W (later (some (λ (r : Answered). (‵ ftrue ⊛ ‵ (F.the-row .own r (u ∷ []))) ⊛ raw (ensured 𝓤 H A value.ended (value.clauses 𝓤 H A at-mem run) tt (h, (m, (i, (j, (n, tt))))) tt r)))) (id⊢ 𝓤 _) $ await ! tt $ pick ! (λ r.
         split ! $ move ! (1 ∷ []) $ use1 W (raw (fact 𝓤 (r ≡ found))) (value-said r) $ heard ! (r ≡ found) (λ e. split ! $ drop ! $
         facts ! F.the-row (Is F.the-row) (shows 𝓤 H A F.the-row) r (u ∷ []) (λ is.
-        -- [the state's cell; the open borrow; obs; auth; _6; …; _5; …; _4; …; _3; …; _2; …; _1; …; room for _0; …]
-        land ! (from ! (stop !)) (init ! 4 refl (LL.lawful F.the-type F′.the-laws 𝓤 H A W .typed r _ is .0)) $ rewrite ! 4 (λ (z : Val). ‵ (fat fullShare F′.mir l₆ 0 z)) (ap only (LL.tells F.the-type F′.the-laws r (u ∷ []) is)) refl $
-        assigns ! (of-opd ! (load ! (from ! (fld ! refl (stop !))) (look-in ! 4 (sub ! 1 refl (whole !))))) (from ! (hop ! (look ! 14 refl) (stop !))) (store-raw ! 0 refl (LL.lawful T.the-type T′.the-laws 𝓤 H A W .typed (r .state) _ (kept r u is) .0)) $
-        assigns ! (of-opd ! (load ! (from ! (fld ! refl (stop !))) (look-in ! 4 (sub ! 0 refl (whole !))))) (from ! (stop !)) (init ! 16 refl (tt, record { fits = replied r u is .1 })) $
+        -- [the state's cell; the open borrow; obs; auth; _7; …; _6; …; _5; …; _4; …; _3; …; _2; …; _1; …; room for _0; …]
+        land ! (from ! (stop !)) (init ! 4 refl (LL.lawful F.the-type F′.the-laws 𝓤 H A W .typed r _ is .0)) $ rewrite ! 4 (λ (z : Val). ‵ (fat fullShare F′.mir l₇ 0 z)) (ap only (LL.tells F.the-type F′.the-laws r (u ∷ []) is)) refl $
+        assigns ! (of-opd ! (load ! (from ! (fld ! refl (stop !))) (look-in ! 4 (sub ! 1 refl (whole !))))) (from ! (hop ! (look ! 16 refl) (stop !))) (store-raw ! 0 refl (LL.lawful T.the-type T′.the-laws 𝓤 H A W .typed (r .state) _ (kept r u is) .0)) $
+        assigns ! (of-opd ! (load ! (from ! (fld ! refl (stop !))) (look-in ! 4 (sub ! 0 refl (whole !))))) (from ! (stop !)) (init ! 18 refl (tt, record { fits = replied r u is .1 })) $
         -- the borrow is closed at the new state
         owned ! T.the-row (Is T.the-row) (LL.makes T.the-type T′.the-plain 𝓤 H A) (r .state) _ (kept r u is) $ move ! (1 ∷ 0 ∷ 2 ∷ 3 ∷ 4 ∷ []) $ closes ! tt T.the-row (r .state) (mach (r .state) ∷ []) b o $
-        -- [obs; the borrow; its token; _6; …; _5; …; _4; …; _3; …; _2; …; _1; …; _0; …]
-        returns ! (look ! 15 refl) $ forget ! 3 refl $ forget ! 5 refl $ forget ! 7 refl $ forget ! 9 refl $ forget ! 11 refl $ forget ! 13 refl $ forget ! 15 refl $
-        move ! (15 ∷ 16 ∷ []) $ free1 ! $ move ! (13 ∷ 14 ∷ []) $ free1 ! $ move ! (11 ∷ 12 ∷ []) $ free1 ! $ move ! (9 ∷ 10 ∷ []) $ free1 ! $ move ! (7 ∷ 8 ∷ []) $ free1 ! $ move ! (5 ∷ 6 ∷ []) $ free1 ! $
-        move ! (3 ∷ 4 ∷ []) $ free1 ! $ free0 ! $ keep ! (0 ∷ 1 ∷ 2 ∷ []) $ by ! (exits gi gj gn r e (replied r u is)))))))))))))))
+        -- [obs; the borrow; its token; _7; …; _6; …; _5; …; _4; …; _3; …; _2; …; _1; …; _0; …]
+        returns ! (look ! 17 refl) $ forget ! 3 refl $ forget ! 5 refl $ forget ! 7 refl $ forget ! 9 refl $ forget ! 11 refl $ forget ! 13 refl $ forget ! 15 refl $ forget ! 17 refl $
+        move ! (17 ∷ 18 ∷ []) $ free1 ! $ move ! (15 ∷ 16 ∷ []) $ free1 ! $ move ! (13 ∷ 14 ∷ []) $ free1 ! $ move ! (11 ∷ 12 ∷ []) $ free1 ! $ move ! (9 ∷ 10 ∷ []) $ free1 ! $ move ! (7 ∷ 8 ∷ []) $ free1 ! $ move ! (5 ∷ 6 ∷ []) $ free1 ! $
+        move ! (3 ∷ 4 ∷ []) $ free1 ! $ free0 ! $ keep ! (0 ∷ 1 ∷ 2 ∷ []) $ by ! (exits gm gi gj gn r e (replied r u is))))))))))))))))
 
 module _ {M : Type 1} (𝓤 : URA M) (H : Heap 𝓤) (A : Atoms 𝓤) (W : Given 𝓤 H A) (mem : Memory → SProp 𝓤) (run : Routine → Fun 𝓤) where
   start-walks : (C : Calls 𝓤 H) (Λ : Loops 𝓤 H) → FmC 𝓤 H (W .laws) C → Triple 𝓤 (C #pieces·value·start) (Value 𝓤 H A mem run) → Walks 𝓤 H A start.ended stayed (WpFn 𝓤 H C Λ code.function) (start.clauses 𝓤 H A mem run)
-  start-walks C Λ fm known = walked 𝓤 H A start.ended stayed (start.clauses 𝓤 H A mem run) (WpFn 𝓤 H C Λ code.function) (λ κs. (ptr-vals, (uint-vals w64, (uint-vals w64, (uint-vals w64, tt)))))
-      (λ κs. (mut-tells (named 0) (κs .0) T.the-row, (uint-tells w64, (uint-tells w64, (uint-tells w64, tt)))))
-      (λ κs qs bounds a _ are. via 𝓤 _ (fst∗ 𝓤 _ (emp 𝓤)) (walk 𝓤 H A W mem run (κs .0) (qs .0) (a .0 .ptr .0) (a .0 .ptr .1) (a .0 .name) (a .0 .now) (a .1 .0) (a .1 .1 .0) (a .1 .1 .1 .0) C Λ fm known (are .1 .0) (are .1 .1 .0) (are .1 .1 .1 .0)))
+  start-walks C Λ fm known = walked 𝓤 H A start.ended stayed (start.clauses 𝓤 H A mem run) (WpFn 𝓤 H C Λ code.function) (λ κs. (ptr-vals, (uint-vals w64, (uint-vals w64, (uint-vals w64, (uint-vals w64, tt))))))
+      (λ κs. (mut-tells (named 0) (κs .0) T.the-row, (uint-tells w64, (uint-tells w64, (uint-tells w64, (uint-tells w64, tt))))))
+      (λ κs qs bounds a _ are. via 𝓤 _ (fst∗ 𝓤 _ (emp 𝓤)) (walk 𝓤 H A W mem run (κs .0) (qs .0) (a .0 .ptr .0) (a .0 .ptr .1) (a .0 .name) (a .0 .now) (a .1 .0) (a .1 .1 .0) (a .1 .1 .1 .0) (a .1 .1 .1 .1 .0) C Λ fm known (are .1 .0) (are .1 .1 .0) (are .1 .1 .1 .0) (are .1 .1 .1 .1 .0)))
 
   goes : AllGo 𝓤 H A W 1 (start.signature .params) (start.ended .kept) stayed
-  goes = (goes-ref 𝓤 H A W 1 0 tt (plain (λ _. T.the-row)), (goes-none 𝓤 H A W 1 (λ _. u64) yes (λ κs x f. refl), (goes-none 𝓤 H A W 1 (λ _. u64) yes (λ κs x f. refl), (goes-none 𝓤 H A W 1 (λ _. u64) yes (λ κs x f. refl), tt))))
+  goes = (goes-ref 𝓤 H A W 1 0 tt (plain (λ _. T.the-row)), (goes-none 𝓤 H A W 1 (λ _. u64) yes (λ κs x f. refl), (goes-none 𝓤 H A W 1 (λ _. u64) yes (λ κs x f. refl), (goes-none 𝓤 H A W 1 (λ _. u64) yes (λ κs x f. refl), (goes-none 𝓤 H A W 1 (λ _. u64) yes (λ κs x f. refl), tt)))))
 
 start-meets : {M : Type 1} (𝓤 : URA M) (H : Heap 𝓤) (A : Atoms 𝓤) (W : Given 𝓤 H A) (mem : Memory → SProp 𝓤) (run : Routine → Fun 𝓤) (𝓣 : Tables 𝓤 H) → Triple 𝓤 (𝓣 .C #pieces·value·start) (Value 𝓤 H A mem run)
     → Meets 𝓤 H A start.signature (WpFn 𝓤 H (𝓣 .C) (𝓣 .Λ) code.function) (start.spec 𝓤 H A mem run)

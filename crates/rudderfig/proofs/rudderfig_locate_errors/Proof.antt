@@ -13,7 +13,7 @@ enum-known-count c = search needs
 
 cast-done : tie.Need-cast-done
 cast-done c =
-    let few = located-size _ (c .before .before .before .before .before .locate-errors .ensures) (c .before .count .given .1) (locate-few _ _ _ _ _) in
+    let few = located-size _ (c .before .before .before .before .before .locate-errors .ensures) (c .before .count .given .1) (locate-few _ _ _ _ _ _) in
     omega arith
 
 done-requires : tie.Need-done-requires

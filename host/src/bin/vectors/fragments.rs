@@ -122,7 +122,7 @@ fn add_located(vectors: &mut Vectors, level_field: u64, n: u64, fragments: &[u32
     let mut places = vec![BEFORE; 2 * level_field as usize];
     let input = input(b'L', places.len(), level_field, n, (&remainder, fragments));
     let answer = reply(import_fragments(level_field, fragments, &mut remainder));
-    let located = locate_errors(level_field, 0, n, &remainder, &mut places);
+    let located = locate_errors(1, level_field, 0, n, &remainder, &mut places);
     let answer = match located {
         Ok(size) => answer.with(0).with(size),
         Err(refusal) => answer.with(refusal.number()),

@@ -6,7 +6,7 @@ use model::layout::{Layout, LayoutRecord, LayoutWords};
 use model::random::Random;
 use model::samples::edges::edges;
 use model::samples::erased::edge_layouts;
-use model::samples::layouts::{CASE_A, accepted_words};
+use model::samples::layouts::{CASE_A, accepted_words, strong_words};
 use model::samples::marks::marked;
 use model::samples::pages::{WrittenPage, spoil};
 use model::{Refusal, check_claim, check_layout, judge_block, look_page, take_page, write_page};
@@ -20,6 +20,10 @@ pub fn vectors() -> Vectors {
     for i in 0..200 {
         let most = [20, 40, 70, 120, 250][i % 5];
         let words = chosen_words(&mut random, i % 8, most);
+        add_page(&mut vectors, words.into(), &mut random);
+    }
+    for _ in 0..20 {
+        let words = strong_words(&mut random);
         add_page(&mut vectors, words.into(), &mut random);
     }
     for words in [edge_layouts(); 4].concat() {
@@ -157,14 +161,16 @@ fn many_blocks(random: &mut Random) -> [LayoutWords; 3] {
     ]
 }
 
-/// Case A, the longest blocks of both fields and the largest page.
-fn large_words(random: &mut Random) -> [LayoutWords; 5] {
+/// Case A, the longest blocks of both fields and editions and the largest page.
+fn large_words(random: &mut Random) -> [LayoutWords; 7] {
     let largest = fitting_words(31, 3, (0x14, 1, 493), (0x14, 1, 494), random);
     [
         fitting_words(7, 10, (8, 0, 128), (8, 0, 128), random),
         fitting_words(1, 2, (0x14, 0, 239), (1, 1, 511), random),
         fitting_words(1, 1, (0x14, 1, 494), (0x14, 0, 239), random),
         fitting_words(3, 0, (0x14, 1, 256), (0x14, 1, 256), random),
+        fitting_words(1, 3, (0x1F, 0, 230), (0x1F, 1, 484), random),
+        fitting_words(3, 0, (0x1E, 1, 256), (0x1E, 1, 256), random),
         LayoutWords {
             page_size: 0xFFFF,
             ..largest
@@ -176,7 +182,8 @@ fn large_words(random: &mut Random) -> [LayoutWords; 5] {
 fn document_calls() -> Vec<Call> {
     let record = 0x0100_0801_000F_0801_u64.to_be_bytes().to_vec();
     let written = WrittenPage {
-        layout: check_layout(&record).unwrap(),
+        edition: 1,
+        layout: check_layout(1, &record).unwrap(),
         record,
         metadata: vec![],
         data: vec![0; 8],
@@ -197,67 +204,75 @@ fn add(vectors: &mut Vectors, call: &Call) {
     vectors.meet(edges(call));
     match call.clone() {
         Call::WritePage {
+            edition,
             record,
             metadata,
             data,
             mut page,
         } => {
-            let mut input = head(b'W', &record, page.len(), metadata.len());
+            let mut input = head(b'W', edition, &record, page.len(), metadata.len());
             input.extend((data.len() as u32).to_be_bytes());
             input.extend([0; 4]);
             input.extend([metadata.as_slice(), &data].concat());
-            let reply = write_page(&record, &metadata, &data, &mut page);
+            let reply = write_page(edition, &record, &metadata, &data, &mut page);
             vectors.add(&input, answer(reply).with_bytes(&page));
         }
         Call::LookPage {
+            edition,
             record,
             page,
             mut counts,
         } => {
-            let mut input = head(b'L', &record, page.len(), counts.len());
+            let mut input = head(b'L', edition, &record, page.len(), counts.len());
             input.extend([0; 8]);
             input.extend(&page);
-            let reply = look_page(&record, &page, &mut counts);
+            let reply = look_page(edition, &record, &page, &mut counts);
             vectors.add(&input, answer(reply).with_bytes(&counts));
         }
         Call::TakePage {
+            edition,
             record,
             page,
             mut metadata,
             mut data,
         } => {
-            let mut input = head(b'T', &record, page.len(), metadata.len());
+            let mut input = head(b'T', edition, &record, page.len(), metadata.len());
             input.extend((data.len() as u32).to_be_bytes());
             input.extend([0; 4]);
             input.extend(&page);
-            let answer = answer(take_page(&record, &page, &mut metadata, &mut data));
+            let answer = answer(take_page(edition, &record, &page, &mut metadata, &mut data));
             vectors.add(&input, answer.with_bytes(&metadata).with_bytes(&data));
         }
         Call::JudgeBlock {
+            edition,
             record,
             page,
             block,
         } => {
-            let mut input = head(b'J', &record, page.len(), 0);
+            let mut input = head(b'J', edition, &record, page.len(), 0);
             input.extend(block.to_be_bytes());
             input.extend(&page);
-            let answer = match judge_block(&record, &page, block) {
+            let answer = match judge_block(edition, &record, &page, block) {
                 Ok(flips) => Answer::done().with(flips),
                 Err(refusal) => refusal.into(),
             };
             vectors.add(&input, answer);
         }
         Call::CheckClaim {
+            edition,
             record,
             page,
             block,
             claims,
         } => {
-            let mut input = head(b'C', &record, page.len(), claims.len());
+            let mut input = head(b'C', edition, &record, page.len(), claims.len());
             input.extend(block.to_be_bytes());
             input.extend(&page);
             input.extend(claims.iter().flat_map(|claim| claim.to_be_bytes()));
-            vectors.add(&input, answer(check_claim(&record, &page, block, &claims)));
+            vectors.add(
+                &input,
+                answer(check_claim(edition, &record, &page, block, &claims)),
+            );
         }
         other => panic!("no call about a page: {other:?}"),
     }
@@ -270,11 +285,12 @@ fn answer(reply: Result<(), Refusal>) -> Answer {
     }
 }
 
-/// The first 24 bytes: kind, record, the page's length and that of the next thing lent.
-fn head(kind: u8, record: &[u8], page: usize, next: usize) -> Vec<u8> {
+/// The first 32 bytes: kind, edition, record, the page's length and that of the next thing lent.
+fn head(kind: u8, edition: u64, record: &[u8], page: usize, next: usize) -> Vec<u8> {
     let mut head = vec![kind, record.len() as u8];
+    head.extend(edition.to_be_bytes());
     head.extend_from_slice(record);
-    head.resize(16, 0);
+    head.resize(24, 0);
     head.extend((page as u32).to_be_bytes());
     head.extend((next as u32).to_be_bytes());
     head

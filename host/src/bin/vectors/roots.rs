@@ -1,6 +1,7 @@
 //! Vectors for `root_vectors`: locators with all their roots among the powers of a.
 
 use crate::{Answer, Vectors};
+use model::code::HIGHEST_LEVEL;
 use model::field::FieldChoice;
 use model::random::Random;
 
@@ -14,6 +15,14 @@ pub fn vectors() -> Vectors {
                     let places = random.distinct(count, choice.field().order());
                     add(&mut vectors, choice, places);
                 }
+            }
+        }
+    }
+    for choice in FieldChoice::ALL {
+        for count in 41..=HIGHEST_LEVEL {
+            for _ in 0..6 {
+                let places = random.distinct(count, choice.field().order());
+                add(&mut vectors, choice, places);
             }
         }
     }

@@ -7,11 +7,11 @@ use Rattle.layout.proofs.words.fields_at.Tie as tie
 block-fields-requires : tie.Need-block-fields-requires
 block-fields-requires c κs = search needs
 
-mul-t13 : tie.Need-mul-t13
-mul-t13 c = search needs
+mul-t14 : tie.Need-mul-t14
+mul-t14 c = search needs
 
-add-t15 : tie.Need-add-t15
-add-t15 c = search needs
+add-t16 : tie.Need-add-t16
+add-t16 c = search needs
 
 block-fields-requires-2 : tie.Need-block-fields-requires-2
 block-fields-requires-2 c κs = search needs
@@ -22,4 +22,4 @@ returns c = rw (c .before .block-fields .ensures, c .block-fields2 .ensures)
 
 pub fields-at-spec : {M : Type 1} → statement M
 fields-at-spec =
-    tie.close (tie.spec block-fields-requires mul-t13 add-t15 block-fields-requires-2 returns)
+    tie.close (tie.spec block-fields-requires mul-t14 add-t16 block-fields-requires-2 returns)

@@ -1,7 +1,7 @@
 -- `layout::words::fields_in` meets its contract.
 use mathlib.Core.Path.{sym}
 use borrow.Author.Needs.{needs}
-use Rattle.layout.specs.Record.{fieldsIn}
+use Rattle.layout.specs.Record.{fieldsUnder}
 use Rattle.layout.proofs.words.fields_in.Statement.{statement}
 use Rattle.layout.proofs.words.fields_in.Tie as tie
 
@@ -39,7 +39,7 @@ fields-at-requires : tie.Need-fields-at-requires
 fields-at-requires c κs = search needs
 
 returns : tie.Need-returns
-unfolding fieldsIn
+unfolding fieldsUnder
 returns c =
     let zeros = c .before .before .before .before .before .before .before .before .before in
     rw (sym (zeros .before .mark-in .ensures), sym (zeros .zeros-in .ensures)) (c .fields-at .ensures)

@@ -1,6 +1,7 @@
 use Prim.Native.Nat.{_*_}
 use mathlib.Core.Path.{sym, _∙_}
 use native.Mathlib.Omega.{arith}
+use Rattle.replies.proofs.Editions.{highest-small}
 use Rattle.remainder.proofs.Fold.{parity-bits-below}
 use Rattle.pieces.proofs.Replies.{right-level, usable-refused, usable-past, usable-below}
 use borrow.Author.Needs.{needs}
@@ -17,17 +18,17 @@ returns-2 : tie.Need-returns-2
 returns-2 c = usable-past _ _ (sym (c .before .before .before .start-reply .ensures) ∙ c .before .before .if1 .left) (c .if2 .taken)
 
 mul-t : tie.Need-mul-t
-mul-t c = omega (arith, right-level _ _ _ (sym (c .before .before .before .start-reply .ensures) ∙ c .before .before .if1 .left))
+mul-t c = omega (arith, right-level 2 _ _ _ (sym (c .before .before .before .start-reply .ensures) ∙ c .before .before .if1 .left), highest-small 2)
 
 parity-bits-requires : tie.Need-parity-bits-requires
-parity-bits-requires c κs = omega (arith, right-level _ _ _ (sym (c .before .before .before .start-reply .ensures) ∙ c .before .before .if1 .left))
+parity-bits-requires c κs = omega (arith, right-level 2 _ _ _ (sym (c .before .before .before .start-reply .ensures) ∙ c .before .before .if1 .left), highest-small 2)
 
 is-below-requires : tie.Need-is-below-requires
 is-below-requires c κs =
     let r = c .before .before .before .before .before .start-reply .ensures in
     let a = c .before .before .before .before .before .before .args in
-    let l = right-level _ _ _ (sym r ∙ c .before .before .before .before .if1 .left) in
-    let p = parity-bits-below (a .f) (2 * a .state .level) (omega (arith, l)) in
+    let l = right-level 2 _ _ _ (sym r ∙ c .before .before .before .before .if1 .left) in
+    let p = parity-bits-below (a .f) (2 * a .state .level) (omega (arith, l, highest-small 2)) in
     omega (arith, c .before .parity-bits .ensures, p)
 
 returns-3 : tie.Need-returns-3

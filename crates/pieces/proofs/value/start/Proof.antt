@@ -2,8 +2,16 @@ use mathlib.Core.Path.{sym, _∙_}
 use Rattle.replies.specs.Replies.{number}
 use Rattle.pieces.specs.Calls.{startFor, startOf}
 use borrow.Author.Needs.{needs}
+use borrow.Author.Tests.{not-true, not-false}
 use Rattle.pieces.proofs.value.start.Statement.{statement}
 use Rattle.pieces.proofs.value.start.Tie as tie
+
+offered-requires : tie.Need-offered-requires
+offered-requires c κs = search needs
+
+returns : tie.Need-returns
+unfolding startOf number
+returns c = rw (sym (c .before .offered .ensures) ∙ not-true _ (c .if1 .taken))
 
 choose-requires : tie.Need-choose-requires
 choose-requires c κs = search needs
@@ -17,14 +25,31 @@ start-in-requires c κs = search needs
 enum-told : tie.Need-enum-told
 enum-told c = search needs
 
-returns : tie.Need-returns
-unfolding startOf startFor number
-returns c = c .start-in .ensures ∙ simp (sym (c .before .before .before .before .choose .ensures), c .before .before .f .given .1)
-
 returns-2 : tie.Need-returns-2
 unfolding startOf startFor number
-returns-2 c = simp (sym (c .before .before .choose .ensures), c .enum-told .given .1)
+returns-2 c =
+    let known = c .before .before in
+    let choose = known .before .before in
+    let edition = choose .before in
+    c .start-in .ensures
+    ∙ simp (sym (edition .before .offered .ensures) ∙ not-false _ (edition .if1 .left), sym (choose .choose .ensures), known .f .given .1)
+
+returns-3 : tie.Need-returns-3
+unfolding startOf startFor number
+returns-3 c =
+    let choose = c .before .before in
+    let edition = choose .before in
+    simp (sym (edition .before .offered .ensures) ∙ not-false _ (edition .if1 .left), sym (choose .choose .ensures), c .enum-told .given .1)
 
 pub start-spec : {M : Type 1} → statement M
 start-spec =
-    tie.close (tie.spec choose-requires enum-known-f start-in-requires enum-told returns returns-2)
+    tie.close
+    (tie.spec
+    offered-requires
+    returns
+    choose-requires
+    enum-known-f
+    start-in-requires
+    enum-told
+    returns-2
+    returns-3)

@@ -9,13 +9,13 @@ start-reply-requires : tie.Need-start-reply-requires
 start-reply-requires c κs = search needs
 
 returns : tie.Need-returns
-returns c = start-refused _ _ _ _ (c .before .start-reply .ensures) (c .if1 .taken)
+returns c = start-refused _ _ _ _ _ (c .before .start-reply .ensures) (c .if1 .taken)
 
 choice-of-requires : tie.Need-choice-of-requires
 choice-of-requires c κs = search needs
 
 returns-2 : tie.Need-returns-2
-returns-2 c = start-done _ _ _ _ (sym (c .before .before .start-reply .ensures) ∙ c .before .if1 .left) (state-start _ _ _ (c .choice-of .ensures))
+returns-2 c = start-done _ _ _ _ _ (sym (c .before .before .start-reply .ensures) ∙ c .before .if1 .left) (state-start _ _ _ (c .choice-of .ensures))
 
 pub start-in-spec : {M : Type 1} → statement M
 start-in-spec = tie.close (tie.spec start-reply-requires returns choice-of-requires returns-2)

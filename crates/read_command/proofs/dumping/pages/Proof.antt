@@ -5,11 +5,11 @@ use Rattle.read_command.proofs.dumping.pages.Statement.{statement}
 use Rattle.read_command.proofs.dumping.pages.Tie as tie
 
 abbrev Inv-loop : tie.InvT-loop
-Inv-loop out₀ «record» plan run page₀ metadata₀ data₀ counts₀ totals₀ turns₀ out page metadata «data» counts totals turns =
+Inv-loop out₀ edition «record» plan run page₀ metadata₀ data₀ counts₀ totals₀ turns₀ out page metadata «data» counts totals turns =
     turns ≤ turns₀
 
 abbrev μ-loop : tie.MeasureT-loop
-μ-loop out₀ «record» plan run page₀ metadata₀ data₀ counts₀ totals₀ turns₀ out page metadata «data» counts totals turns =
+μ-loop out₀ edition «record» plan run page₀ metadata₀ data₀ counts₀ totals₀ turns₀ out page metadata «data» counts totals turns =
     turns
 
 left-requires : tie.Need-left-requires Inv-loop μ-loop

@@ -1,6 +1,7 @@
 -- `roundtrip::round::round_in` meets its contract.
 use mathlib.Core.Path.{sym, _∙_}
 use borrow.Author.Tests.{not-true, not-false}
+use Rattle.layout.specs.Record.{wordsOf}
 use Rattle.roundtrip.proofs.Trips.{trip-unwritten, trip-written, trip-masked, trip-sizes, trip-done, trip-refused}
 use borrow.Author.Needs.{needs}
 use Rattle.roundtrip.proofs.round.round_in.Statement.{statement}
@@ -16,7 +17,7 @@ returns : tie.Need-returns
 returns c =
     let w = c .before .before .before in
     let a = w .before .before .before .before .before .before .before .before .before .before in
-    trip-unwritten (a .args .words .now) (a .args .plan) (a .pre) (a .args .metadata .now) (a .args .«data» .now) (a .args .mask .now) (a .args .page .now) (a .args .metadata-out .now) (a .args .data-out .now) (a .args .counts .now) (w .write .ensures) (c .if1 .taken)
+    trip-unwritten (wordsOf (a .args .edition) (a .args .words .now)) (a .args .plan) (a .pre) (a .args .metadata .now) (a .args .«data» .now) (a .args .mask .now) (a .args .page .now) (a .args .metadata-out .now) (a .args .data-out .now) (a .args .counts .now) (w .write .ensures) (c .if1 .taken)
 
 mask-allowed-requires : tie.Need-mask-allowed-requires
 mask-allowed-requires c κs = search needs
@@ -28,16 +29,16 @@ returns-2 : tie.Need-returns-2
 returns-2 c =
     let w = c .before .before .before .before .before in
     let a = w .before .before .before .before .before .before .before .before .before .before in
-    trip-masked (a .args .words .now) (a .args .plan) (a .pre) (a .args .metadata .now) (a .args .«data» .now) (a .args .mask .now) (a .args .page .now) (a .args .metadata-out .now) (a .args .data-out .now) (a .args .counts .now)
-    (trip-written (a .args .words .now) (a .args .plan) (a .pre) (a .args .metadata .now) (a .args .«data» .now) (a .args .mask .now) (a .args .page .now) (a .args .metadata-out .now) (a .args .data-out .now) (a .args .counts .now) (w .write .ensures) (c .before .before .if1 .left))
+    trip-masked (wordsOf (a .args .edition) (a .args .words .now)) (a .args .plan) (a .pre) (a .args .metadata .now) (a .args .«data» .now) (a .args .mask .now) (a .args .page .now) (a .args .metadata-out .now) (a .args .data-out .now) (a .args .counts .now)
+    (trip-written (wordsOf (a .args .edition) (a .args .words .now)) (a .args .plan) (a .pre) (a .args .metadata .now) (a .args .«data» .now) (a .args .mask .now) (a .args .page .now) (a .args .metadata-out .now) (a .args .data-out .now) (a .args .counts .now) (w .write .ensures) (c .before .before .if1 .left))
     (sym (not-true _ (c .if2 .taken)) ∙ c .before .mask-allowed .ensures)
 
 flip-by-requires : tie.Need-flip-by-requires
 flip-by-requires c κs =
     let w = c .before .before .before .before .before .before in
     let a = w .before .before .before .before .before .before .before .before .before .before in
-    trip-sizes (a .args .words .now) (a .args .plan) (a .pre) (a .args .metadata .now) (a .args .«data» .now) (a .args .mask .now) (a .args .page .now) (a .args .metadata-out .now) (a .args .data-out .now) (a .args .counts .now)
-    (trip-written (a .args .words .now) (a .args .plan) (a .pre) (a .args .metadata .now) (a .args .«data» .now) (a .args .mask .now) (a .args .page .now) (a .args .metadata-out .now) (a .args .data-out .now) (a .args .counts .now) (w .write .ensures) (c .before .before .before .if1 .left))
+    trip-sizes (wordsOf (a .args .edition) (a .args .words .now)) (a .args .plan) (a .pre) (a .args .metadata .now) (a .args .«data» .now) (a .args .mask .now) (a .args .page .now) (a .args .metadata-out .now) (a .args .data-out .now) (a .args .counts .now)
+    (trip-written (wordsOf (a .args .edition) (a .args .words .now)) (a .args .plan) (a .pre) (a .args .metadata .now) (a .args .«data» .now) (a .args .mask .now) (a .args .page .now) (a .args .metadata-out .now) (a .args .data-out .now) (a .args .counts .now) (w .write .ensures) (c .before .before .before .if1 .left))
     (sym (not-false _ (c .before .if2 .left)) ∙ c .before .before .mask-allowed .ensures)
 
 read-back-requires : tie.Need-read-back-requires
@@ -60,9 +61,9 @@ returns-3 c =
     let t = c .before .before .before .before .before .before .before .before .before .before .before .before .before .before in
     let w = t .before .before .before .before .before .before .before in
     let a = w .before .before .before .before .before .before .before .before .before .before in
-    trip-refused (a .args .words .now) (a .args .plan) (a .pre) (a .args .metadata .now) (a .args .«data» .now) (a .args .mask .now) (a .args .page .now) (a .args .metadata-out .now) (a .args .data-out .now) (a .args .counts .now)
+    trip-refused (wordsOf (a .args .edition) (a .args .words .now)) (a .args .plan) (a .pre) (a .args .metadata .now) (a .args .«data» .now) (a .args .mask .now) (a .args .page .now) (a .args .metadata-out .now) (a .args .data-out .now) (a .args .counts .now)
     (λ i. w .before .before .before .before .before .before .before .before .shared-slice-known2 .given i .fits) (λ i. w .before .before .before .before .before .before .before .shared-slice-known3 .given i .fits)
-    (trip-written (a .args .words .now) (a .args .plan) (a .pre) (a .args .metadata .now) (a .args .«data» .now) (a .args .mask .now) (a .args .page .now) (a .args .metadata-out .now) (a .args .data-out .now) (a .args .counts .now) (w .write .ensures) (t .before .before .before .before .if1 .left))
+    (trip-written (wordsOf (a .args .edition) (a .args .words .now)) (a .args .plan) (a .pre) (a .args .metadata .now) (a .args .«data» .now) (a .args .mask .now) (a .args .page .now) (a .args .metadata-out .now) (a .args .data-out .now) (a .args .counts .now) (w .write .ensures) (t .before .before .before .before .if1 .left))
     (sym (not-false _ (t .before .before .if2 .left)) ∙ t .before .before .before .mask-allowed .ensures)
     (t .flip-by .ensures) (c .before .before .before .before .before .before .before .read-back .ensures) (c .if3 .taken)
 
@@ -83,9 +84,9 @@ returns-4 c =
     let t = c .before .before .before .before .before .before .before .before .before .before .before .before .before .before in
     let w = t .before .before .before .before .before .before .before in
     let a = w .before .before .before .before .before .before .before .before .before .before in
-    trip-done (a .args .words .now) (a .args .plan) (a .pre) (a .args .metadata .now) (a .args .«data» .now) (a .args .mask .now) (a .args .page .now) (a .args .metadata-out .now) (a .args .data-out .now) (a .args .counts .now)
+    trip-done (wordsOf (a .args .edition) (a .args .words .now)) (a .args .plan) (a .pre) (a .args .metadata .now) (a .args .«data» .now) (a .args .mask .now) (a .args .page .now) (a .args .metadata-out .now) (a .args .data-out .now) (a .args .counts .now)
     (λ i. w .before .before .before .before .before .before .before .before .shared-slice-known2 .given i .fits) (λ i. w .before .before .before .before .before .before .before .shared-slice-known3 .given i .fits)
-    (trip-written (a .args .words .now) (a .args .plan) (a .pre) (a .args .metadata .now) (a .args .«data» .now) (a .args .mask .now) (a .args .page .now) (a .args .metadata-out .now) (a .args .data-out .now) (a .args .counts .now) (w .write .ensures) (t .before .before .before .before .if1 .left))
+    (trip-written (wordsOf (a .args .edition) (a .args .words .now)) (a .args .plan) (a .pre) (a .args .metadata .now) (a .args .«data» .now) (a .args .mask .now) (a .args .page .now) (a .args .metadata-out .now) (a .args .data-out .now) (a .args .counts .now) (w .write .ensures) (t .before .before .before .before .if1 .left))
     (sym (not-false _ (t .before .before .if2 .left)) ∙ t .before .before .before .mask-allowed .ensures)
     (t .flip-by .ensures) (c .before .before .before .before .before .before .before .read-back .ensures) (c .if3 .left)
 
