@@ -2,11 +2,11 @@
 --
 -- degree-field    fields of one degree are one field
 -- table-same      where the test for the same generator holds, a table of the one block's generator is one of the other's
--- table-later     the later blocks have one generator
+-- table-later     the blocks after block 0 have one generator
 use mathlib.Core.Path.{_≡_, refl, sym, _∙_}
 use mathlib.Core.Bool.{Bool, true, false, cond}
 use mathlib.Core.List.{List}
-use Prim.Native.Nat.{ℕ, zero, suc, _<_}
+use Prim.Native.Nat.{ℕ, _<_}
 use native.Mathlib.Omega.{arith}
 use lib.Dec.{eqb}
 use borrow.Author.Tests.{eqb-true}
@@ -15,8 +15,9 @@ use Rattle.field.specs.declared.Field.the-variants.{Thirteen, Fourteen}
 use Rattle.field.specs.Field.{degree}
 use Rattle.layout.specs.declared.Shape.{Shape}
 use Rattle.layout.specs.declared.Plan.{Plan}
-use Rattle.layout.specs.Plan.{shape, field, level}
+use Rattle.layout.specs.Plan.{field, level}
 use Rattle.division_table.specs.Table.{Table}
+use Rattle.page_plan.specs.Plans.{Planned}
 
 pub degree-field : (f g : Field) → degree f ≡ degree g → f ≡ g
 unfolding degree
@@ -33,7 +34,6 @@ table-same a b {words} e t h = go (eqb (degree (a .field)) (degree (b .field))) 
     go true ex l = rw (degree-field (a .field) (b .field) (eqb-true _ _ ex), eqb-true (a .level) (b .level) l) at h
     go false ex l = absurd (let z : _≡_ {A = ℕ} 0 1 = cc in omega arith)
 
-pub table-later : (q : Plan) (b : ℕ) {words : List ℕ} → 0 < b → Table (q .later .field) (q .later .level) words → Table (field q b) (level q b) words
-unfolding shape
-table-later q zero l h = absurd (omega arith)
-table-later q (suc b) l h = h
+pub table-later : (q : Plan) → Planned q → (b : ℕ) {words : List ℕ} → 0 < b → b < q .blocks → Table (q .later .field) (q .later .level) words
+    → Table (field q b) (level q b) words
+table-later q p b l i h = let e = p .behind b l i in rw (e .0, e .1) h

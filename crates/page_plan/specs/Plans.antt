@@ -10,18 +10,21 @@ use Prim.Native.Nat.{ℕ, _%_, _≤_, _<_}
 use lib.ListN.{length}
 use Rattle.layout.specs.declared.Shape.{Shape}
 use Rattle.layout.specs.declared.Plan.{Plan}
-use Rattle.layout.specs.Plan.{Valid}
+use Rattle.layout.specs.Plan.{field, level, Valid}
 
 -- The stored generators are those of t = 0, 2, 4, .., 62 (document 01, "Layout words": t is twice the level field).
 pub record Stored (s : Shape) : Type 0 where
   pub even : s .level % 2 ≡ 0
   pub small : s .level ≤ 62
 
--- A valid plan of at least one block, whose blocks have stored generators, and whose numbers are as small as those of a layout record.
+-- A valid plan of at least one block, whose blocks have stored generators, all after block 0 the same one, and whose numbers are as small as those
+-- of a layout record.
 pub record Planned (q : Plan) : Type 0 where
   pub valid : Valid q
   pub first : Stored (q .first)
   pub later : Stored (q .later)
+  pub own : 0 < q .firsts
+  pub behind : (b : ℕ) → 0 < b → b < q .blocks → (field q b ≡ q .later .field) × (level q b ≡ q .later .level)
   pub some : 0 < q .blocks
   pub few : q .blocks ≤ 256
   pub metadata : q .metadata < 256

@@ -40,12 +40,14 @@ pub fn message_start(plan: Plan, block: u16) -> usize
     ensures eq { λ r. ⌜ r ≡ from plan block ⌝ }
     ensures small { λ r. ⌜ r < 1125899906842624 ⌝ }
 {
-    if block == 0 {
-        return 0;
-    }
+    let firsts = plan.firsts;
     let first = plan.first.message as usize;
+    if block <= firsts {
+        return block as usize * first;
+    }
     let later = plan.later.message as usize;
-    first + (block as usize - 1) * later
+    let rest = block - firsts;
+    firsts as usize * first + rest as usize * later
 }
 
 // Whether two blocks have the same generator: the same field and the same level.
