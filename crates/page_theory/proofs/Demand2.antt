@@ -15,7 +15,8 @@ use Rattle.bits.proofs.Runs.{run-cong}
 use Rattle.mark.specs.Mark.{marked, streamBit}
 use Rattle.layout.specs.Record.{Words}
 use Rattle.layout.specs.declared.Plan.{Plan}
-use Rattle.layout.specs.Plan.{bits, field, level, used, room, from, payload, Valid}
+use Rattle.layout.specs.Plan.{bits, field, level, room, from, payload, Valid}
+use Rattle.layout.specs.Bits.{blockOf}
 use Rattle.code.specs.Word.{Word}
 use Rattle.code.specs.Code.{Codeword}
 use Rattle.code.specs.Generator.{parity}
@@ -48,8 +49,8 @@ module _ (rec : Words) (q : Plan) (accepted : Accepts rec q) where
     write-codewords b l = let v = accepts-valid rec q accepted in
         rw (write-done, page-block q page (m ++ d) v b l) (written-code q (m ++ d) b (v .strong b l))
 
-    -- "tail bits included": the bits after the last block are ones.
-    pub write-tail : (p : ℕ) → used q ≤ p → p < room q → streamBit (q .mark) (writeOf rec m d page .page) p ≡ true
+    -- "tail bits included": the bits of no block are ones, and so are the pads.
+    pub write-tail : (p : ℕ) → blockOf q p ≡ q .blocks → p < room q → streamBit (q .mark) (writeOf rec m d page .page) p ≡ true
     write-tail p h l = rw write-done (page-tail q (accepts-valid rec q accepted) page (m ++ d) p h l)
 
     -- The mark is the lent page's.
