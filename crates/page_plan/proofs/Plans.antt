@@ -52,6 +52,7 @@ record Ranges (f : Fields) : Type 0 where
   metadata : f .metadata < 256
   first : f .first .units < 1024
   later : f .later .units < 1024
+  page : f .page < 65536
 
 ranges : (rec : Words) → ((i : ℕ) → getD (rec .bytes) i 0 < 256) → Ranges (fieldsIn rec)
 unfolding fieldsUnder fieldsAt blockFields
@@ -60,12 +61,13 @@ ranges rec b = record {
   metadata = b 1;
   first = omega (arith, b 2, b 3);
   later = omega (arith, b 6, b 7);
+  page = omega (arith, b 4, b 5);
 }
 
 -- after block 0 there is one shape
 one-later : (f : Fields) (b : ℕ) → 0 < b → (field (planFor f) b ≡ planFor f .later .field) × (level (planFor f) b ≡ planFor f .later .level)
 unfolding planFor
-one-later f b l = let e = shape-later (planFor f) b l in rw (sym e) (refl, refl)
+one-later f b l = let e = shape-later (planFor f) b l in (ap (λ (s : Shape). s .field) (sym e), ap (λ (s : Shape). s .level) (sym e))
 
 fields-planned : (f : Fields) → Ranges f → findingOf f (planFor f) ≡ Kept → Planned (planFor f)
 unfolding planFor dataBytes
@@ -80,6 +82,7 @@ fields-planned f r e =
       later = later-stored f k;
       own = omega arith;
       behind = λ b l i. one-later f b l;
+      size = r .page;
       some = omega arith;
       few = omega arith;
       metadata = r .metadata;
@@ -108,19 +111,21 @@ module _ (q : Plan) (planned : Planned q) (b : ℕ) (inside : b < q .blocks) {s 
   pub shape-fits : Fits (s .field) (s .level) (s .covered)
   shape-fits = rw es (block-fits q (planned .valid) b inside)
 
-  pub block-inside : {page : List ℕ} {position : ℕ} → length page ≡ q .size → q .size < 65536 → position ≡ start q b
+  pub block-inside : {page : List ℕ} {position : ℕ} → length page ≡ q .size → position ≡ start q b
       → InStream (q .mark) page position (s .covered)
   unfolding room
-  block-inside h x e =
+  block-inside h e =
+      let x = planned .size in
       let k = planned .valid .ends b inside in
       let m = planned .valid .inside in
       rw (e, es) (record { inside = omega arith; ends = omega arith; fits = omega arith })
 
   -- and so does it with its pads
-  pub pads-inside : {page : List ℕ} {position : ℕ} → length page ≡ q .size → q .size < 65536 → position ≡ start q b
+  pub pads-inside : {page : List ℕ} {position : ℕ} → length page ≡ q .size → position ≡ start q b
       → InStream (q .mark) page position (s .covered + s .pads)
   unfolding room
-  pads-inside h x e =
+  pads-inside h e =
+      let x = planned .size in
       let v = planned .valid in
       let k = start-up q (suc b) (q .blocks) inside in
       let n = start-next q b in

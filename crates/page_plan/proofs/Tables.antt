@@ -2,8 +2,9 @@
 --
 -- degree-field    fields of one degree are one field
 -- table-same      where the test for the same generator holds, a table of the one block's generator is one of the other's
+-- table-first     block 0 has the generator of the first shape
 -- table-later     the blocks after block 0 have one generator
-use mathlib.Core.Path.{_≡_, refl, sym, _∙_}
+use mathlib.Core.Path.{_≡_, refl, sym, _∙_, subst}
 use mathlib.Core.Bool.{Bool, true, false, cond}
 use mathlib.Core.List.{List}
 use Prim.Native.Nat.{ℕ, _<_}
@@ -18,6 +19,7 @@ use Rattle.layout.specs.declared.Plan.{Plan}
 use Rattle.layout.specs.Plan.{field, level}
 use Rattle.division_table.specs.Table.{Table}
 use Rattle.page_plan.specs.Plans.{Planned}
+use Rattle.page_plan.proofs.Plans.{shape-zero}
 
 pub degree-field : (f g : Field) → degree f ≡ degree g → f ≡ g
 unfolding degree
@@ -33,6 +35,9 @@ table-same a b {words} e t h = go (eqb (degree (a .field)) (degree (b .field))) 
     go : (x : Bool) → eqb (degree (a .field)) (degree (b .field)) ≡ x → cond x (eqb (a .level) (b .level)) false ≡ true → Table (b .field) (b .level) words
     go true ex l = rw (degree-field (a .field) (b .field) (eqb-true _ _ ex), eqb-true (a .level) (b .level) l) at h
     go false ex l = absurd (let z : _≡_ {A = ℕ} 0 1 = cc in omega arith)
+
+pub table-first : (q : Plan) → Planned q → {words : List ℕ} → Table (q .first .field) (q .first .level) words → Table (field q 0) (level q 0) words
+table-first q p {words} h = subst (λ (s : Shape). Table (s .field) (s .level) words) (shape-zero q p) h
 
 pub table-later : (q : Plan) → Planned q → (b : ℕ) {words : List ℕ} → 0 < b → b < q .blocks → Table (q .later .field) (q .later .level) words
     → Table (field q b) (level q b) words

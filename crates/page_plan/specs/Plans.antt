@@ -25,6 +25,7 @@ pub record Planned (q : Plan) : Type 0 where
   pub later : Stored (q .later)
   pub own : 0 < q .firsts
   pub behind : (b : ℕ) → 0 < b → b < q .blocks → (field q b ≡ q .later .field) × (level q b ≡ q .later .level)
+  pub size : q .size < 65536
   pub some : 0 < q .blocks
   pub few : q .blocks ≤ 256
   pub metadata : q .metadata < 256
