@@ -3,7 +3,7 @@
 -- degree-field    fields of one degree are one field
 -- table-same      where the test for the same generator holds, a table of the one block's generator is one of the other's
 -- table-first     block 0 has the generator of the first shape
--- table-later     the blocks after block 0 have one generator
+-- table-later, table-shape     the blocks after block 0 have one generator
 use mathlib.Core.Path.{_≡_, refl, sym, _∙_, subst}
 use mathlib.Core.Bool.{Bool, true, false, cond}
 use mathlib.Core.List.{List}
@@ -16,7 +16,7 @@ use Rattle.field.specs.declared.Field.the-variants.{Thirteen, Fourteen}
 use Rattle.field.specs.Field.{degree}
 use Rattle.layout.specs.declared.Shape.{Shape}
 use Rattle.layout.specs.declared.Plan.{Plan}
-use Rattle.layout.specs.Plan.{field, level}
+use Rattle.layout.specs.Plan.{shape, field, level}
 use Rattle.division_table.specs.Table.{Table}
 use Rattle.page_plan.specs.Plans.{Planned}
 use Rattle.page_plan.proofs.Plans.{shape-zero}
@@ -42,3 +42,7 @@ table-first q p {words} h = subst (λ (s : Shape). Table (s .field) (s .level) w
 pub table-later : (q : Plan) → Planned q → (b : ℕ) {words : List ℕ} → 0 < b → b < q .blocks → Table (q .later .field) (q .later .level) words
     → Table (field q b) (level q b) words
 table-later q p b l i h = let e = p .behind b l i in rw (e .0, e .1) h
+
+pub table-shape : (q : Plan) → Planned q → (b : ℕ) {s : Shape} {words : List ℕ} → 0 < b → b < q .blocks → s ≡ shape q b → Table (q .later .field) (q .later .level) words
+    → Table (s .field) (s .level) words
+table-shape q p b l i e h = rw e (table-later q p b l i h)
