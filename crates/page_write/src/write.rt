@@ -139,8 +139,8 @@ fn write_blocks(plan: Plan, metadata: &[u8], data: &[u8], page: &mut [u8])
     fill_ones(mark, page, used, room - used);
 }
 
-// Writes a page under a plan, where the lengths are right.
-fn write_in(plan: Plan, metadata: &[u8], data: &[u8], page: &mut [u8]) -> WriteAnswer
+// Writes a page under the plan of an accepted layout.
+pub fn write_in(plan: Plan, metadata: &[u8], data: &[u8], page: &mut [u8]) -> WriteAnswer
     requires { ⌜ Planned plan ⌝ }
     ensures { λ r. ⌜ writeEnded (writeNumber r) (writeBlock r) (now (page .exit))
         ≡ writeIn plan (now (metadata .entry)) (now («data» .entry)) (now (page .entry)) ⌝ }
