@@ -1,6 +1,6 @@
 -- `page_claim::claim::check_claim` meets its contract.
 use mathlib.Core.Path.{sym, _∙_}
-use Rattle.page_theory.specs.Calls.{claimFor, claimOf}
+use Rattle.page_theory.specs.Calls.{claimFor}
 use Rattle.page_claim.specs.Answers.{claimNumber}
 use Rattle.layout.specs.Acceptance.{refusalReply}
 use Rattle.page_plan.proofs.Plans.{accepted-planned}
@@ -32,14 +32,14 @@ refusal-of-requires : tie.Need-refusal-of-requires
 refusal-of-requires c κs = search needs
 
 returns : tie.Need-returns
-unfolding claimOf claimFor
+unfolding claimFor
 returns c =
     let known = c .before .before .before in
     c .claim-in .ensures
     ∙ simp (c .before .plan-of .ensures, sym (known .before .before .check-layout .ensures), known .layout .given .1)
 
 returns-2 : tie.Need-returns-2
-unfolding claimNumber claimOf claimFor refusalReply
+unfolding claimNumber claimFor refusalReply
 returns-2 c =
     let known = c .before .before in
     simp (c .refusal-of .ensures, sym (known .before .before .check-layout .ensures), known .refusal .given .1)

@@ -1,7 +1,7 @@
 -- `page_judge::judge::judge_block` meets its contract.
 use mathlib.Core.Path.{sym, _∙_}
 use borrow.Author.Needs.{needs}
-use Rattle.page_theory.specs.Calls.{judgeFor, judgeOf}
+use Rattle.page_theory.specs.Calls.{judgeFor}
 use Rattle.page_judge.specs.Answers.{judgeNumber, judgeBlock, judgeFlips}
 use Rattle.page_plan.proofs.Plans.{accepted-planned}
 use Rattle.page_judge.proofs.Ends.{judge-layout}
@@ -30,13 +30,13 @@ refusal-of-requires : tie.Need-refusal-of-requires
 refusal-of-requires c κs = search needs
 
 returns : tie.Need-returns
-unfolding judgeOf judgeFor
+unfolding judgeFor
 returns c =
     let known = c .before .before .before in
     c .judge-in .ensures ∙ simp (c .before .plan-of .ensures, sym (known .before .before .check-layout .ensures), known .layout .given .1)
 
 returns-2 : tie.Need-returns-2
-unfolding judgeNumber judgeBlock judgeFlips judgeOf
+unfolding judgeNumber judgeBlock judgeFlips
 returns-2 c =
     let known = c .before .before in
     judge-layout _ _ (c .refusal-of .ensures) (sym (known .before .before .check-layout .ensures) ∙ known .refusal .given .1)

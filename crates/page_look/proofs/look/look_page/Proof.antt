@@ -1,7 +1,7 @@
 -- `page_look::look::look_page` meets its contract.
 use mathlib.Core.Path.{sym, _∙_}
 use borrow.Author.Needs.{needs}
-use Rattle.page_theory.specs.Calls.{lookFor, lookOf}
+use Rattle.page_theory.specs.Calls.{lookFor}
 use Rattle.page_plan.proofs.Plans.{accepted-planned}
 use Rattle.page_look.specs.Answers.{lookNumber, lookBlock}
 use Rattle.page_look.proofs.Ends.{look-layout}
@@ -36,7 +36,7 @@ same-length : tie.Need-same-length
 same-length c = search needs
 
 returns : tie.Need-returns
-unfolding lookOf lookFor
+unfolding lookFor
 returns c =
     let done = c .before .before in
     let planned = done .before .before in
@@ -44,7 +44,7 @@ returns c =
     done .look-in .ensures ∙ simp (planned .plan-of .ensures, sym (known .before .before .check-layout .ensures), known .layout .given .1)
 
 returns-2 : tie.Need-returns-2
-unfolding lookNumber lookBlock lookOf
+unfolding lookNumber lookBlock
 returns-2 c =
     let known = c .before .before in
     look-layout _ _ (c .refusal-of .ensures) (sym (known .before .before .check-layout .ensures) ∙ known .refusal .given .1)

@@ -1,7 +1,7 @@
 -- `page_take::take::take_page` meets its contract.
 use mathlib.Core.Path.{sym, _∙_}
 use borrow.Author.Needs.{needs}
-use Rattle.page_theory.specs.Calls.{takeFor, takeOf}
+use Rattle.page_theory.specs.Calls.{takeFor}
 use Rattle.page_plan.proofs.Plans.{accepted-planned}
 use Rattle.page_take.specs.Answers.{takeNumber, takeBlock}
 use Rattle.page_take.proofs.Ends.{take-layout}
@@ -39,7 +39,7 @@ same-length-2 : tie.Need-same-length-2
 same-length-2 c = search needs
 
 returns : tie.Need-returns
-unfolding takeOf takeFor
+unfolding takeFor
 returns c =
     let done = c .before .before .before .before in
     let planned = done .before .before .before in
@@ -47,7 +47,7 @@ returns c =
     done .take-in .ensures ∙ simp (planned .plan-of .ensures, sym (known .before .before .check-layout .ensures), known .layout .given .1)
 
 returns-2 : tie.Need-returns-2
-unfolding takeNumber takeBlock takeOf
+unfolding takeNumber takeBlock
 returns-2 c =
     let known = c .before .before in
     take-layout _ _ _ (c .refusal-of .ensures) (sym (known .before .before .check-layout .ensures) ∙ known .refusal .given .1)

@@ -1,6 +1,6 @@
 -- `page_write::write::write_page` meets its contract.
 use mathlib.Core.Path.{sym, _∙_}
-use Rattle.page_theory.specs.Calls.{writeFor, writeOf}
+use Rattle.page_theory.specs.Calls.{writeFor}
 use Rattle.page_write.specs.Answers.{writeNumber, writeBlock}
 use Rattle.page_plan.proofs.Plans.{accepted-planned}
 use borrow.Author.Needs.{needs}
@@ -35,7 +35,7 @@ same-length : tie.Need-same-length
 same-length c = search needs
 
 returns : tie.Need-returns
-unfolding writeOf writeFor
+unfolding writeFor
 returns c =
     let done = c .before .before in
     let known = done .before .before .before .before in
@@ -43,7 +43,7 @@ returns c =
     ∙ simp (done .before .before .plan-of .ensures, sym (known .before .before .check-layout .ensures), known .layout .given .1)
 
 returns-2 : tie.Need-returns-2
-unfolding writeNumber writeBlock writeOf
+unfolding writeNumber writeBlock
 returns-2 c =
     let known = c .before .before in
     write-layout _ _ _ (c .refusal-of .ensures) (sym (known .before .before .check-layout .ensures) ∙ known .refusal .given .1)
