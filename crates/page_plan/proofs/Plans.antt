@@ -1,6 +1,7 @@
 -- The plan of an accepted layout has what the code counts on.
 --
 -- accepted-planned           the plan of an accepted layout is such a plan
+-- words-sound                so the answer to layout words is sound
 -- shape-stored               each of its blocks has a stored generator
 -- shape-zero                 block 0 has the first shape
 -- block-fits, shape-fits     each of its blocks is as long as its code allows
@@ -31,7 +32,7 @@ use Rattle.layout.proofs.Plans.{product-le, later-none, later-some, shape-first
 use Rattle.layout.proofs.Accepting.{Keeps, keeps, plan-valid, accepted-plan, accepted-kept}
 use Rattle.code.specs.Code.{Fits}
 use Rattle.page_theory.proofs.Reading.{from-order}
-use Rattle.page_plan.specs.Plans.{Stored, Planned}
+use Rattle.page_plan.specs.Plans.{Stored, Planned, Sound}
 
 module _ (f : Fields) (k : Keeps f (planFor f)) where
   first-stored : Stored (planFor f .first)
@@ -91,6 +92,10 @@ fields-planned f r e =
 
 pub accepted-planned : (rec : Words) (l : Layout) → ((i : ℕ) → getD (rec .bytes) i 0 < 256) → acceptance rec ≡ Accepted l → Planned (planOf l)
 accepted-planned rec l b e = rw (accepted-plan rec l e) (fields-planned (fieldsIn rec) (ranges rec b) (accepted-kept rec l e))
+
+-- so the answer to layout words is sound
+pub words-sound : (rec : Words) → ((i : ℕ) → getD (rec .bytes) i 0 < 256) → Sound (acceptance rec)
+words-sound rec b l e = accepted-planned rec l b e
 
 pub shape-stored : (q : Plan) (b : ℕ) → Planned q → Stored (shape q b)
 unfolding shape

@@ -30,8 +30,8 @@ ghost use Rattle.code.specs.Generator.{parity};
 ghost use Rattle.division_table.specs.Table.{Table};
 ghost use Rattle.layout.specs.Record.{wordsOf};
 ghost use Rattle.page_theory.specs.Page.{pageOf};
-ghost use Rattle.page_theory.specs.Calls.{writeEnded, writeIn, writeOf};
-ghost use Rattle.page_plan.specs.Plans.{Planned};
+ghost use Rattle.page_theory.specs.Calls.{writeEnded, writeIn, writeFor, writeOf};
+ghost use Rattle.page_plan.specs.Plans.{Planned, Sound};
 ghost use Rattle.page_write.specs.Answers.{writeNumber, writeBlock};
 ghost use Rattle.page_write.specs.Writing.{Lent, encoded, padded};
 
@@ -140,7 +140,7 @@ fn write_blocks(plan: Plan, metadata: &[u8], data: &[u8], page: &mut [u8])
 }
 
 // Writes a page under the plan of an accepted layout.
-pub fn write_in(plan: Plan, metadata: &[u8], data: &[u8], page: &mut [u8]) -> WriteAnswer
+fn write_in(plan: Plan, metadata: &[u8], data: &[u8], page: &mut [u8]) -> WriteAnswer
     requires { ⌜ Planned plan ⌝ }
     ensures { λ r. ⌜ writeEnded (writeNumber r) (writeBlock r) (now (page .exit))
         ≡ writeIn plan (now (metadata .entry)) (now («data» .entry)) (now (page .entry)) ⌝ }
@@ -151,6 +151,18 @@ pub fn write_in(plan: Plan, metadata: &[u8], data: &[u8], page: &mut [u8]) -> Wr
             write_blocks(plan, metadata, data, page);
             WriteAnswer::Done
         }
+    }
+}
+
+// Writes a page under the answer to a layout: that of layout words, or of whatever else names it.
+pub fn write_for(answer: Acceptance, metadata: &[u8], data: &[u8], page: &mut [u8]) -> WriteAnswer
+    requires { ⌜ Sound answer ⌝ }
+    ensures { λ r. ⌜ writeEnded (writeNumber r) (writeBlock r) (now (page .exit))
+        ≡ writeFor answer (now (metadata .entry)) (now («data» .entry)) (now (page .entry)) ⌝ }
+{
+    match answer {
+        Acceptance::Accepted(layout) => write_in(plan_of(layout), metadata, data, page),
+        Acceptance::Refused(refusal) => WriteAnswer::Refused(refusal_of(refusal)),
     }
 }
 
@@ -165,8 +177,5 @@ pub fn write_page(
     ensures { λ r. ⌜ writeEnded (writeNumber r) (writeBlock r) (now (page .exit))
         ≡ writeOf (wordsOf edition (now (words .entry))) (now (metadata .entry)) (now («data» .entry)) (now (page .entry)) ⌝ }
 {
-    match check_layout(edition, words) {
-        Acceptance::Accepted(layout) => write_in(plan_of(layout), metadata, data, page),
-        Acceptance::Refused(refusal) => WriteAnswer::Refused(refusal_of(refusal)),
-    }
+    write_for(check_layout(edition, words), metadata, data, page)
 }
