@@ -49,7 +49,7 @@ module _ (a : Acceptance) (q : Plan) (accepted : Accepts a q) where
     write-codewords b l = let v = accepted .valid in
         rw (write-done, page-block q page (m ++ d) v b l) (written-code q (m ++ d) b (v .strong b l))
 
-    -- "tail bits included": the bits of no block are ones, and so are the pads.
+    -- "tail bits included": the bits of no block are ones, the pads among them (document 02, E12).
     pub write-tail : (p : ℕ) → blockOf q p ≡ q .blocks → p < room q → streamBit (q .mark) (writeFor a m d page .page) p ≡ true
     write-tail p h l = rw write-done (page-tail q (accepted .valid) page (m ++ d) p h l)
 
