@@ -12,16 +12,13 @@ use native.Mathlib.Omega.{arith}
 use native.Mathlib.Decide.{ℕ-discrete}
 use lib.ListN.{length}
 use lib.Dec.{eqb, ltb}
-use Rattle.replies.specs.Replies.{number, among}
+use Rattle.replies.specs.Replies.{among}
 use Rattle.layout.specs.declared.Plan.{Plan}
-use Rattle.layout.specs.declared.Rule.{Rule}
-use Rattle.layout.specs.declared.Rule.the-variants.{Level, Message, Length, Outside, Room}
-use Rattle.layout.specs.declared.Refusal.{Refusal}
-use Rattle.layout.specs.declared.Refusal.the-variants as refusal
 use Rattle.layout.specs.declared.Acceptance.{Acceptance}
 use Rattle.layout.specs.declared.Acceptance.the-variants.{Accepted, Refused}
 use Rattle.layout.specs.Plan.{planOf, field, level}
-use Rattle.layout.specs.Acceptance.{ruleRefusal, refusalOf, ruleNumber, refusalReply}
+use Rattle.layout.specs.Acceptance.{refusalReply}
+use Rattle.layout.proofs.Numbers.{refusal-reply-early}
 use Rattle.code.specs.Outcome.{Outcome, good, erased, ruined}
 use Rattle.page_theory.specs.Page.{pageOf, blockWord}
 use Rattle.page_theory.specs.Reading.{Reading, done, refused, outcome, reading, counts}
@@ -55,22 +52,6 @@ among-early : (x : ℕ) (more : List ℕ) → Early x → among 11 (0 ∷ 1 ∷ 
     → among x (0 ∷ 1 ∷ 2 ∷ 3 ∷ 4 ∷ 5 ∷ 6 ∷ 7 ∷ more) ≡ true
 among-early x more (inl h) e = among-small x more h
 among-early x more (inr h) e = rw h e
-
--- a layout is refused with 1, 2, 3, 4, 6, 7 or 11, whatever names it
-rule-early : (r : Rule) → Early (ruleNumber r)
-unfolding ruleNumber ruleRefusal number
-rule-early Level = inl (omega arith)
-rule-early Message = inl (omega arith)
-rule-early Length = inl (omega arith)
-rule-early Outside = inr refl
-rule-early Room = inl (omega arith)
-
-refusal-early : (r : Refusal) → Early (refusalReply r)
-unfolding refusalReply refusalOf number ruleNumber
-refusal-early refusal.Edition = inl (omega arith)
-refusal-early refusal.RecordLength = inl (omega arith)
-refusal-early (refusal.Rule r) = rule-early (r .rule)
-refusal-early refusal.Range = inl (omega arith)
 
 early-nine : (x : ℕ) → Early x → x ≡ 9 → ⊥
 early-nine x (inl h) e = omega arith
@@ -110,7 +91,7 @@ module _ (m d page : List ℕ) where
   pub write-ends : (a : Acceptance) → WriteEnds page (writeFor a m d page)
   unfolding writeFor
   write-ends (Accepted l) = write-in (planOf l)
-  write-ends (Refused r) = ends-write (refusalReply r) (refusal-early r)
+  write-ends (Refused r) = ends-write (refusalReply r) (refusal-reply-early r)
 
 module _ (page c : List ℕ) where
   ends-look : (x : ℕ) → Early x → LookEnds c (lookEnded x 0 c)
@@ -131,7 +112,7 @@ module _ (page c : List ℕ) where
   pub look-ends : (a : Acceptance) → LookEnds c (lookFor a page c)
   unfolding lookFor
   look-ends (Accepted l) = look-in (planOf l)
-  look-ends (Refused r) = ends-look (refusalReply r) (refusal-early r)
+  look-ends (Refused r) = ends-look (refusalReply r) (refusal-reply-early r)
 
 module _ (page m d : List ℕ) where
   ends-take : (x : ℕ) → Early x → TakeEnds m d (takeEnded x 0 m d)
@@ -152,7 +133,7 @@ module _ (page m d : List ℕ) where
   pub take-ends : (a : Acceptance) → TakeEnds m d (takeFor a page m d)
   unfolding takeFor
   take-ends (Accepted l) = take-in (planOf l)
-  take-ends (Refused r) = ends-take (refusalReply r) (refusal-early r)
+  take-ends (Refused r) = ends-take (refusalReply r) (refusal-reply-early r)
 
 -- the replies about a page and a block number
 data BlockReply : ℕ → Type 0 where
@@ -196,7 +177,7 @@ module _ (page : List ℕ) (b : ℕ) where
   pub judge-ends : (a : Acceptance) → JudgeEnds b (judgeFor a page b)
   unfolding judgeFor
   judge-ends (Accepted l) = judge-in (planOf l)
-  judge-ends (Refused r) = ends-judge (refusalReply r) (refusal-early r)
+  judge-ends (Refused r) = ends-judge (refusalReply r) (refusal-reply-early r)
 
 module _ (page : List ℕ) (b : ℕ) (claims : List ℕ) where
   ends-claim : (x : ℕ) → Early x → ClaimEnds (claimEnded x)
@@ -220,4 +201,4 @@ module _ (page : List ℕ) (b : ℕ) (claims : List ℕ) where
   pub claim-ends : (a : Acceptance) → ClaimEnds (claimFor a page b claims)
   unfolding claimFor
   claim-ends (Accepted l) = claim-in (planOf l)
-  claim-ends (Refused r) = ends-claim (refusalReply r) (refusal-early r)
+  claim-ends (Refused r) = ends-claim (refusalReply r) (refusal-reply-early r)

@@ -1,15 +1,15 @@
 -- Each page call replies as its list of rules says, block number included, so each reply is given exactly if its rule applies and none before it
 -- does (document 01, "Replies"). `..-replies` says the first, `..-exactly` the second, `..-ascending` that after the rules that are looked at first of
 -- all the turns never fall: where several rules apply the smallest number wins, but that 11 comes between 3 and 4 (document 02, E7; replies/Given
--- `smallest-after`). All are said of whatever names the layout, with its list of rules. `words-ruled` and `words-ascends` give that of layout words,
--- where the edition and the record's length are looked at first.
-use mathlib.Core.Path.{_≡_, refl, sym, _∙_}
+-- `smallest-after`). All are said of whatever names the layout, with its list of rules; layout/ReplyRules `words-ruled` and `words-ascends` give that of
+-- layout words, where the edition and the record's length are looked at first.
+use mathlib.Core.Path.{_≡_, refl, _∙_}
 use mathlib.Core.Bool.{Bool, true, false, cond}
 use mathlib.Core.List.{List, [], _∷_, _++_}
 use Prim.Native.Nat.{ℕ, zero, suc, _≤_}
 use native.Mathlib.Omega.{arith}
 use lib.ListN.{length, drop}
-use lib.Dec.{eqb, ltb}
+use lib.Dec.{eqb, ltb, lit≤}
 use borrow.Author.Tests.{le-leb}
 use Rattle.replies.specs.declared.Refusal.the-variants.{PageLength, BufferLength, OutOfRange, Uncorrectable, ClaimWrong}
 use Rattle.replies.specs.declared.Verdict.the-variants.{Refused}
@@ -19,14 +19,10 @@ use Rattle.replies.specs.Given.{None, Follows, Exactly, turn, atMost, ascending
 use Rattle.replies.proofs.Tests.{leb-not}
 use Rattle.replies.proofs.Given.{follows-next, none-verdict, verdict-none, append-kept, append-refused, exactly}
 use Rattle.layout.specs.declared.Plan.{Plan}
-use Rattle.layout.specs.declared.Refusal as layout
 use Rattle.layout.specs.declared.Acceptance.{Acceptance}
-use Rattle.layout.specs.Record.{Words, layoutOf}
 use Rattle.layout.specs.Plan.{planOf, field, level}
-use Rattle.layout.specs.Acceptance.{acceptance, refusalOf, refusalReply}
-use Rattle.layout.specs.ReplyRules.{fieldRules, layoutRules}
-use Rattle.layout.proofs.ReplyRules as words
-use Rattle.layout.proofs.ReplyRules.{refusal-block, accepting}
+use Rattle.layout.specs.ReplyRules.{Ruled, accepts, refuses, Ascends}
+use Rattle.layout.proofs.ReplyRules.{refused-follows, accepted-follows, ascends-after}
 use Rattle.code.specs.Word.{Word}
 use Rattle.code.specs.Outcome.{Outcome, good, erased, ruined}
 use Rattle.page_theory.specs.Page.{pageOf, blockWord}
@@ -39,29 +35,9 @@ use Rattle.page_theory.specs.Calls.{Taken, takeEnded, takeReply, takeBy,
 use Rattle.page_theory.specs.Calls.{blockReply, Judged, judgeEnded, judgeBy, judgeFor}
 use Rattle.page_theory.specs.Calls.{Claimed, claimEnded, claimBy, claimFor}
 use Rattle.page_theory.specs.ReplyRules as rules
-use Rattle.page_theory.specs.ReplyRules.{Ruled, accepts, refuses, Ascends, isRuined, isWrong, ruinedRules, writeRules, lookRules, takeRules, judgeRules, claimRules}
+use Rattle.page_theory.specs.ReplyRules.{isRuined, isWrong, ruinedRules, writeRules, lookRules, takeRules, judgeRules, claimRules}
 use Rattle.page_theory.proofs.Calls as by
 use Rattle.page_theory.proofs.Calls.{Replied, look-replied, take-replied}
-
--- ---- the rules of a layout
-
--- A refused layout is what every call replies, whatever its further rules are.
-refused-follows : (before : List Rule) (r : layout.Refusal) → verdict before ≡ Refused (refusalOf r) → (rest : List Rule) → Follows (before ++ rest) (refusalReply r) 0
-unfolding refusalReply reply replyBlock verdictNumber verdictBlock
-refused-follows before r e rest = let k = append-refused before rest (refusalOf r) e in record { number = rw k; beside = rw k (sym (refusal-block r)) }
-
--- An accepted one leaves it to them.
-accepted-follows : {before rest : List Rule} {n b : ℕ} → None before → Follows rest n b → Follows (before ++ rest) n b
-unfolding reply replyBlock
-accepted-follows {before} {rest} none f = let k = append-kept before rest none in record { number = rw k (f .number); beside = rw k (f .beside) }
-
--- Layout words are answered by their rules.
-pub words-ruled : (w : Words) → Ruled (layoutRules w) (planOf (layoutOf w)) (acceptance w)
-words-ruled w = go (accepting w)
-  where
-    go : {a : Acceptance} → words.Accepting w a → Ruled (layoutRules w) (planOf (layoutOf w)) a
-    go (words.accepts none) = accepts (layoutOf w) none
-    go (words.refuses r e) = refuses (planOf (layoutOf w)) r e
 
 -- ---- writing
 
@@ -256,53 +232,23 @@ module _ (q : Plan) (page : List ℕ) where
   ruined-nines zero = end
   ruined-nines (suc n) = nines-append (ruined-nines n) (next refl end)
 
-drop-append : {A : Type 0} (n : ℕ) (xs ys : List A) → n ≤ length xs → drop n (xs ++ ys) ≡ drop n xs ++ ys
-drop-append zero xs ys l = refl
-drop-append (suc n) [] ys l = absurd (omega arith)
-drop-append (suc n) (x ∷ xs) ys l = drop-append n xs ys (omega arith)
-
--- Rules that ascend up to one of reply 5 ascend with any ascending rules from 5 on.
-module _ (ss : List Rule) where
-  page-first : (x : Bool) (n : ℕ) (rs : List Rule) → atMost n (rs ++ (rule true PageLength ∷ [])) ≡ atMost n (rs ++ (rule x PageLength ∷ ss))
-  unfolding atMost
-  page-first x n [] = refl
-  page-first x n (r ∷ rs) = refl
-
-  page-after : (x : Bool) (rs : List Rule) → ascending (rs ++ (rule true PageLength ∷ [])) ≡ true → ascending (rule x PageLength ∷ ss) ≡ true
-      → ascending (rs ++ (rule x PageLength ∷ ss)) ≡ true
-  unfolding ascending
-  page-after x [] h k = k
-  page-after x (r ∷ rs) h k = rw (← page-first x (number (r .why)) rs) (go (atMost (number (r .why)) (rs ++ (rule true PageLength ∷ []))) h (λ e. page-after x rs e k))
-    where
-      go : {c d : Bool} (b : Bool) → cond b c false ≡ true → (c ≡ true → d ≡ true) → cond b d false ≡ true
-      go true h f = f h
-      go false h f = h
-
 module _ {n : ℕ} {before : List Rule} (h : Ascends n before) (q : Plan) (page : List ℕ) where
-  after : (ss : List Rule) → ascending (rules.pageRule q page ∷ ss) ≡ true → ascending (drop n (before ++ (rules.pageRule q page ∷ ss))) ≡ true
-  after ss k = rw (drop-append n before (rules.pageRule q page ∷ ss) (h .first)) (page-after ss (unequal (length page) (q .size)) (drop n before) (h .rest) k)
-
   pub write-ascending : (m d : List ℕ) → ascending (drop n (writeRules before q m d page)) ≡ true
   unfolding writeRules rules.writeIn ascending atMost turn number
-  write-ascending m d = after _ refl
+  write-ascending m d = ascends-after _ _ (lit≤ tt) h refl
 
   pub look-ascending : (c : List ℕ) → ascending (drop n (lookRules before q page c)) ≡ true
   unfolding lookRules rules.lookIn ascending atMost turn number
-  look-ascending c = let k = ruined-nines q page (q .blocks) in after _ (rw (nines-least 6 (omega arith) k, nines-ascending k))
+  look-ascending c = let k = ruined-nines q page (q .blocks) in ascends-after _ _ (lit≤ tt) h (rw (nines-least 6 (omega arith) k, nines-ascending k))
 
   pub take-ascending : (m d : List ℕ) → ascending (drop n (takeRules before q page m d)) ≡ true
   unfolding takeRules rules.takeIn ascending atMost turn number
-  take-ascending m d = let k = ruined-nines q page (q .blocks) in after _ (rw (nines-least 6 (omega arith) k, nines-ascending k))
+  take-ascending m d = let k = ruined-nines q page (q .blocks) in ascends-after _ _ (lit≤ tt) h (rw (nines-least 6 (omega arith) k, nines-ascending k))
 
   pub judge-ascending : (b : ℕ) → ascending (drop n (judgeRules before q page b)) ≡ true
   unfolding judgeRules rules.judgeIn ascending atMost turn number
-  judge-ascending b = after _ refl
+  judge-ascending b = ascends-after _ _ (lit≤ tt) h refl
 
   pub claim-ascending : (b : ℕ) (claims : List ℕ) → ascending (drop n (claimRules before q page b claims)) ≡ true
   unfolding claimRules rules.claimIn ascending atMost turn number
-  claim-ascending b claims = after _ refl
-
--- Of layout words the edition and the record's length are looked at first of all.
-pub words-ascends : (w : Words) → Ascends 2 (layoutRules w)
-unfolding layoutRules fieldRules ascending atMost turn number
-words-ascends w = record { first = omega arith; rest = refl }
+  claim-ascending b claims = ascends-after _ _ (lit≤ tt) h refl

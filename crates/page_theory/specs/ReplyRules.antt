@@ -1,43 +1,25 @@
 -- The replies of the five page calls, each as one list of rules in the order in which they are looked at (document 01, "Replies"). The first that
--- applies is given (replies/Given). What a layout is refused for comes first: `before`, a list of its own for whatever names the layout (for layout
--- words layout/ReplyRules `layoutRules`); q is the plan of the layout.
+-- applies is given (replies/Given). What a layout is refused for comes first: `before`, a list of its own for whatever names the layout (layout/ReplyRules
+-- `Ruled`; for layout words `layoutRules`); q is the plan of the layout.
 --
--- Ruled before q a         the answer a follows the rules `before`: it accepts a layout with the plan q if none of them applies, and refuses for the first that does
--- Ascends n before         after the first n of these rules, which are looked at first of all, the turns never fall, and all come before 5
 -- isRuined o               an outcome is that the block has no codeword within t flips and more than t zeros
 -- isWrong d                what is decided does not hold
 -- pageRule q page          5: the lent page
 -- ruinedRules q page n     9 for each of the first n blocks, the lowest first
 -- writeRules, lookRules, takeRules, judgeRules, claimRules     the calls
-use mathlib.Core.Path.{_≡_}
 use mathlib.Core.Bool.{Bool, true, false}
 use mathlib.Core.List.{List, [], _∷_, _++_}
-use Prim.Native.Nat.{ℕ, zero, suc, _≤_}
-use lib.ListN.{length, drop}
+use Prim.Native.Nat.{ℕ, zero, suc}
+use lib.ListN.{length}
 use lib.Dec.{leb}
 use Rattle.replies.specs.declared.Refusal.the-variants.{PageLength, BufferLength, OutOfRange, Uncorrectable, ClaimWrong}
-use Rattle.replies.specs.declared.Verdict.the-variants as verdict
-use Rattle.replies.specs.Replies.{unequal, Rule, rule, verdict}
-use Rattle.replies.specs.Given.{None, ascending}
+use Rattle.replies.specs.Replies.{unequal, Rule, rule}
 use Rattle.layout.specs.declared.Plan.{Plan}
-use Rattle.layout.specs.declared.Layout.{Layout}
-use Rattle.layout.specs.declared.Refusal.{Refusal}
-use Rattle.layout.specs.declared.Acceptance.{Acceptance}
-use Rattle.layout.specs.declared.Acceptance.the-variants as acceptance
-use Rattle.layout.specs.Plan.{planOf, field, level}
-use Rattle.layout.specs.Acceptance.{refusalOf}
+use Rattle.layout.specs.Plan.{field, level}
 use Rattle.code.specs.Outcome.{Outcome, good, erased, ruined}
 use Rattle.page_theory.specs.Page.{blockWord}
 use Rattle.page_theory.specs.Reading.{outcome}
 use Rattle.page_theory.specs.Claim.{right?}
-
-pub data Ruled (before : List Rule) : Plan → Acceptance → Type 0 where
-  accepts : (l : Layout) → None before → Ruled before (planOf l) (acceptance.Accepted l)
-  refuses : (q : Plan) (r : Refusal) → verdict before ≡ verdict.Refused (refusalOf r) → Ruled before q (acceptance.Refused r)
-
-pub record Ascends (n : ℕ) (before : List Rule) : Type 0 where
-  pub first : n ≤ length before
-  pub rest : ascending (drop n before ++ (rule true PageLength ∷ [])) ≡ true
 
 unfoldable pub isRuined : Outcome → Bool
 isRuined (good m n) = false
