@@ -30,6 +30,7 @@ pub use sums::block_start;
 pub use sums::page_room;
 pub use sums::pitch;
 pub use sums::plan_of;
+pub use words::field_of;
 pub use words::fields_of;
 ghost use mathlib.Core.Path.{_≡_};
 ghost use Rattle.layout.specs.Record.{wordsOf};

@@ -1,0 +1,3 @@
+-- Laws of layouts of sectors.
+pub mod Answering
+pub mod Accepting
