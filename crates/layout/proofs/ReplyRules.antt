@@ -42,13 +42,13 @@ use Rattle.layout.specs.ReplyRules.{Ruled, accepts, refuses, Ascends, to
 -- ---- findings
 
 -- What a finding is in the table.
-unfoldable found : Finding → Verdict
+unfoldable pub found : Finding → Verdict
 found Kept = verdict.Passed
 found (Broken r) = verdict.Refused (ruleRefusal (r .rule))
 
 -- A list of rules says what was found.
-record Says (rules : List replies.Rule) (f : Finding) : Type 0 where
-  same : verdict rules ≡ found f
+pub record Says (rules : List replies.Rule) (f : Finding) : Type 0 where
+  pub same : verdict rules ≡ found f
 
 says-test : (b : Bool) (r : Reason) → Says (rule b (ruleRefusal (r .rule)) ∷ []) (test b r)
 unfolding test found verdict
@@ -77,7 +77,7 @@ empty-test : (n : ℕ) → eqb n 0 ≡ ltb n 1
 empty-test zero = refl
 empty-test (suc n) = rw (eqb·suc-zero n, le-ltb (suc n) 1 (omega arith))
 
-says-fields : (f : Fields) (q : Plan) → Says (fieldRules f q) (findingOf f q)
+pub says-fields : (f : Fields) (q : Plan) → Says (fieldRules f q) (findingOf f q)
 unfolding fieldRules findingOf levelRule messageRule lengthRule markRule roomRule tooLong ruleRefusal
 says-fields f q = rw (empty-test (q .first .message), empty-test (q .later .message))
     (says-either _ (says-blocks f (ltb (highest (f .edition)) (f .first .ecc)) (ltb (highest (f .edition)) (f .later .ecc)) _ _ refl)
