@@ -1,0 +1,3 @@
+-- Laws of pages of sectors.
+pub mod Planned
+mod NoMetadata
