@@ -1,6 +1,6 @@
 //! Writing pages, looking at them, taking their payload, judging blocks and checking claims (document 01;
 //! document 02, E1, E6, E7 and E13). The calls take a record; what they do under a layout that is accepted, the
-//! methods of [`Layout`] do, whatever it was made of.
+//! methods of [`Layout`] do, whether it was made of layout words or of the numbers of sectors.
 
 use crate::bits::{bit, bits_of, bytes_of, put};
 use crate::code::flip_exponents;
