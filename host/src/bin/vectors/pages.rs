@@ -4,7 +4,7 @@ use crate::{Answer, Vectors};
 use model::call::Call;
 use model::layout::{Layout, LayoutRecord, LayoutWords};
 use model::random::Random;
-use model::samples::edges::edges;
+use model::samples::edges::{EDGES, edges};
 use model::samples::erased::edge_layouts;
 use model::samples::layouts::{CASE_A, accepted_words, strong_words};
 use model::samples::marks::marked;
@@ -201,7 +201,7 @@ fn document_calls() -> Vec<Call> {
 }
 
 fn add(vectors: &mut Vectors, call: &Call) {
-    vectors.meet(edges(call));
+    vectors.meet(&EDGES, edges(call));
     match call.clone() {
         Call::WritePage {
             edition,
