@@ -14,11 +14,12 @@ use Rattle.mark.specs.Mark.{streamBit}
 use Rattle.replies.specs.Edition.{offered, highest}
 use Rattle.replies.proofs.Editions.{highest-small}
 use Rattle.layout.specs.declared.Fields.{Fields}
+use Rattle.layout.specs.declared.Shape.{Shape}
 use Rattle.layout.specs.declared.Plan.{Plan}
 use Rattle.layout.specs.Record.{Words, fieldsAt, fieldsUnder, fieldsIn}
 use Rattle.layout.specs.Plan.{shapeWith, shapeOf, planFor, shape, bits, field, level, covered, start}
 use Rattle.layout.specs.Acceptance.{acceptance}
-use Rattle.layout.proofs.Plans.{later-some}
+use Rattle.layout.proofs.Plans.{later-some, shape-later}
 use Rattle.layout.proofs.Accepting.{Keeps, keeps, accepted-taken, accepted-plan, accepted-kept}
 use Rattle.code.specs.Generator.{parity}
 use Rattle.remainder.specs.Remainder.{bytesFor}
@@ -43,7 +44,11 @@ module _ (f : Fields) (k : Keeps f (planFor f)) where
   level-low : (b : ℕ) → b < planFor f .blocks → level (planFor f) b ≤ 2 * highest (f .edition)
   unfolding shape planFor shapeOf shapeWith
   level-low zero h = omega (arith, k .levels)
-  level-low (suc b) h = let n : 0 < f .nblocks = omega arith in rw (later-some f n) (omega (arith, k .levels-later n))
+  level-low (suc b) h =
+      let n : 0 < f .nblocks = omega arith in
+      let e : planFor f .later .level ≡ level (planFor f) (suc b) = ap (λ (s : Shape). s .level) (shape-later (planFor f) (suc b) (omega arith)) in
+      let g : planFor f .later .level ≡ 2 * f .later .ecc = ap (λ (s : Shape). s .level) (later-some f n) in
+      omega (arith, k .levels-later n)
 
 accepted-low : (rec : Words) (q : Plan) → Accepts (acceptance rec) q → (b : ℕ) → b < q .blocks → level q b ≤ 2 * highest (rec .edition)
 unfolding fieldsUnder fieldsAt
