@@ -1,10 +1,10 @@
--- `page_vectors::lines::put_digits` meets its contract.
+-- `page_vector_io::buffers::put_digits` meets its contract.
 use mathlib.Core.Path.{_≡_}
 use Prim.Native.Nat.{_-_, _≤_}
 use lib.ListN.{length}
 use borrow.Author.Needs.{needs}
-use Rattle.page_vectors.proofs.lines.put_digits.Statement.{statement}
-use Rattle.page_vectors.proofs.lines.put_digits.Tie as tie
+use Rattle.page_vector_io.proofs.buffers.put_digits.Statement.{statement}
+use Rattle.page_vector_io.proofs.buffers.put_digits.Tie as tie
 
 abbrev Inv-loop : tie.InvT-loop
 Inv-loop line₀ at bytes n p₀ i₀ line p i = (i ≤ n) × (length line ≡ length line₀)
