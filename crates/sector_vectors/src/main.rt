@@ -24,30 +24,34 @@ mod pages;
 mod places;
 mod words;
 
-use check::same;
 use layout::Sectors;
 use libc::STDIN_FILENO;
 use words::Head;
+use words::is_call;
 
-// The answer to a call by its name: its length, 0 where there is no such call.
-fn named(sectors: Sectors, words: &[u8], line: &mut [u8]) -> usize {
-    let name = words::word(words, 0);
-    if same(name, b"check") {
-        return places::check_line(sectors, line);
-    }
-    if same(name, b"bit") {
-        return places::bit_line(sectors, words, line);
-    }
-    if same(name, b"position") {
-        return places::position_line(sectors, words, line);
-    }
-    if same(name, b"judge") {
+// The answer to a call about a page by its name: its length, 0 where there is no such call.
+fn page_named(sectors: Sectors, words: &[u8], line: &mut [u8]) -> usize {
+    if is_call(words, b"judge") {
         return blocks::judge_line(sectors, words, line);
     }
-    if same(name, b"claim") {
+    if is_call(words, b"claim") {
         return blocks::claim_line(sectors, words, line);
     }
     pages::page_line(sectors, words, line)
+}
+
+// The same for every call.
+fn named(sectors: Sectors, words: &[u8], line: &mut [u8]) -> usize {
+    if is_call(words, b"check") {
+        return places::check_line(sectors, line);
+    }
+    if is_call(words, b"bit") {
+        return places::bit_line(sectors, words, line);
+    }
+    if is_call(words, b"position") {
+        return places::position_line(sectors, words, line);
+    }
+    page_named(sectors, words, line)
 }
 
 fn answer(words: &[u8], line: &mut [u8]) -> usize {

@@ -1,26 +1,26 @@
 // Calls about a whole page: each reads one buffer and may write another.
 use crate::words;
-use check::same;
+use crate::words::is_call;
 use layout::Sectors;
 use text::Number;
 
 // Makes the call: the next place of the line, 0 where there is no such call.
 fn page_call(
     sectors: Sectors,
-    name: &[u8],
+    words: &[u8],
     read: &[u8],
     written: &mut [u8],
     line: &mut [u8],
 ) -> usize {
-    if same(name, b"write") {
+    if is_call(words, b"write") {
         let answer = sector_pages::write_page(sectors, read, written);
         return page_vector_io::put_write(line, answer);
     }
-    if same(name, b"look") {
+    if is_call(words, b"look") {
         let answer = sector_pages::look_page(sectors, read, written);
         return page_vector_io::put_look(line, answer);
     }
-    if same(name, b"take") {
+    if is_call(words, b"take") {
         let answer = sector_pages::take_page(sectors, read, written);
         return page_vector_io::put_take(line, answer);
     }
@@ -29,12 +29,12 @@ fn page_call(
 
 fn page_answer(
     sectors: Sectors,
-    name: &[u8],
+    words: &[u8],
     read: &[u8],
     written: &mut [u8],
     line: &mut [u8],
 ) -> usize {
-    let at = page_call(sectors, name, read, written, line);
+    let at = page_call(sectors, words, read, written, line);
     if at == 0 {
         return 0;
     }
@@ -57,7 +57,7 @@ fn page_body(
     };
     page_answer(
         sectors,
-        words::word(words, 0),
+        words,
         text::front(read, r as usize),
         text::front_mut(written, w as usize),
         line,

@@ -45,10 +45,15 @@ fn start(line: &[u8], n: usize) -> usize
 }
 
 // Word n, counted from 0; an empty one where the line has no more.
-pub fn word(line: &[u8], n: usize) -> &[u8] {
+fn word(line: &[u8], n: usize) -> &[u8] {
     let at = start(line, n);
     let end = bytes::scan::find(line, at, line.len(), b' ');
     &line[at..end]
+}
+
+// Whether this is the name of the call.
+pub fn is_call(line: &[u8], name: &[u8]) -> bool {
+    check::same(word(line, 0), name)
 }
 
 // The number that word n is.
