@@ -1,5 +1,4 @@
 // Calls about one sector of a page.
-use crate::words;
 use layout::Sectors;
 use text::Number;
 
@@ -9,10 +8,10 @@ fn judge_answer(sectors: Sectors, page: &[u8], block: u64, line: &mut [u8]) -> u
 }
 
 fn judge_body(sectors: Sectors, words: &[u8], page: &mut [u8], line: &mut [u8]) -> usize {
-    let Number::Is(size) = words::buffer(words, 8, page) else {
+    let Number::Is(size) = vector_words::buffer(words, 8, page) else {
         return 0;
     };
-    let Number::Is(block) = words::number(words, 9) else {
+    let Number::Is(block) = vector_words::number(words, 9) else {
         return 0;
     };
     judge_answer(sectors, text::front(page, size as usize), block, line)
@@ -49,13 +48,13 @@ fn claim_body(
     bytes: &mut [u8],
     line: &mut [u8],
 ) -> usize {
-    let Number::Is(size) = words::buffer(words, 8, page) else {
+    let Number::Is(size) = vector_words::buffer(words, 8, page) else {
         return 0;
     };
-    let Number::Is(block) = words::number(words, 9) else {
+    let Number::Is(block) = vector_words::number(words, 9) else {
         return 0;
     };
-    let Number::Is(n) = words::buffer(words, 10, bytes) else {
+    let Number::Is(n) = vector_words::buffer(words, 10, bytes) else {
         return 0;
     };
     claim_answer(

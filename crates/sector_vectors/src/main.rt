@@ -20,14 +20,14 @@
 // the tail; of `position` the position; of `judge` the flip count. Last comes, refused or not, the buffer that the call may write to, as it
 // is afterwards: the page of `write`, the counts of `look`, the data of `take`. A line that is no call is answered by `?`.
 mod blocks;
+mod heads;
 mod pages;
 mod places;
-mod words;
 
+use heads::Head;
 use layout::Sectors;
 use libc::STDIN_FILENO;
-use words::Head;
-use words::is_call;
+use vector_words::is_call;
 
 // The answer to a call about a page by its name: its length, 0 where there is no such call.
 fn page_named(sectors: Sectors, words: &[u8], line: &mut [u8]) -> usize {
@@ -55,7 +55,7 @@ fn named(sectors: Sectors, words: &[u8], line: &mut [u8]) -> usize {
 }
 
 fn answer(words: &[u8], line: &mut [u8]) -> usize {
-    match words::head_of(words) {
+    match heads::head_of(words) {
         Head::Is(sectors) => named(sectors, words, line),
         Head::Bad => 0,
     }

@@ -1,8 +1,7 @@
 // Calls about a whole page: each reads one buffer and may write another.
-use crate::words;
-use crate::words::is_call;
 use layout::Sectors;
 use text::Number;
+use vector_words::is_call;
 
 // Makes the call: the next place of the line, 0 where there is no such call.
 fn page_call(
@@ -49,10 +48,10 @@ fn page_body(
     written: &mut [u8],
     line: &mut [u8],
 ) -> usize {
-    let Number::Is(r) = words::buffer(words, 8, read) else {
+    let Number::Is(r) = vector_words::buffer(words, 8, read) else {
         return 0;
     };
-    let Number::Is(w) = words::buffer(words, 9, written) else {
+    let Number::Is(w) = vector_words::buffer(words, 9, written) else {
         return 0;
     };
     page_answer(

@@ -1,5 +1,4 @@
 // Calls about a layout and its bits.
-use crate::words;
 use layout::BitAnswer;
 use layout::PositionAnswer;
 use layout::Sectors;
@@ -32,7 +31,7 @@ fn bit_answer(sectors: Sectors, position: u64, line: &mut [u8]) -> usize {
 
 // The line for a page bit.
 pub fn bit_line(sectors: Sectors, words: &[u8], line: &mut [u8]) -> usize {
-    match words::number(words, 8) {
+    match vector_words::number(words, 8) {
         Number::Is(position) => bit_answer(sectors, position, line),
         Number::Bad => 0,
     }
@@ -49,10 +48,10 @@ fn position_answer(sectors: Sectors, block: u64, exponent: u64, line: &mut [u8])
 
 // The line for a code bit.
 pub fn position_line(sectors: Sectors, words: &[u8], line: &mut [u8]) -> usize {
-    let Number::Is(block) = words::number(words, 8) else {
+    let Number::Is(block) = vector_words::number(words, 8) else {
         return 0;
     };
-    let Number::Is(exponent) = words::number(words, 9) else {
+    let Number::Is(exponent) = vector_words::number(words, 9) else {
         return 0;
     };
     position_answer(sectors, block, exponent, line)

@@ -1,9 +1,9 @@
--- `sector_vectors::words::start` meets its contract.
+-- `vector_words::start` meets its contract.
 use Prim.Native.Nat.{_-_, _≤_}
 use lib.ListN.{length}
 use borrow.Author.Needs.{needs}
-use Rattle.sector_vectors.proofs.words.start.Statement.{statement}
-use Rattle.sector_vectors.proofs.words.start.Tie as tie
+use Rattle.vector_words.proofs.start.Statement.{statement}
+use Rattle.vector_words.proofs.start.Tie as tie
 
 abbrev Inv-loop : tie.InvT-loop
 Inv-loop line n at₀ i₀ at i = (i ≤ n) × (at ≤ length line)
