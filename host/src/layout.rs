@@ -110,14 +110,14 @@ impl From<LayoutWords> for LayoutRecord {
 pub struct Block {
     pub message_bits: usize,
     pub choice: FieldChoice,
-    pub level_field: u8,
+    pub level_field: u16,
 }
 
 impl Block {
-    fn new(message_bytes: usize, gf: u8, level_field: u8) -> Block {
+    pub fn new(message_bytes: usize, choice: FieldChoice, level_field: u16) -> Block {
         Block {
             message_bits: 8 * message_bytes,
-            choice: FieldChoice::ALL[gf as usize],
+            choice,
             level_field,
         }
     }
@@ -154,30 +154,48 @@ impl Block {
     }
 }
 
-/// The blocks of a page. `later` is none where NBLOCKS is 0. Where the record has no third word the mark
-/// has offset 0 and length 0.
+/// A block of a page, and the stream position at which it starts.
 #[derive(Clone, Copy, Debug)]
+pub struct PlacedBlock {
+    pub start: usize,
+    pub block: Block,
+}
+
+impl PlacedBlock {
+    /// The stream positions of the covered bits.
+    fn covered(&self) -> Range<usize> {
+        self.start..self.start + self.block.covered_bits()
+    }
+}
+
+/// What a page holds: its blocks in order and where each starts, after how many bits they end, and how long the
+/// metadata and the page are. Bits of the stream that no block covers are the tail. Where there is no mark it has
+/// offset 0 and length 0.
+#[derive(Clone, Debug)]
 pub struct Layout {
-    pub later_blocks: usize,
+    placed: Vec<PlacedBlock>,
+    used_bits: usize,
     pub metadata_length: usize,
     pub page_length: usize,
-    pub block0: Block,
-    pub later: Option<Block>,
     pub mark: MarkWord,
 }
 
 impl From<LayoutRecord> for Layout {
+    /// The later blocks' fields are not examined where NBLOCKS is 0.
     fn from(LayoutRecord { words, mark }: LayoutRecord) -> Layout {
+        let block = |bytes: usize, gf: u8, ecc: u8| {
+            Block::new(bytes, FieldChoice::ALL[gf as usize], ecc as u16)
+        };
         let metadata_length = words.meta_size as usize;
         let message0 = metadata_length + 4 * words.data0_size as usize;
-        let later = Block::new(4 * words.datan_size as usize, words.gfn, words.eccn);
+        let block0 = block(message0, words.gf0, words.ecc0);
+        let later = block(4 * words.datan_size as usize, words.gfn, words.eccn);
+        let mut blocks = vec![block0];
+        blocks.resize(1 + words.nblocks as usize, later);
         Layout {
-            later_blocks: words.nblocks as usize,
             metadata_length,
-            page_length: words.page_size as usize,
-            block0: Block::new(message0, words.gf0, words.ecc0),
-            later: (words.nblocks > 0).then_some(later),
             mark: mark.unwrap_or_default(),
+            ..Layout::new(blocks, Block::covered_bits, words.page_size)
         }
     }
 }
@@ -189,33 +207,53 @@ impl From<LayoutWords> for Layout {
 }
 
 impl Layout {
+    /// Blocks that follow each other, each in as many bits as `room` says, without metadata and mark.
+    pub fn new(blocks: Vec<Block>, room: impl Fn(&Block) -> usize, page_size: u16) -> Layout {
+        let mut used_bits = 0;
+        let mut placed = Vec::new();
+        for block in blocks {
+            let start = used_bits;
+            placed.push(PlacedBlock { start, block });
+            used_bits += room(&block);
+        }
+        Layout {
+            placed,
+            used_bits,
+            metadata_length: 0,
+            page_length: page_size as usize,
+            mark: MarkWord::default(),
+        }
+    }
+
     /// The number of blocks, block 0 included.
     pub fn blocks(&self) -> usize {
-        self.later_blocks + 1
+        self.placed.len()
     }
 
     /// The block of a number below the number of blocks.
     pub fn block(&self, number: usize) -> Block {
-        match (number, self.later) {
-            (0, _) => self.block0,
-            (_, Some(later)) => later,
-            (_, None) => panic!("there is no block {number}"),
-        }
+        self.placed[number].block
     }
 
-    /// The stream position at which a block starts; for the number of blocks, where the tail does.
+    /// The blocks after block 0 are alike under layout words; none where NBLOCKS is 0.
+    pub fn later(&self) -> Option<Block> {
+        self.placed.get(1).map(|later| later.block)
+    }
+
+    /// The stream position at which a block starts; for the number of blocks, where the last one's room ends.
     pub fn start(&self, number: usize) -> usize {
-        (0..number).map(|b| self.block(b).covered_bits()).sum()
+        let placed = self.placed.get(number);
+        placed.map_or(self.used_bits, |placed| placed.start)
     }
 
     /// The bits that the blocks need.
     pub fn used_bits(&self) -> usize {
-        self.start(self.blocks())
+        self.used_bits
     }
 
     pub fn data_length(&self) -> usize {
-        let message_bits: usize = (0..self.blocks()).map(|b| self.block(b).message_bits).sum();
-        message_bits / 8 - self.metadata_length
+        let message_bits = self.placed.iter().map(|placed| placed.block.message_bits);
+        message_bits.sum::<usize>() / 8 - self.metadata_length
     }
 
     /// The page positions of the mark's bits.
@@ -238,19 +276,29 @@ impl Layout {
 
     /// The page positions of a block's covered bits, the highest exponent first.
     pub fn block_places(&self, number: usize) -> Vec<usize> {
-        let n = self.block(number).covered_bits();
-        self.stream().skip(self.start(number)).take(n).collect()
+        let covered = self.placed[number].covered();
+        let from_start = self.stream().skip(covered.start);
+        from_start.take(covered.len()).collect()
     }
 
     /// The page position of a block's coefficient of x^exponent.
     pub fn code_place(&self, number: usize, exponent: usize) -> usize {
-        let position = self.start(number + 1) - 1 - exponent;
+        let position = self.placed[number].covered().end - 1 - exponent;
         self.stream().nth(position).unwrap()
     }
 
-    /// The page positions after the last block, the mark left out.
-    pub fn tail_places(&self) -> impl Iterator<Item = usize> + use<> {
-        self.stream().skip(self.used_bits())
+    /// The block that covers a stream position, and the exponent; none for the tail.
+    fn covering(&self, position: usize) -> Option<(usize, usize)> {
+        let covers = |placed: &PlacedBlock| placed.covered().contains(&position);
+        let block = self.placed.iter().position(covers)?;
+        Some((block, self.placed[block].covered().end - 1 - position))
+    }
+
+    /// The page positions that no block covers, the mark left out.
+    pub fn tail_places(&self) -> impl Iterator<Item = usize> {
+        let numbered = self.stream().enumerate();
+        let tail = numbered.filter(|(position, _)| self.covering(*position).is_none());
+        tail.map(|(_, place)| place)
     }
 
     /// The rules about the mark, each with whether it is broken.
@@ -267,9 +315,13 @@ impl Layout {
     /// The rule that refuses the layout in an edition, if one does: the reply that is looked at first, and
     /// block 0 first.
     pub fn reason(&self, edition: Edition) -> Option<Reason> {
-        let mut rules = self.block0.rules(edition, Part::Block0).to_vec();
-        if let Some(later) = self.later {
-            rules.extend(later.rules(edition, Part::LaterBlock));
+        let mut rules = Vec::new();
+        for (number, placed) in self.placed.iter().enumerate() {
+            let part = match number {
+                0 => Part::Block0,
+                _ => Part::LaterBlock,
+            };
+            rules.extend(placed.block.rules(edition, part));
         }
         rules.extend(self.mark_rules());
         let (needed, allowed) = (self.used_bits(), self.stream_bits());
@@ -279,6 +331,38 @@ impl Layout {
             .into_iter()
             .filter_map(|(broken, reason)| broken.then_some(reason))
             .min_by_key(|reason| reason.reply.precedence())
+    }
+
+    /// The layout, if an edition accepts it.
+    pub fn accepted(self, edition: Edition) -> Result<Layout, Refusal> {
+        match self.reason(edition) {
+            Some(reason) => Err(reason.reply.into()),
+            None => Ok(self),
+        }
+    }
+
+    /// Where does a page bit belong, under an accepted layout?
+    pub fn locate_bit(&self, position: u64) -> Result<BitPlace, Refusal> {
+        refuse_by(&[(Reply::OutOfRange, position >= 8 * self.page_length as u64)])?;
+        let position = position as usize;
+        let mark = self.mark_places();
+        if mark.contains(&position) {
+            return Ok(BitPlace::Mark);
+        }
+        let in_stream = position - mark.filter(|&marked| marked < position).count();
+        Ok(match self.covering(in_stream) {
+            None => BitPlace::Tail,
+            Some((block, exponent)) => BitPlace::Covered { block, exponent },
+        })
+    }
+
+    /// Where does a code bit lie, under an accepted layout?
+    pub fn bit_position(&self, block: u64, exponent: u64) -> Result<usize, Refusal> {
+        refuse_by(&[(Reply::OutOfRange, block >= self.blocks() as u64)])?;
+        let block = block as usize;
+        let n = self.block(block).covered_bits();
+        refuse_by(&[(Reply::OutOfRange, exponent >= n as u64)])?;
+        Ok(self.code_place(block, exponent as usize))
     }
 }
 
@@ -315,11 +399,7 @@ impl Reason {
 pub fn check_layout(edition: u64, record: &[u8]) -> Result<Layout, Refusal> {
     let edition = Edition::from_number(edition).ok_or(Reply::OutOfRange)?;
     let record = LayoutRecord::unpack(record).ok_or(Reply::BufferLength)?;
-    let layout = Layout::from(record);
-    match layout.reason(edition) {
-        Some(reason) => Err(reason.reply.into()),
-        None => Ok(layout),
-    }
+    Layout::from(record).accepted(edition)
 }
 
 /// What a page bit is: a block's coefficient of x^exponent, or of the tail, or of the mark.
@@ -332,22 +412,7 @@ pub enum BitPlace {
 
 /// Where does a page bit belong?
 pub fn locate_bit(edition: u64, record: &[u8], position: u64) -> Result<BitPlace, Refusal> {
-    let layout = check_layout(edition, record)?;
-    refuse_by(&[(Reply::OutOfRange, position >= 8 * layout.page_length as u64)])?;
-    let position = position as usize;
-    let mark = layout.mark_places();
-    if mark.contains(&position) {
-        return Ok(BitPlace::Mark);
-    }
-    let in_stream = position - mark.filter(|&marked| marked < position).count();
-    let covering = (0..layout.blocks()).find(|&b| in_stream < layout.start(b + 1));
-    Ok(match covering {
-        None => BitPlace::Tail,
-        Some(block) => BitPlace::Covered {
-            block,
-            exponent: layout.start(block + 1) - 1 - in_stream,
-        },
-    })
+    check_layout(edition, record)?.locate_bit(position)
 }
 
 /// Where does a code bit lie?
@@ -357,10 +422,5 @@ pub fn bit_position(
     block: u64,
     exponent: u64,
 ) -> Result<usize, Refusal> {
-    let layout = check_layout(edition, record)?;
-    refuse_by(&[(Reply::OutOfRange, block > layout.later_blocks as u64)])?;
-    let block = block as usize;
-    let n = layout.block(block).covered_bits();
-    refuse_by(&[(Reply::OutOfRange, exponent >= n as u64)])?;
-    Ok(layout.code_place(block, exponent as usize))
+    check_layout(edition, record)?.bit_position(block, exponent)
 }

@@ -34,13 +34,16 @@ fn page_of_zeros() -> Vec<u8> {
 #[test]
 fn case_a() {
     let layout = check_layout(1, &record(0x070A_4080, 0x10DA_4080)).unwrap();
-    assert_eq!(layout.later_blocks, 7);
+    assert_eq!(layout.blocks(), 8);
     assert_eq!(layout.metadata_length, 10);
-    assert_eq!((layout.block0.t(), layout.block0.choice), (16, Thirteen));
-    assert_eq!(layout.later.unwrap().message_bits, 8 * 512);
+    assert_eq!(
+        (layout.block(0).t(), layout.block(0).choice),
+        (16, Thirteen)
+    );
+    assert_eq!(layout.later().unwrap().message_bits, 8 * 512);
     assert_eq!(layout.page_length, 4314);
-    assert_eq!(layout.block0.covered_bits(), 4384);
-    assert_eq!(layout.later.unwrap().covered_bits(), 4304);
+    assert_eq!(layout.block(0).covered_bits(), 4384);
+    assert_eq!(layout.later().unwrap().covered_bits(), 4304);
     assert_eq!(layout.start(7), 30208);
     assert_eq!(layout.used_bits(), 34512);
     assert_eq!(layout.used_bits(), 8 * layout.page_length);

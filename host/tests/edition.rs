@@ -51,10 +51,10 @@ fn number<T>(reply: Result<T, Refusal>) -> u8 {
 #[test]
 fn the_cases_of_the_paper() {
     let longest = one_block(0x1F, 0, 923);
-    assert_eq!(Layout::from(longest).block0.covered_bits(), 8190);
+    assert_eq!(Layout::from(longest).block(0).covered_bits(), 8190);
     assert_eq!(reply(2, &longest.pack()), 0);
     let longer = one_block(0x1F, 0, 924);
-    assert_eq!(Layout::from(longer).block0.covered_bits(), 8198);
+    assert_eq!(Layout::from(longer).block(0).covered_bits(), 8198);
     assert_eq!(reply(2, &longer.pack()), 3);
     assert_eq!(reply(1, &longest.pack()), 1);
     assert_eq!(reply(1, &longer.pack()), 1);
@@ -98,8 +98,8 @@ fn layouts_in_both_editions() {
         assert_ne!(second, 1);
         if first == 1 {
             let layout = Layout::from(LayoutRecord::unpack(&record).unwrap());
-            let later = layout.later.map_or(0, |later| later.level_field);
-            assert!(layout.block0.level_field.max(later) > 0x14);
+            let later = layout.later().map_or(0, |later| later.level_field);
+            assert!(layout.block(0).level_field.max(later) > 0x14);
             ones += 1;
         } else {
             assert_eq!(first, second);

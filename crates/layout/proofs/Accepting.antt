@@ -6,8 +6,9 @@ use mathlib.Core.List.{List}
 use Prim.Native.Nat.{ℕ, zero, suc, _+_, _*_, _≤_, _<_}
 use native.Mathlib.Numerals.{add-one}
 use native.Mathlib.Omega.{arith}
-use native.Mathlib.Nat.{eq-zero-or-pos, zero-mul, mul-zero, lt-of-not-le}
-use lib.Dec.{eqb}
+use native.Mathlib.Nat.{eq-zero-or-pos, zero-mul, mul-zero, mul-add, lt-of-not-le}
+use lib.Dec.{eqb, ltb}
+use borrow.Author.Tests.{le-ltb}
 use lib.ListN.{length}
 use Rattle.field.specs.Field.{degree, longest}
 use Rattle.field.specs.declared.Field.the-variants.{Thirteen}
@@ -15,6 +16,7 @@ use Rattle.replies.specs.Edition.{offered, highest}
 use Rattle.replies.proofs.Editions.{highest-small}
 use Rattle.layout.specs.declared.Fields.{Fields}
 use Rattle.layout.specs.declared.Layout.{Layout}
+use Rattle.layout.specs.declared.Shape.{Shape}
 use Rattle.layout.specs.declared.Plan.{Plan}
 use Rattle.layout.specs.declared.Finding.{Finding}
 use Rattle.layout.specs.declared.Finding.the-variants.{Kept, Broken}
@@ -23,7 +25,7 @@ use Rattle.layout.specs.declared.Refusal.the-variants as refusal
 use Rattle.layout.specs.Record.{Words, fieldsIn, layoutOf}
 use Rattle.layout.specs.Plan.{shapeWith, shapeOf, laterShape, dataBytes, planFor, layoutFor, planOf, Sums, shape, bits, field, level, covered, start, used, room, from, payload, Summed, Valid}
 use Rattle.layout.specs.Acceptance.{findingOf, judged, recordLength, acceptance}
-use Rattle.layout.proofs.Plans.{later-none, later-some, start-next, start-order, start-up, start-later, from-later}
+use Rattle.layout.proofs.Plans.{later-none, later-some, start-next, start-order, start-up, start-laters, from-laters}
 use Rattle.layout.proofs.Reasons.{level-first, level-later, message-first, message-later, length-first, length-later, mark-outside, zeros-set, page-room, kept-free}
 
 -- the rules, of a layout that keeps them
@@ -74,17 +76,33 @@ module _ (f : Fields) where
   -- message and parity of each block
   shape-sums : (b : ℕ) → Summed (shape (planFor f) b)
   unfolding shape planFor shapeOf shapeWith laterShape
-  shape-sums zero = refl
-  shape-sums (suc b) = go (eqb (f .nblocks) 0)
+  shape-sums b = go (ltb b 1) (eqb (f .nblocks) 0)
     where
-      go : (t : Bool) → Summed (cond t (shapeWith 0 Thirteen 0) (shapeOf 0 (f .later)))
+      go : (s t : Bool) → Summed (cond s (shapeOf (f .metadata) (f .first)) (cond t (shapeWith 0 Thirteen 0) (shapeOf 0 (f .later))))
+      go true t = refl
+      go false true = refl
+      go false false = refl
+
+  -- no pads
+  first-pads : planFor f .first .pads ≡ 0
+  unfolding planFor shapeOf shapeWith
+  first-pads = refl
+
+  later-pads : planFor f .later .pads ≡ 0
+  unfolding planFor laterShape shapeOf shapeWith
+  later-pads = go (eqb (f .nblocks) 0)
+    where
+      go : (t : Bool) → cond t (shapeWith 0 Thirteen 0) (shapeOf 0 (f .later)) .pads ≡ 0
       go true = refl
       go false = refl
 
   -- all blocks together
   plan-total : used (planFor f) ≡ start (planFor f) (planFor f .blocks)
   unfolding planFor
-  plan-total = sym (ap (start (planFor f)) (add-one (f .nblocks)) ∙ start-later (planFor f) (f .nblocks))
+  plan-total =
+      let e : f .nblocks + 1 ≡ 1 + f .nblocks = omega arith in
+      let p : f .nblocks * planFor f .later .pads ≡ f .nblocks * 0 = ap (λ (x : ℕ). f .nblocks * x) later-pads in
+      omega (arith, ap (start (planFor f)) e, start-laters (planFor f) (f .nblocks), first-pads, mul-add (f .nblocks) (laterShape f .covered) (planFor f .later .pads))
 
   later-message : f .nblocks * laterShape f .message ≡ 32 * (f .nblocks * f .later .units)
   unfolding shapeOf shapeWith
@@ -97,38 +115,40 @@ module _ (f : Fields) where
   -- the messages of the blocks are the payload
   whole : from (planFor f) (f .nblocks + 1) ≡ 8 * (f .metadata + dataBytes f)
   unfolding planFor shapeOf shapeWith dataBytes
-  whole = omega (arith, ap (from (planFor f)) (add-one (f .nblocks)), from-later (planFor f) (f .nblocks), later-message)
+  whole =
+      let e : f .nblocks + 1 ≡ 1 + f .nblocks = omega arith in
+      omega (arith, ap (from (planFor f)) e, from-laters (planFor f) (f .nblocks), later-message)
 
 -- ---- the rules
 
 module _ (f : Fields) (k : Keeps f (planFor f)) where
-  some-later : (b : ℕ) → suc b < planFor f .blocks → 0 < f .nblocks
-  unfolding planFor
-  some-later b h = omega arith
+  -- what holds of block 0, and of the later blocks where there are some, holds of every block
+  by-shape : (P : Shape → Type 0) → P (planFor f .first) → (0 < f .nblocks → P (planFor f .later)) → (b : ℕ) → b < planFor f .blocks → P (shape (planFor f) b)
+  unfolding planFor shape
+  by-shape P x y zero h = x
+  by-shape P x y (suc b) h = rw (le-ltb (suc b) 1 (omega arith)) (y (omega arith))
 
   ends : (b : ℕ) → b < planFor f .blocks → start (planFor f) b + covered (planFor f) b ≤ room (planFor f)
   ends b h = omega (arith, start-next (planFor f) b, start-up (planFor f) (suc b) (planFor f .blocks) h, plan-total f, k .fits)
 
   short : (b : ℕ) → b < planFor f .blocks → 0 < level (planFor f) b → covered (planFor f) b ≤ longest (field (planFor f) b)
-  unfolding shape
-  short zero h = k .lengths
-  short (suc b) h = k .lengths-later (some-later b h)
+  short b h = by-shape (λ (s : Shape). 0 < s .level → s .covered ≤ longest (s .field)) (k .lengths) (λ n. k .lengths-later n) b h
 
   strong : (b : ℕ) → b < planFor f .blocks → level (planFor f) b ≤ 62
-  unfolding shape planFor shapeOf shapeWith
-  strong zero h = omega (arith, k .levels, highest-small (f .edition))
-  strong (suc b) h = rw (later-some f (some-later b h)) (omega (arith, k .levels-later (some-later b h), highest-small (f .edition)))
+  unfolding planFor shapeOf shapeWith
+  strong =
+      by-shape (λ (s : Shape). s .level ≤ 62) (omega (arith, k .levels, highest-small (f .edition)))
+      (λ n. rw (later-some f n) (omega (arith, k .levels-later n, highest-small (f .edition))))
 
   filled : (b : ℕ) → b < planFor f .blocks → 0 < bits (planFor f) b
-  unfolding shape
-  filled zero h = k .messages
-  filled (suc b) h = k .messages-later (some-later b h)
+  filled = by-shape (λ (s : Shape). 0 < s .message) (k .messages) (λ n. k .messages-later n)
 
   keeps-valid : Valid (planFor f)
   unfolding planFor payload
   keeps-valid = record {
     order = λ b c h x. start-order (planFor f) b c h;
     ends = ends;
+    fits = k .fits;
     inside = k .inside;
     short = short;
     strong = strong;

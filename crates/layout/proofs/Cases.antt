@@ -1,6 +1,6 @@
 -- Document 01's cases about layouts, "Both sides of each edge": A to E, I and K, and the edges of document 02, E7 and E13, of the definitions.
 -- The cases of before E13 are those at edition 1.
-use mathlib.Core.Path.{_≡_, refl}
+use mathlib.Core.Path.{_≡_, refl, sym, ap}
 use mathlib.Core.List.{List, [], _∷_, _++_}
 use mathlib.Core.Bool.{Bool, true, false, cond}
 use Prim.Native.Nat.{ℕ, suc, _+_, _-_, _*_, _/_, _%_, _≤_}
@@ -17,6 +17,7 @@ use Rattle.mark.specs.Mark.{place, marked, streamed}
 use Rattle.layout.specs.declared.BlockFields.{BlockFields}
 use Rattle.layout.specs.declared.Fields.{Fields}
 use Rattle.layout.specs.declared.Layout.{Layout}
+use Rattle.layout.specs.declared.Shape.{Shape}
 use Rattle.layout.specs.declared.Acceptance.{Acceptance}
 use Rattle.layout.specs.declared.Finding.{Finding}
 use Rattle.layout.specs.declared.Finding.the-variants.{Kept, Broken}
@@ -28,6 +29,7 @@ use Rattle.layout.specs.Acceptance.{test, levelRule, messageRule, length
 use Rattle.layout.specs.Bits.{within, blockBelow, blockOf, exponentAt, positionAt, located, bitIn, bitFor, bitAnswer, positionIn, positionFor, positionAnswer}
 use Rattle.layout.proofs.Plans.{degree-small, product-le}
 use Rattle.layout.proofs.Records.{noMark, acceptance-padded}
+use Rattle.layout.proofs.Plans.{shape-later}
 use Rattle.layout.proofs.Reasons.{level-first, level-later, length-first, length-later}
 use Rattle.layout.specs.declared.Acceptance.the-variants as answer
 use Rattle.layout.specs.declared.BitAnswer.the-variants as bit
@@ -238,10 +240,10 @@ layout-cases = record {
   a = record {
     accepted = refl;
     level-first = refl;
-    level-later = λ b. refl;
-    data-bytes = λ b. refl;
+    level-later = λ b. ap (λ (s : Shape). s .level) (sym (shape-later (planOf layoutA) (suc b) (omega arith)));
+    data-bytes = λ b. ap (λ (s : Shape). s .message) (sym (shape-later (planOf layoutA) (suc b) (omega arith)));
     length-first = refl;
-    length-later = λ b. refl;
+    length-later = λ b. ap (λ (s : Shape). s .covered) (sym (shape-later (planOf layoutA) (suc b) (omega arith)));
     start-last = refl;
     ends = refl;
     no-tail = refl;

@@ -1,5 +1,6 @@
 -- Laws of layouts.
 pub mod Plans
+pub mod SectorPlans
 pub mod Numbers
 mod Findings
 pub mod Records

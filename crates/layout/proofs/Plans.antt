@@ -1,17 +1,18 @@
 -- Laws of plans: how long blocks are and where they start.
-use mathlib.Core.Path.{_≡_, refl, sym}
+use mathlib.Core.Path.{_≡_, refl, sym, ap, _∙_}
 use mathlib.Core.Logic.{⊎-elim}
 use Prim.Native.Nat.{ℕ, zero, suc, _+_, _-_, _*_, _≤_, _<_}
 use native.Mathlib.Omega.{arith}
 use native.Mathlib.Nat.{suc-mul, zero-mul, mul-le-mul, eq-or-lt-of-le}
-use borrow.Author.Tests.{eq-eqb, ne-eqb}
+use borrow.Author.Tests.{eq-eqb, ne-eqb, lt-ltb, le-ltb}
 use Rattle.field.specs.Field.{degree}
 use Rattle.field.specs.declared.Field.{Field}
 use Rattle.field.specs.declared.Field.the-variants.{Thirteen, Fourteen}
 use Rattle.layout.specs.declared.BlockFields.{BlockFields}
 use Rattle.layout.specs.declared.Fields.{Fields}
+use Rattle.layout.specs.declared.Shape.{Shape}
 use Rattle.layout.specs.declared.Plan.{Plan}
-use Rattle.layout.specs.Plan.{shapeWith, shapeOf, laterShape, shape, covered, start, from}
+use Rattle.layout.specs.Plan.{shapeWith, shapeOf, laterShape, shape, bits, covered, pads, start, from}
 
 pub degree-small : (f : Field) → degree f ≤ 14
 unfolding degree
@@ -36,9 +37,13 @@ pub later-some : (f : Fields) → 0 < f .nblocks → laterShape f ≡ shapeOf 0 
 unfolding laterShape
 later-some f n = simp (ne-eqb (f .nblocks) 0 (λ e. omega arith))
 
+-- the bits from the start of a block of this shape to the next block's
+abbrev pub pitch : Shape → ℕ
+pitch s = s .covered + s .pads
+
 module _ (q : Plan) where
-  -- the block after b starts where b ends
-  pub start-next : (b : ℕ) → start q (suc b) ≡ start q b + covered q b
+  -- the block after b starts where the pads of b end
+  pub start-next : (b : ℕ) → start q (suc b) ≡ start q b + (covered q b + pads q b)
   unfolding start
   start-next b = refl
 
@@ -46,36 +51,36 @@ module _ (q : Plan) where
   unfolding start
   start-zero = refl
 
-  pub covered-zero : covered q 0 ≡ q .first .covered
+  -- the shapes of the first blocks and of the others
+  pub shape-first : (b : ℕ) → b < q .firsts → q .first ≡ shape q b
   unfolding shape
-  covered-zero = refl
+  shape-first b h = simp (lt-ltb b (q .firsts) h)
 
-  pub covered-later : (b : ℕ) → covered q (suc b) ≡ q .later .covered
+  pub shape-later : (b : ℕ) → q .firsts ≤ b → q .later ≡ shape q b
   unfolding shape
-  covered-later b = refl
+  shape-later b h = simp (le-ltb b (q .firsts) h)
 
-  -- where a later block starts, by a product
-  pub start-later : (b : ℕ) → start q (suc b) ≡ q .first .covered + b * q .later .covered
-  unfolding start shape
-  start-later zero = omega (arith, zero-mul (q .later .covered))
-  start-later (suc b) = let r = start-later b in let e = suc-mul b (q .later .covered) in omega arith
+  -- where a block starts, by products
+  pub start-firsts : (b : ℕ) → b ≤ q .firsts → start q b ≡ b * pitch (q .first)
+  start-firsts zero h = omega (arith, zero-mul (pitch (q .first)), start-zero)
+  start-firsts (suc b) h =
+      let e : pitch (q .first) ≡ pitch (shape q b) = ap (λ (s : Shape). pitch s) (shape-first b (omega arith)) in
+      let n = suc-mul b (pitch (q .first)) in
+      omega (arith, start-firsts b (omega arith), start-next b)
+
+  pub start-laters : (k : ℕ) → start q (q .firsts + k) ≡ q .firsts * pitch (q .first) + k * pitch (q .later)
+  start-laters zero =
+      let e : q .firsts + 0 ≡ q .firsts = omega arith in
+      rw e (omega (arith, zero-mul (pitch (q .later)), start-firsts (q .firsts) (omega arith)))
+  start-laters (suc k) =
+      let n : q .firsts + suc k ≡ suc (q .firsts + k) = omega arith in
+      let e : pitch (q .later) ≡ pitch (shape q (q .firsts + k)) = ap (λ (s : Shape). pitch s) (shape-later (q .firsts + k) (omega arith)) in
+      let m = suc-mul k (pitch (q .later)) in
+      rw n (omega (arith, start-laters k, start-next (q .firsts + k)))
 
   -- the same of a block number as code has it
-  pub start-first : (b : ℕ) → b ≡ 0 → 0 ≡ start q b
-  start-first b h = rw h (sym start-zero)
-
-  pub start-product : (b : ℕ) → 0 < b → q .first .covered + (b - 1) * q .later .covered ≡ start q b
-  start-product zero h = absurd (omega arith)
-  start-product (suc b) h = let e : suc b - 1 ≡ b = omega arith in rw e (sym (start-later b))
-
-  pub shape-zero : (b : ℕ) → b ≡ 0 → q .first ≡ shape q b
-  unfolding shape
-  shape-zero b h = rw h
-
-  pub shape-later : (b : ℕ) → 0 < b → q .later ≡ shape q b
-  unfolding shape
-  shape-later zero h = absurd (omega arith)
-  shape-later (suc b) h = refl
+  pub start-product : (b : ℕ) → q .firsts ≤ b → q .firsts * pitch (q .first) + (b - q .firsts) * pitch (q .later) ≡ start q b
+  start-product b h = let e : q .firsts + (b - q .firsts) ≡ b = omega arith in sym (start-laters (b - q .firsts)) ∙ ap (start q) e
 
   -- blocks do not overlap
   pub start-order : (b c : ℕ) → b < c → start q b + covered q b ≤ start q c
@@ -90,7 +95,22 @@ module _ (q : Plan) where
   pub start-up : (b c : ℕ) → b ≤ c → start q b ≤ start q c
   start-up b c h = ⊎-elim (λ (p : b ≡ c). rw p (omega arith)) (λ (p : b < c). let r = start-order b c p in omega arith) (eq-or-lt-of-le h)
 
-  pub from-later : (n : ℕ) → from q (suc n) ≡ q .first .message + n * q .later .message
-  unfolding from shape
-  from-later zero = omega (arith, zero-mul (q .later .message))
-  from-later (suc n) = let r = from-later n in let e = suc-mul n (q .later .message) in omega arith
+  -- where a message starts in the payload, the same way
+  pub from-firsts : (b : ℕ) → b ≤ q .firsts → from q b ≡ b * q .first .message
+  unfolding from
+  from-firsts zero h = omega (arith, zero-mul (q .first .message))
+  from-firsts (suc b) h =
+      let e : q .first .message ≡ bits q b = ap (λ (s : Shape). s .message) (shape-first b (omega arith)) in
+      let n = suc-mul b (q .first .message) in
+      omega (arith, from-firsts b (omega arith))
+
+  pub from-laters : (k : ℕ) → from q (q .firsts + k) ≡ q .firsts * q .first .message + k * q .later .message
+  from-laters zero =
+      let e : q .firsts + 0 ≡ q .firsts = omega arith in
+      rw e (omega (arith, zero-mul (q .later .message), from-firsts (q .firsts) (omega arith)))
+  from-laters (suc k) =
+      let n : q .firsts + suc k ≡ suc (q .firsts + k) = omega arith in
+      let e : q .later .message ≡ bits q (q .firsts + k) = ap (λ (s : Shape). s .message) (shape-later (q .firsts + k) (omega arith)) in
+      let m = suc-mul k (q .later .message) in
+      let f : from q (suc (q .firsts + k)) ≡ from q (q .firsts + k) + bits q (q .firsts + k) = unfold from in refl in
+      rw n (omega (arith, from-laters k))

@@ -1,15 +1,16 @@
--- Each call about a layout record replies as its list of rules says, so each reply is given exactly if its rule applies and none before it does.
+-- Each call about a layout replies as its list of rules says, so each reply is given exactly if its rule applies and none before it does. This is said of
+-- whatever names the layout, with its list of rules; `words-ruled` and `words-ascends` give that of layout words.
 use mathlib.Core.Path.{_≡_, refl, sym, ap, _∙_}
-use mathlib.Core.Bool.{Bool, true, false, not, cond}
+use mathlib.Core.Bool.{Bool, true, false, not, cond, true≢false}
 use mathlib.Core.List.{List, [], _∷_, _++_}
-use Prim.Native.Nat.{ℕ, zero, suc, _*_}
+use Prim.Native.Nat.{ℕ, zero, suc, _*_, _≤_}
 use native.Mathlib.Omega.{arith}
 use native.Mathlib.Decide.{decLt}
 use lib.ListN.{length, drop}
-use lib.Dec.{eqb, ltb, leb, eqb·suc-zero}
-use borrow.Author.Tests.{lt-ltb, le-ltb, le-leb, lt-leb}
+use lib.Dec.{eqb, ltb, leb, eqb·suc-zero, lit≤}
+use borrow.Author.Tests.{lt-ltb, le-ltb, le-leb, lt-leb, leb-true}
 use Rattle.replies.specs.declared.Refusal.the-variants as row
-use Rattle.replies.specs.declared.Refusal.the-variants.{OutOfRange}
+use Rattle.replies.specs.declared.Refusal.the-variants.{PageLength, OutOfRange}
 use Rattle.replies.specs.declared.Verdict.{Verdict}
 use Rattle.replies.specs.declared.Verdict.the-variants as verdict
 use Rattle.replies.specs.Replies as replies
@@ -35,19 +36,19 @@ use Rattle.layout.specs.Acceptance.{test, levelRule, messageRule, length
 use Rattle.layout.specs.Answers as numbers
 use Rattle.layout.specs.Answers.{acceptanceNumbers, bitNumbers, positionNumbers}
 use Rattle.layout.specs.declared.BitAnswer.the-variants as bit
-use Rattle.layout.specs.Bits.{blockOf, exponentAt, located, bitIn, bitFor, bitAnswer, positionIn, positionFor, positionAnswer}
-use Rattle.layout.specs.ReplyRules.{tooLong, ofLater, fieldRules, layoutRules, bitRules, positionRules}
+use Rattle.layout.specs.Bits.{blockOf, exponentAt, located, bitIn, bitFor, positionIn, positionFor}
+use Rattle.layout.specs.ReplyRules.{Ruled, accepts, refuses, Ascends, tooLong, ofLater, fieldRules, layoutRules, bitRules, positionRules}
 
 -- ---- findings
 
 -- What a finding is in the table.
-unfoldable found : Finding → Verdict
+unfoldable pub found : Finding → Verdict
 found Kept = verdict.Passed
 found (Broken r) = verdict.Refused (ruleRefusal (r .rule))
 
 -- A list of rules says what was found.
-record Says (rules : List replies.Rule) (f : Finding) : Type 0 where
-  same : verdict rules ≡ found f
+pub record Says (rules : List replies.Rule) (f : Finding) : Type 0 where
+  pub same : verdict rules ≡ found f
 
 says-test : (b : Bool) (r : Reason) → Says (rule b (ruleRefusal (r .rule)) ∷ []) (test b r)
 unfolding test found verdict
@@ -76,7 +77,7 @@ empty-test : (n : ℕ) → eqb n 0 ≡ ltb n 1
 empty-test zero = refl
 empty-test (suc n) = rw (eqb·suc-zero n, le-ltb (suc n) 1 (omega arith))
 
-says-fields : (f : Fields) (q : Plan) → Says (fieldRules f q) (findingOf f q)
+pub says-fields : (f : Fields) (q : Plan) → Says (fieldRules f q) (findingOf f q)
 unfolding fieldRules findingOf levelRule messageRule lengthRule markRule roomRule tooLong ruleRefusal
 says-fields f q = rw (empty-test (q .first .message), empty-test (q .later .message))
     (says-either _ (says-blocks f (ltb (highest (f .edition)) (f .first .ecc)) (ltb (highest (f .edition)) (f .later .ecc)) _ _ refl)
@@ -102,11 +103,6 @@ refusal-block (refusal.Rule r) = go (r .rule)
     go Room = refl
 refusal-block refusal.Range = refl
 
--- How a call with this record goes on: by its further rules, or with the refusal of the record.
-pub data Accepting (w : Words) : Acceptance → Type 0 where
-  accepts : None (layoutRules w) → Accepting w (Accepted (layoutOf w))
-  refuses : (r : Refusal) → verdict (layoutRules w) ≡ verdict.Refused (refusalOf r) → Accepting w (Refused r)
-
 module _ (w : Words) where
   edition-wrong : offered (w .edition) ≡ false → verdict (layoutRules w) ≡ verdict.Refused row.OutOfRange
   unfolding layoutRules verdict
@@ -121,44 +117,45 @@ module _ (w : Words) where
     unfolding layoutRules verdict
     record-wrong e = rw (o, e)
 
-pub accepting : (w : Words) → Accepting w (acceptance w)
+-- Layout words are answered by their rules.
+pub words-ruled : (w : Words) → Ruled (layoutRules w) (planOf (layoutOf w)) (acceptance w)
 unfolding acceptance judged found refusalOf
-accepting w = go (offered (w .edition)) refl (recordLength (length (w .bytes))) refl (findingOf (fieldsIn w) (planOf (layoutOf w))) refl
+words-ruled w = go (offered (w .edition)) refl (recordLength (length (w .bytes))) refl (findingOf (fieldsIn w) (planOf (layoutOf w))) refl
   where
     go : (o : Bool) → offered (w .edition) ≡ o → (b : Bool) → recordLength (length (w .bytes)) ≡ b
         → (f : Finding) → findingOf (fieldsIn w) (planOf (layoutOf w)) ≡ f
-        → Accepting w (cond o (cond b (judged (layoutOf w) f) (Refused refusal.RecordLength)) (Refused refusal.Edition))
-    go true o true e Kept g = accepts (verdict-none _ (record-right w o e ∙ ap found g))
-    go true o true e (Broken r) g = refuses (refusal.Rule r) (record-right w o e ∙ ap found g)
-    go true o false e f g = refuses refusal.RecordLength (record-wrong w o e)
-    go false o b e f g = refuses refusal.Edition (edition-wrong w o)
+        → Ruled (layoutRules w) (planOf (layoutOf w)) (cond o (cond b (judged (layoutOf w) f) (Refused refusal.RecordLength)) (Refused refusal.Edition))
+    go true o true e Kept g = accepts (layoutOf w) (verdict-none _ (record-right w o e ∙ ap found g))
+    go true o true e (Broken r) g = refuses _ (refusal.Rule r) (record-right w o e ∙ ap found g)
+    go true o false e f g = refuses _ refusal.RecordLength (record-wrong w o e)
+    go false o b e f g = refuses _ refusal.Edition (edition-wrong w o)
 
--- A refused record is what every call with it replies, whatever its further rules are.
-pub refused-follows : (w : Words) (r : Refusal) → verdict (layoutRules w) ≡ verdict.Refused (refusalOf r) → (more : List replies.Rule)
-    → Follows (layoutRules w ++ more) (refusalReply r) 0
+-- ---- any layout
+
+-- A refused layout is what every call with it replies, whatever its further rules are.
+pub refused-follows : (before : List replies.Rule) (r : Refusal) → verdict before ≡ verdict.Refused (refusalOf r) → (rest : List replies.Rule)
+    → Follows (before ++ rest) (refusalReply r) 0
 unfolding refusalReply reply replyBlock verdictNumber verdictBlock
-refused-follows w r e more = let k = append-refused (layoutRules w) more (refusalOf r) e in
+refused-follows before r e rest = let k = append-refused before rest (refusalOf r) e in
     record { number = rw k; beside = rw k (sym (refusal-block r)) }
 
 -- An accepted one leaves it to them.
-pub accepted-follows : (w : Words) → None (layoutRules w) → (more : List replies.Rule) {n b : ℕ} → Follows more n b
-    → Follows (layoutRules w ++ more) n b
+pub accepted-follows : {before rest : List replies.Rule} {n b : ℕ} → None before → Follows rest n b → Follows (before ++ rest) n b
 unfolding reply replyBlock
-accepted-follows w none more f = let k = append-kept (layoutRules w) more none in
+accepted-follows {before} {rest} none f = let k = append-kept before rest none in
     record { number = rw k (f .number); beside = rw k (f .beside) }
 
 -- ---- the calls
 
-layout-answer : (w : Words) (a : Acceptance) → Accepting w a → Follows (layoutRules w) (acceptanceNumbers a .reply) (acceptanceNumbers a .block)
+pub layout-replies : {before : List replies.Rule} {q : Plan} {a : Acceptance} → Ruled before q a
+    → Follows before (acceptanceNumbers a .reply) (acceptanceNumbers a .block)
 unfolding acceptanceNumbers numbers.done numbers.refused refusalReply reply replyBlock verdictNumber verdictBlock
-layout-answer w a (accepts none) = let k = none-verdict (layoutRules w) none in record { number = rw k; beside = rw k }
-layout-answer w a (refuses r e) = record { number = rw e; beside = rw e (sym (refusal-block r)) }
+layout-replies {before} (accepts l none) = let k = none-verdict before none in record { number = rw k; beside = rw k }
+layout-replies (refuses q r e) = record { number = rw e; beside = rw e (sym (refusal-block r)) }
 
-pub layout-replies : (w : Words) → Follows (layoutRules w) (acceptanceNumbers (acceptance w) .reply) (acceptanceNumbers (acceptance w) .block)
-layout-replies w = layout-answer w (acceptance w) (accepting w)
-
-pub layout-exactly : (w : Words) → Exactly (layoutRules w) (acceptanceNumbers (acceptance w) .reply) (acceptanceNumbers (acceptance w) .block)
-layout-exactly w = exactly (layoutRules w) (layout-replies w)
+pub layout-exactly : {before : List replies.Rule} {q : Plan} {a : Acceptance} → Ruled before q a
+    → Exactly before (acceptanceNumbers a .reply) (acceptanceNumbers a .block)
+layout-exactly h = exactly _ (layout-replies h)
 
 -- Bits.
 
@@ -202,44 +199,69 @@ module _ (q : Plan) where
     ]
   ]
 
-module _ (w : Words) (p : ℕ) where
-  bit-for : (a : Acceptance) → Accepting w a → Follows (bitRules w p) (bitNumbers (bitFor a p) .reply) (bitNumbers (bitFor a p) .block)
-  unfolding bitRules bitFor bitNumbers numbers.refused
-  bit-for a (accepts none) = accepted-follows w none _ (bit-in (planOf (layoutOf w)) p)
-  bit-for a (refuses r e) = refused-follows w r e _
+pub bit-replies : {before : List replies.Rule} {q : Plan} {a : Acceptance} → Ruled before q a → (p : ℕ)
+    → Follows (bitRules before q p) (bitNumbers (bitFor a p) .reply) (bitNumbers (bitFor a p) .block)
+unfolding bitRules bitFor bitNumbers numbers.refused
+bit-replies (accepts l none) p = accepted-follows none (bit-in (planOf l) p)
+bit-replies {before} (refuses q r e) p = refused-follows before r e _
 
-  pub bit-replies : Follows (bitRules w p) (bitNumbers (bitAnswer w p) .reply) (bitNumbers (bitAnswer w p) .block)
-  unfolding bitAnswer
-  bit-replies = bit-for (acceptance w) (accepting w)
+pub bit-exactly : {before : List replies.Rule} {q : Plan} {a : Acceptance} → Ruled before q a → (p : ℕ)
+    → Exactly (bitRules before q p) (bitNumbers (bitFor a p) .reply) (bitNumbers (bitFor a p) .block)
+bit-exactly h p = exactly (bitRules _ _ p) (bit-replies h p)
 
-  pub bit-exactly : Exactly (bitRules w p) (bitNumbers (bitAnswer w p) .reply) (bitNumbers (bitAnswer w p) .block)
-  bit-exactly = exactly (bitRules w p) bit-replies
+pub position-replies : {before : List replies.Rule} {q : Plan} {a : Acceptance} → Ruled before q a → (b e : ℕ)
+    → Follows (positionRules before q b e) (positionNumbers (positionFor a b e) .reply) (positionNumbers (positionFor a b e) .block)
+unfolding positionRules positionFor positionNumbers numbers.refused
+position-replies (accepts l none) b e = accepted-follows none (position-in (planOf l) b e)
+position-replies {before} (refuses q r h) b e = refused-follows before r h _
 
-module _ (w : Words) (b e : ℕ) where
-  position-for : (a : Acceptance) → Accepting w a
-      → Follows (positionRules w b e) (positionNumbers (positionFor a b e) .reply) (positionNumbers (positionFor a b e) .block)
-  unfolding positionRules positionFor positionNumbers numbers.refused
-  position-for a (accepts none) = accepted-follows w none _ (position-in (planOf (layoutOf w)) b e)
-  position-for a (refuses r h) = refused-follows w r h _
+pub position-exactly : {before : List replies.Rule} {q : Plan} {a : Acceptance} → Ruled before q a → (b e : ℕ)
+    → Exactly (positionRules before q b e) (positionNumbers (positionFor a b e) .reply) (positionNumbers (positionFor a b e) .block)
+position-exactly h b e = exactly (positionRules _ _ b e) (position-replies h b e)
 
-  pub position-replies : Follows (positionRules w b e) (positionNumbers (positionAnswer w b e) .reply) (positionNumbers (positionAnswer w b e) .block)
-  unfolding positionAnswer
-  position-replies = position-for (acceptance w) (accepting w)
+-- ---- the order of the rules
 
-  pub position-exactly : Exactly (positionRules w b e) (positionNumbers (positionAnswer w b e) .reply) (positionNumbers (positionAnswer w b e) .block)
-  position-exactly = exactly (positionRules w b e) position-replies
+drop-append : {A : Type 0} (n : ℕ) (xs ys : List A) → n ≤ length xs → drop n (xs ++ ys) ≡ drop n xs ++ ys
+drop-append zero xs ys l = refl
+drop-append (suc n) [] ys l = absurd (omega arith)
+drop-append (suc n) (x ∷ xs) ys l = drop-append n xs ys (omega arith)
 
--- After the edition and the record's length, which are looked at first, the turns never fall: where several rules apply the first turn wins
--- (replies/Given `smallest-after`).
+-- Rules that ascend up to one of reply 5 ascend with any ascending rules from 5 on.
+module _ (x : replies.Rule) (ss : List replies.Rule) (from : turn 5 ≤ turn (number (x .why))) where
+  later-turn : (n : ℕ) (rs : List replies.Rule) → atMost n (rs ++ (rule true PageLength ∷ [])) ≡ true → atMost n (rs ++ (x ∷ ss)) ≡ true
+  unfolding atMost number
+  later-turn n [] h = let k = leb-true (turn n) (turn 5) h in le-leb (turn n) (turn (number (x .why))) (omega arith)
+  later-turn n (r ∷ rs) h = h
+
+  later-rules : (rs : List replies.Rule) → ascending (rs ++ (rule true PageLength ∷ [])) ≡ true → ascending (x ∷ ss) ≡ true → ascending (rs ++ (x ∷ ss)) ≡ true
+  unfolding ascending
+  later-rules [] h k = k
+  later-rules (r ∷ rs) h k =
+      go (atMost (number (r .why)) (rs ++ (rule true PageLength ∷ []))) h (later-turn (number (r .why)) rs) (λ e. later-rules rs e k)
+    where
+      go : (b : Bool) {c d e : Bool} → cond b c false ≡ true → (b ≡ true → d ≡ true) → (c ≡ true → e ≡ true) → cond d e false ≡ true
+      go true h f g = rw (f refl) (g h)
+      go false h f g = absurd (true≢false (sym h))
+
+  pub ascends-after : {n : ℕ} {before : List replies.Rule} → Ascends n before → ascending (x ∷ ss) ≡ true → ascending (drop n (before ++ (x ∷ ss))) ≡ true
+  ascends-after {n} {before} h k = rw (drop-append n before (x ∷ ss) (h .first)) (later-rules (drop n before) (h .rest) k)
+
+-- After the rules that are looked at first the turns never fall: where several rules apply the first turn wins (replies/Given `smallest-after`).
+module _ {n : ℕ} {before : List replies.Rule} (h : Ascends n before) (q : Plan) where
+  pub bit-ascending : (p : ℕ) → ascending (drop n (bitRules before q p)) ≡ true
+  unfolding bitRules ascending atMost turn number
+  bit-ascending p = ascends-after _ _ (lit≤ tt) h refl
+
+  pub position-ascending : (b e : ℕ) → ascending (drop n (positionRules before q b e)) ≡ true
+  unfolding positionRules ascending atMost turn number
+  position-ascending b e = ascends-after _ _ (lit≤ tt) h refl
+
+-- Of layout words the edition and the record's length are looked at first.
 module _ (w : Words) where
+  pub words-ascends : Ascends 2 (layoutRules w)
+  unfolding layoutRules fieldRules ascending atMost turn number
+  words-ascends = record { first = omega arith; rest = refl }
+
   pub layout-ascending : ascending (drop 2 (layoutRules w)) ≡ true
   unfolding layoutRules fieldRules ascending atMost turn number
   layout-ascending = refl
-
-  pub bit-ascending : (p : ℕ) → ascending (drop 2 (bitRules w p)) ≡ true
-  unfolding bitRules layoutRules fieldRules ascending atMost turn number
-  bit-ascending p = refl
-
-  pub position-ascending : (b e : ℕ) → ascending (drop 2 (positionRules w b e)) ≡ true
-  unfolding positionRules layoutRules fieldRules ascending atMost turn number
-  position-ascending b e = refl

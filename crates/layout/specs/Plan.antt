@@ -1,4 +1,4 @@
--- The plan of a page (document 01, "Layout words"): how many blocks, what each is made of, where each starts.
+-- The plan of a page (document 01, "Layout words"; document 02, E12): how many blocks, what each is made of, where each starts.
 --
 -- shapeWith message f t     the shape of a block of so many message bits in the field f, with its covered bits
 -- shapeOf metadata fields   the shape of a block that starts with so many bytes of metadata
@@ -9,9 +9,9 @@
 -- planOf l                  the plan that is kept with the layout l
 -- Sums f q                  the numbers kept in the plan q are document 01's sums of the fields f
 -- shape q b                 the shape of block b of the plan q
--- bits q b, field q b, level q b, covered q b    its message bits, its field, its level t, its covered bits
+-- bits q b, field q b, level q b, covered q b, pads q b    its message bits, its field, its level t, its covered bits, its pad bits
 -- start q b                 the stream position of its first bit
--- used q                    bits of all blocks together
+-- used q                    bits of all blocks together, with their pads
 -- room q                    bits of the page without the mark
 -- from q b                  where its message starts among the bits of the payload
 -- payload q                 bytes of the payload, metadata and data
@@ -21,7 +21,7 @@
 use mathlib.Core.Path.{_≡_}
 use mathlib.Core.Bool.{cond}
 use Prim.Native.Nat.{ℕ, zero, suc, _+_, _-_, _*_, _≤_, _<_}
-use lib.Dec.{eqb}
+use lib.Dec.{eqb, ltb}
 use Rattle.field.specs.Field.{degree, longest}
 use Rattle.field.specs.declared.Field.{Field}
 use Rattle.field.specs.declared.Field.the-variants.{Thirteen}
@@ -31,9 +31,9 @@ use Rattle.layout.specs.declared.Layout.{Layout}
 use Rattle.layout.specs.declared.Shape.{Shape}
 use Rattle.layout.specs.declared.Plan.{Plan}
 
--- A block is its message followed by m times t parity bits: its covered bits.
+-- A block is its message followed by m times t parity bits: its covered bits. Under layout words the next block follows at once.
 unfoldable pub shapeWith : ℕ → Field → ℕ → Shape
-shapeWith message f t = record { message = message; covered = message + degree f * t; field = f; level = t }
+shapeWith message f t = record { message = message; covered = message + degree f * t; pads = 0; field = f; level = t }
 
 -- The message is the metadata followed by the data; t is twice the level field, 0 where there is no ECC.
 unfoldable pub shapeOf : ℕ → BlockFields → Shape
@@ -51,6 +51,7 @@ dataBytes f = 4 * (f .first .units + f .nblocks * f .later .units)
 unfoldable pub planFor : Fields → Plan
 planFor f = record {
   blocks = f .nblocks + 1;
+  firsts = 1;
   size = f .page;
   metadata = f .metadata;
   «data» = dataBytes f;
@@ -75,10 +76,9 @@ pub record Sums (f : Fields) (q : Plan) : Type 0 where
   pub later : 0 < f .nblocks → q .later .covered ≡ 8 * (4 * f .later .units) + degree (f .later .gf) * (2 * f .later .ecc)
   pub used : q .used ≡ q .first .covered + f .nblocks * q .later .covered
 
--- Block 0 has a shape of its own; the later blocks share one.
+-- Under layout words block 0 has a shape of its own and the later blocks share one; sectors share one but for the last.
 unfoldable pub shape : Plan → ℕ → Shape
-shape q zero = q .first
-shape q (suc b) = q .later
+shape q b = cond (ltb b (q .firsts)) (q .first) (q .later)
 
 abbrev pub bits : Plan → ℕ → ℕ
 bits q b = shape q b .message
@@ -92,10 +92,13 @@ level q b = shape q b .level
 abbrev pub covered : Plan → ℕ → ℕ
 covered q b = shape q b .covered
 
--- Blocks follow each other with no gap and no rounding to bytes.
+abbrev pub pads : Plan → ℕ → ℕ
+pads q b = shape q b .pads
+
+-- Each block follows the pads of the one before. Under layout words there are none: no gap and no rounding to bytes.
 unfoldable pub start : Plan → ℕ → ℕ
 start q zero = 0
-start q (suc b) = start q b + covered q b
+start q (suc b) = start q b + (covered q b + pads q b)
 
 -- Rule 4 compares these with the bits of the page without the mark.
 abbrev pub used : Plan → ℕ
@@ -119,6 +122,7 @@ Summed s = s .covered ≡ s .message + degree (s .field) * s .level
 pub record Valid (q : Plan) : Type 0 where
   pub order : (b c : ℕ) → b < c → c < q .blocks → start q b + covered q b ≤ start q c
   pub ends : (b : ℕ) → b < q .blocks → start q b + covered q b ≤ room q
+  pub fits : used q ≤ room q
   pub inside : q .mark .offset + q .mark .length ≤ q .size
   pub short : (b : ℕ) → b < q .blocks → 0 < level q b → covered q b ≤ longest (field q b)
   pub strong : (b : ℕ) → b < q .blocks → level q b ≤ 62

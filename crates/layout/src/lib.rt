@@ -12,7 +12,8 @@
 // 3. rules.rt looks for the first rule that the layout breaks (`Finding`), block 0 before the later blocks.
 // 4. answers.rt gives the case of document 01's table that a refusal is, and its number.
 mod answers;
-mod rules;
+pub mod rules;
+mod sector_sums;
 mod sums;
 mod words;
 
@@ -22,11 +23,14 @@ pub use answers::refusal_reply;
 use field::Field;
 use mark::Mark;
 use replies::offered;
+pub use sector_sums::sectors_layout;
 pub use sums::block_covered;
 pub use sums::block_shape;
 pub use sums::block_start;
 pub use sums::page_room;
+pub use sums::pitch;
 pub use sums::plan_of;
+pub use words::field_of;
 pub use words::fields_of;
 ghost use mathlib.Core.Path.{_≡_};
 ghost use Rattle.layout.specs.Record.{wordsOf};
@@ -54,20 +58,36 @@ pub struct Fields {
     pub edition: u64,
 }
 
-// What a block is made of: message bits, and parity bits by field and level.
+// The numbers of a layout of sectors (document 02, E12): how many sectors, the bytes of data in a sector and in the last one, the level
+// field, of which t is twice, the field choice, and the bytes of a page; and the edition beside them.
+pub struct Sectors {
+    pub count: u16,
+    pub size: u16,
+    pub last: u16,
+    pub level: u16,
+    pub choice: u16,
+    pub page: u16,
+    pub edition: u64,
+}
+
+// What a block is made of: message bits, parity bits by field and level, and pads.
 pub struct Shape {
     pub message: u32,
     // Message and parity bits together.
     pub covered: u32,
+    // Pad bits between its covered bits and the next block.
+    pub pads: u8,
     pub field: Field,
     // t: how many flips the block's code corrects.
     pub level: u16,
 }
 
-// What the layout words come to: how many blocks, how many bytes of page, metadata and data, the bits of all blocks together, what a
-// block is made of, and the mark. Block 0 has the shape `first`, every other block the shape `later`.
+// What a layout comes to: how many blocks, how many bytes of page, metadata and data, the bits of all blocks with their pads, what a
+// block is made of, and the mark. The first `firsts` blocks have the shape `first`, the others the shape `later`. Under layout words that
+// is block 0, under sectors every sector but the last.
 pub struct Plan {
     pub blocks: u16,
+    pub firsts: u16,
     pub size: u16,
     pub metadata: u32,
     pub data: u32,
@@ -77,7 +97,8 @@ pub struct Plan {
     pub mark: Mark,
 }
 
-// A layout: the plan of a page with its sums. No other crate can set it, and one function makes it (`sums::layout_for`).
+// A layout: the plan of a page with its sums. No other crate can set it, and two functions make it, one for each family of controllers
+// (`sums::layout_for`, `sector_sums::sectors_layout`).
 pub struct Layout {
     plan: Plan,
 }

@@ -21,6 +21,7 @@ fn shape_of(metadata: u8, fields: BlockFields) -> Shape
     Shape {
         message: message,
         covered: message + parity,
+        pads: 0,
         field: field,
         level: level,
     }
@@ -35,6 +36,7 @@ fn later_shape(fields: Fields) -> Shape
         return Shape {
             message: 0,
             covered: 0,
+            pads: 0,
             field: Field::Thirteen,
             level: 0,
         };
@@ -68,6 +70,7 @@ pub fn layout_for(fields: Fields) -> Layout
     let mark = fields.mark;
     let plan = Plan {
         blocks: blocks,
+        firsts: 1,
         size: fields.page,
         metadata: metadata,
         data: data,
@@ -102,7 +105,7 @@ pub fn plan_of(layout: Layout) -> Plan
 pub fn block_shape(plan: Plan, block: u16) -> Shape
     ensures { λ r. ⌜ r ≡ shape plan block ⌝ }
 {
-    if block == 0 {
+    if block < plan.firsts {
         return plan.first;
     }
     plan.later
@@ -117,15 +120,32 @@ pub fn block_covered(plan: Plan, block: u16) -> usize
     shape.covered as usize
 }
 
+// The bits from a block's start to the next block's.
+pub fn pitch(shape: Shape) -> usize
+    ensures eq { λ r. ⌜ r ≡ shape .covered + shape .pads ⌝ }
+    ensures small { λ r. ⌜ r < 4294967552 ⌝ }
+{
+    shape.covered as usize + shape.pads as usize
+}
+
+// The bits from the start of one of n blocks of a shape to the start of the block after them.
+fn together(n: u16, shape: Shape) -> usize
+    ensures eq { λ r. ⌜ r ≡ n * (shape .covered + shape .pads) ⌝ }
+    ensures small { λ r. ⌜ r < 562949953421312 ⌝ }
+{
+    n as usize * pitch(shape)
+}
+
 // The stream position at which a block starts; that of the block after the last is the number of used bits.
 pub fn block_start(plan: Plan, block: u16) -> usize
     ensures eq { λ r. ⌜ r ≡ start plan block ⌝ }
     ensures small { λ r. ⌜ r < 1125899906842624 ⌝ }
 {
-    if block == 0 {
-        return 0;
+    let firsts = plan.firsts;
+    let first = plan.first;
+    if block <= firsts {
+        return together(block, first);
     }
-    let first = plan.first.covered as usize;
-    let later = plan.later.covered as usize;
-    first + (block as usize - 1) * later
+    let later = plan.later;
+    together(firsts, first) + together(block - firsts, later)
 }

@@ -14,10 +14,10 @@ use Rattle.layout.specs.declared.BitAnswer.{BitAnswer}
 use Rattle.layout.specs.declared.Acceptance.{Acceptance}
 use Rattle.layout.specs.declared.Refusal.the-variants.{Range}
 use Rattle.layout.specs.Record.{Words}
-use Rattle.layout.specs.Plan.{planOf, covered, used, room, Valid}
+use Rattle.layout.specs.Plan.{planOf, covered, room, Valid}
 use Rattle.layout.specs.Acceptance.{acceptance}
 use Rattle.layout.specs.Bits.{blockOf, exponentAt, positionAt, located, bitIn, bitFor, bitAnswer, positionIn, positionFor, positionAnswer}
-use Rattle.page_bits.proofs.Placing.{Lies, block-lies, block-holds, block-past, block-or-tail, tail-free, located-tail, located-block}
+use Rattle.page_bits.proofs.Placing.{Lies, block-lies, block-holds, block-or-tail, tail-free, located-tail, located-block}
 use Rattle.layout.proofs.Accepting.{accepted-valid}
 use Rattle.layout.specs.declared.Acceptance.the-variants as answer
 use Rattle.layout.specs.declared.BitAnswer.the-variants as bit
@@ -134,18 +134,18 @@ module _ (q : Plan) where
 pub data Stands (q : Plan) (p : ℕ) : BitAnswer → Type 0 where
   in-mark : marked (q .mark) p ≡ true → Stands q p bit.Mark
   in-block : {b e : ℕ} → Belongs q p b e → Stands q p (bit.InBlock b e)
-  in-tail : marked (q .mark) p ≡ false → used q ≤ streamed (q .mark) p → Stands q p bit.Tail
+  in-tail : marked (q .mark) p ≡ false → blockOf q (streamed (q .mark) p) ≡ q .blocks → Stands q p bit.Tail
 
-module _ (q : Plan) (v : Valid q) (p : ℕ) where
+module _ (q : Plan) (p : ℕ) where
   located-stands : marked (q .mark) p ≡ false → Stands q p (located q (streamed (q .mark) p))
   located-stands m =
       ⊎-elim
       (λ (i : (b : ℕ) × (b < q .blocks) × Lies q b (streamed (q .mark) p)).
       let h : Belongs q p (i .0) (exponentAt q (i .0) (streamed (q .mark) p)) = record { number = i .1; free = m; lies = i .2; exponent = refl } in
       rw (belongs-located q h) (in-block h))
-      (λ (u : used q ≤ streamed (q .mark) p).
-      rw (sym (located-tail q (streamed (q .mark) p) (sym (block-past q v (streamed (q .mark) p) u)) (omega arith))) (in-tail m u))
-      (block-or-tail q v (streamed (q .mark) p))
+      (λ (u : blockOf q (streamed (q .mark) p) ≡ q .blocks).
+      rw (sym (located-tail q (streamed (q .mark) p) (sym u) (omega arith))) (in-tail m u))
+      (block-or-tail q (streamed (q .mark) p))
 
   -- Every position of the page is in one block, in the tail or in the mark, and that is the answer,
   pub bit-partition : p < 8 * q .size → Stands q p (bitIn q p)
@@ -163,9 +163,9 @@ module _ (q : Plan) (v : Valid q) (p : ℕ) where
   bit-once (in-mark m) (in-tail n u) = absurd (true≢false (sym m ∙ n))
   bit-once (in-block h) (in-mark n) = absurd (true≢false (sym n ∙ h .free))
   bit-once (in-block h) (in-block k) = sym (belongs-located q h) ∙ belongs-located q k
-  bit-once (in-block h) (in-tail n u) = absurd (tail-free q v u (h .number) (h .lies))
+  bit-once (in-block h) (in-tail n u) = absurd (tail-free q u (h .number) (h .lies))
   bit-once (in-tail m u) (in-mark n) = absurd (true≢false (sym n ∙ m))
-  bit-once (in-tail m u) (in-block k) = absurd (tail-free q v u (k .number) (k .lies))
+  bit-once (in-tail m u) (in-block k) = absurd (tail-free q u (k .number) (k .lies))
   bit-once (in-tail m u) (in-tail n w) = refl
 
 -- Where a page bit answers block and exponent, these answer the bit's position.

@@ -18,24 +18,38 @@ use layout::check_layout;
 use layout::plan_of;
 ghost use mathlib.Core.Path.{_≡_};
 ghost use Rattle.layout.specs.Record.{wordsOf};
-ghost use Rattle.layout.specs.Bits.{bitAnswer, positionAnswer};
+ghost use Rattle.layout.specs.Bits.{bitFor, bitAnswer, positionFor, positionAnswer};
+
+// Where does the page bit at `position` belong, under the answer to a layout, whatever names it?
+pub fn bit_for(answer: Acceptance, position: u64) -> BitAnswer
+    ensures { λ r. ⌜ r ≡ bitFor answer position ⌝ }
+{
+    match answer {
+        Acceptance::Accepted(layout) => places::bit_in(plan_of(layout), position),
+        Acceptance::Refused(refusal) => BitAnswer::Refused(refusal),
+    }
+}
+
+// Where does the coefficient of x^exponent of a block lie, under the answer to a layout?
+pub fn position_for(answer: Acceptance, block: u64, exponent: u64) -> PositionAnswer
+    ensures { λ r. ⌜ r ≡ positionFor answer block exponent ⌝ }
+{
+    match answer {
+        Acceptance::Accepted(layout) => places::position_in(plan_of(layout), block, exponent),
+        Acceptance::Refused(refusal) => PositionAnswer::Refused(refusal),
+    }
+}
 
 // Where does the page bit at `position` belong?
 pub fn locate_bit(edition: u64, words: &[u8], position: u64) -> BitAnswer
     ensures { λ r. ⌜ r ≡ bitAnswer (wordsOf edition (now (words .entry))) position ⌝ }
 {
-    match check_layout(edition, words) {
-        Acceptance::Accepted(layout) => places::bit_in(plan_of(layout), position),
-        Acceptance::Refused(refusal) => BitAnswer::Refused(refusal),
-    }
+    bit_for(check_layout(edition, words), position)
 }
 
 // Where does the coefficient of x^exponent of a block lie?
 pub fn bit_position(edition: u64, words: &[u8], block: u64, exponent: u64) -> PositionAnswer
     ensures { λ r. ⌜ r ≡ positionAnswer (wordsOf edition (now (words .entry))) block exponent ⌝ }
 {
-    match check_layout(edition, words) {
-        Acceptance::Accepted(layout) => places::position_in(plan_of(layout), block, exponent),
-        Acceptance::Refused(refusal) => PositionAnswer::Refused(refusal),
-    }
+    position_for(check_layout(edition, words), block, exponent)
 }

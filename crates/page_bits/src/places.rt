@@ -5,27 +5,47 @@ use layout::PositionAnswer;
 use layout::Refusal;
 use layout::block_covered;
 use layout::block_start;
+use layout::pitch;
 use mark::place;
 ghost use mathlib.Core.Path.{_≡_};
+ghost use Prim.Native.Nat.{_<_};
 ghost use Rattle.layout.specs.Bits.{blockOf, located, bitIn, positionIn};
+ghost use Rattle.page_bits.specs.Places.{Near};
 
-// The block in which a stream position lies, by a division; the number of blocks where it lies in none.
+// The block that starts last at or before a stream position, by a division; beyond the blocks of the page any number of them or more.
+fn block_near(plan: Plan, position: u32) -> usize
+    ensures eq { λ r. ⌜ Near plan position r ⌝ }
+    ensures small { λ r. ⌜ r < 4295098368 ⌝ }
+{
+    let at = position as usize;
+    let firsts = plan.firsts;
+    let ahead = block_start(plan, firsts);
+    if at < ahead {
+        let first = plan.first;
+        return at / pitch(first);
+    }
+    let later = plan.later;
+    let step = pitch(later);
+    if step == 0 {
+        return plan.blocks as usize;
+    }
+    firsts as usize + (at - ahead) / step
+}
+
+// The block in which a stream position lies; the number of blocks where it lies in none.
 pub fn block_of(plan: Plan, position: u32) -> usize
     ensures { λ r. ⌜ r ≡ blockOf plan position ⌝ }
 {
-    let at = position as usize;
     let blocks = plan.blocks as usize;
-    let first = plan.first.covered as usize;
-    let later = plan.later.covered as usize;
-    if at < first {
-        return 0;
-    }
-    if later == 0 {
+    let near = block_near(plan, position);
+    if blocks <= near {
         return blocks;
     }
-    let block = (at - first) / later + 1;
-    if block < blocks {
-        return block;
+    let block = near as u16;
+    let end = block_start(plan, block) + block_covered(plan, block);
+    let at = position as usize;
+    if at < end {
+        return near;
     }
     blocks
 }

@@ -27,8 +27,8 @@ ghost use Rattle.code.specs.Word.{flipped};
 ghost use Rattle.code.specs.Code.{Codeword, Fits};
 ghost use Rattle.layout.specs.Record.{wordsOf};
 ghost use Rattle.page_theory.specs.Claim.{Right};
-ghost use Rattle.page_theory.specs.Calls.{claimEnded, claimIn, claimOf};
-ghost use Rattle.page_plan.specs.Plans.{Stored, Planned, Ready};
+ghost use Rattle.page_theory.specs.Calls.{claimEnded, claimIn, claimFor, claimOf};
+ghost use Rattle.page_plan.specs.Plans.{Stored, Planned, Ready, Sound};
 ghost use Rattle.page_claim.specs.Answers.{claimNumber};
 ghost use Rattle.page_claim.specs.Claims.{Distinct, Within};
 
@@ -165,6 +165,17 @@ fn claim_in(plan: Plan, page: &[u8], block: u64, claims: &[u16]) -> ClaimAnswer
     }
 }
 
+// Claimed locations of one block of a page under the answer to a layout, whatever names it.
+pub fn claim_for(answer: Acceptance, page: &[u8], block: u64, claims: &[u16]) -> ClaimAnswer
+    requires { ⌜ Sound answer ⌝ }
+    ensures { λ r. ⌜ claimEnded (claimNumber r) ≡ claimFor answer (now (page .entry)) block (now (claims .entry)) ⌝ }
+{
+    match answer {
+        Acceptance::Accepted(layout) => claim_in(plan_of(layout), page, block, claims),
+        Acceptance::Refused(refusal) => ClaimAnswer::Refused(refusal_of(refusal)),
+    }
+}
+
 // Are these error locations, reported by a hardware locator, right?
 pub fn check_claim(
     edition: u64,
@@ -175,8 +186,5 @@ pub fn check_claim(
 ) -> ClaimAnswer
     ensures { λ r. ⌜ claimEnded (claimNumber r) ≡ claimOf (wordsOf edition (now (words .entry))) (now (page .entry)) block (now (claims .entry)) ⌝ }
 {
-    match check_layout(edition, words) {
-        Acceptance::Accepted(layout) => claim_in(plan_of(layout), page, block, claims),
-        Acceptance::Refused(refusal) => ClaimAnswer::Refused(refusal_of(refusal)),
-    }
+    claim_for(check_layout(edition, words), page, block, claims)
 }

@@ -12,6 +12,7 @@ mod claim;
 
 pub use answers::claim_number;
 pub use claim::check_claim;
+pub use claim::claim_for;
 use replies::Refusal;
 
 // The answer to claimed locations: they are right, or this is why not.

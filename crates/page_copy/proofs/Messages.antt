@@ -82,10 +82,11 @@ module _ (q : Plan) where
 
     -- the message of a block lies in the stream, and in the payload
     pub message-room : Ready q page → (b : ℕ) → b < q .blocks → {m d : List ℕ} → length m ≡ q .metadata → length d ≡ q .«data» → {s p n : ℕ}
-        → s ≡ start q b → p ≡ from q b → n ≡ bits q b → q .size < 65536
+        → s ≡ start q b → p ≡ from q b → n ≡ bits q b
         → ((InStream (q .mark) page s n) × Small m d) × (p + n ≤ 8 * (length m + length d))
     unfolding payload room
-    message-room r b l em ed es ep en f =
+    message-room r b l em ed es ep en =
+        let f = r .plan .size in
         let i = message-inside q (r .plan .valid) b l in
         let o = r .plan .valid .ends b l in
         let k = r .plan .valid .inside in

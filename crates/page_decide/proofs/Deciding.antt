@@ -8,23 +8,24 @@
 -- decided-count                   its count is what is reported of it
 -- found-few, found-decided        what was found for a block's remainder decides it
 -- remembers-nothing               nothing is remembered at first
--- alike-nothing, alike-first, alike-words    whether a block is like the last decided one
+-- alike-nothing, alike-shape, alike-words    whether a block is like the last decided one
 -- alike-finds                     what was found for the last decided block is right for one that is alike
--- block-decided                   what was found for a block decides it, and is remembered where it is a later one
+-- block-decided                   what was found for a block decides it, and is remembered
 -- later-field, same-field         the fields of the blocks
 -- one-field-tables                the tables of the later blocks' field
-use mathlib.Core.Path.{_≡_, refl, sym, ap, _∙_}
-use mathlib.Core.Bool.{Bool, true, false}
+use mathlib.Core.Path.{_≡_, refl, sym, ap, _∙_, subst}
+use mathlib.Core.Bool.{Bool, true, false, not, Bool·beq}
 use mathlib.Core.List.{List, []}
 use Prim.Native.Nat.{ℕ, zero, suc, _≤_, _<_}
 use native.Mathlib.Decide.{decLt}
-use native.Mathlib.Nat.{pos-of-ne-zero}
 use native.Mathlib.Omega.{arith}
 use lib.ListN.{length, take}
 use lib.Seq.{length-take-le}
+use lib.Dec.{ltb}
 use Rattle.bits.specs.Decides.{Decides}
 use Rattle.field.specs.Field.{degree}
 use Rattle.field.specs.Tables.{Tables}
+use Rattle.layout.specs.declared.Shape.{Shape}
 use Rattle.layout.specs.declared.Plan.{Plan}
 use Rattle.layout.specs.Plan.{shape, field, level, covered, Valid}
 use Rattle.code.specs.Outcome.{Outcome}
@@ -35,6 +36,8 @@ use Rattle.decoder.specs.declared.Found.{Found}
 use Rattle.decoder.specs.Locating.{answer, Finds}
 use Rattle.page_theory.specs.Reading.{GivesAt, RefusedAt, outcome, countOf}
 use Rattle.page_theory.proofs.Reading.{Hands, of-good, of-erased, outcome-gives, outcome-ruined}
+use Rattle.page_plan.specs.Plans.{Planned}
+use Rattle.page_plan.proofs.Plans.{shape-zero}
 use Rattle.page_plan.proofs.Tables.{degree-field}
 use Rattle.page_decide.specs.declared.Decided.{Decided}
 use Rattle.page_decide.specs.Scanning.{remainderAt}
@@ -128,63 +131,71 @@ module _ (q : Plan) (page : List ℕ) (v : Valid q) (b : ℕ) (inside : b < q .b
 
 -- what is remembered
 
-pub remembers-nothing : (q : Plan) (d : Decided) → d .later ≡ false → Remembers q d
+pub remembers-nothing : (q : Plan) (d : Decided) → d .known ≡ false → Remembers q d
 remembers-nothing q d e = record { finds = λ t. absurd (false-true (sym e ∙ t)) }
 
 -- whether a block is like the last decided one
 
-module _ {d : Decided} {b : ℕ} {words : List ℕ} where
-  pub alike-nothing : d .later ≡ false → Decides false (Alike d b words)
-  alike-nothing e = record { holds = λ t. absurd (false-true t); fails = λ t a. false-true (sym e ∙ a .later) }
+beq-other : (x y : Bool) → not (Bool·beq x y) ≡ true → x ≡ y → ⊥
+beq-other true true e h = false-true e
+beq-other true false e h = false-true (sym h)
+beq-other false true e h = false-true h
+beq-other false false e h = false-true e
 
-  pub alike-first : b ≡ 0 → Decides false (Alike d b words)
-  alike-first e = record { holds = λ t. absurd (false-true t); fails = λ t a. omega (arith, a .own) }
+beq-same : (x y : Bool) → not (Bool·beq x y) ≡ false → x ≡ y
+beq-same true true e = refl
+beq-same true false e = absurd (false-true (sym e))
+beq-same false true e = absurd (false-true (sym e))
+beq-same false false e = refl
 
-  pub alike-words : {r : Bool} → d .later ≡ true → (b ≡ 0 → ⊥) → Decides r (d .remainder .words ≡ words) → Decides r (Alike d b words)
+module _ {q : Plan} {d : Decided} {b : ℕ} {words : List ℕ} where
+  pub alike-nothing : d .known ≡ false → Decides false (Alike q d b words)
+  alike-nothing e = record { holds = λ t. absurd (false-true t); fails = λ t a. false-true (sym e ∙ a .known) }
+
+  pub alike-shape : not (Bool·beq (ltb b (q .firsts)) (d .first)) ≡ true → Decides false (Alike q d b words)
+  alike-shape n = record { holds = λ t. absurd (false-true t); fails = λ t a. beq-other _ _ n (sym (a .first)) }
+
+  pub alike-words : {r : Bool} → d .known ≡ true → not (Bool·beq (ltb b (q .firsts)) (d .first)) ≡ false → Decides r (d .remainder .words ≡ words) → Decides r (Alike q d b words)
   alike-words e n s = record {
-    holds = λ t. record { later = e; own = pos-of-ne-zero n; same = s .holds t };
+    holds = λ t. record { known = e; first = sym (beq-same _ _ n); same = s .holds t };
     fails = λ t a. s .fails t (a .same);
   }
 
-pub alike-finds : (q : Plan) {d : Decided} {b : ℕ} {words : List ℕ} → Remembers q d → Alike d b words
+pub alike-finds : (q : Plan) {d : Decided} {b : ℕ} {words : List ℕ} → Remembers q d → Alike q d b words
     → Finds (field q b) (level q b) (covered q b) (register words) (d .found)
-unfolding shape
-alike-finds q {b = zero} m a = absurd (omega (arith, a .own))
-alike-finds q {b = suc b} m a = rw (← a .same) (m .finds (a .later))
+alike-finds q {b = b} m a = rw (← a .same) (m .finds (a .known) b (a .first))
 
--- what was found for a block, to be remembered where it is a later one
+-- two blocks of which both are of the first, or both are not, have one shape
+one-shape : (q : Plan) (b c : ℕ) → ltb b (q .firsts) ≡ ltb c (q .firsts) → shape q b ≡ shape q c
+unfolding shape
+one-shape q b c e = rw e
+
+-- what was found for a block, to be remembered
 pub block-decided : (q : Plan) (page : List ℕ) (b : ℕ) {d : Decided} → Valid q → b < q .blocks → register (d .remainder .words) ≡ remainderAt q page b
     → Finds (field q b) (level q b) (covered q b) (register (d .remainder .words)) (d .found) → d .count ≡ countAt q page b (d .found)
-    → (d .later ≡ true → 0 < b) → BlockDecided q page b d
-unfolding shape
-block-decided q page b {d} v inside left finds count later = record {
+    → d .first ≡ ltb b (q .firsts) → BlockDecided q page b d
+block-decided q page b {d} v inside left finds count first = record {
   at = found-decided q page v b inside left finds count;
   size = finds .size;
-  remembers = record { finds = λ t. at b (later t) finds };
+  remembers = record {
+    finds = λ t c e.
+        subst (λ (s : Shape). Finds (s .field) (s .level) (s .covered) (register (d .remainder .words)) (d .found))
+        (one-shape q b c (sym first ∙ e)) finds;
+  };
 }
-  where
-    at : (b : ℕ) → 0 < b → Finds (field q b) (level q b) (covered q b) (register (d .remainder .words)) (d .found)
-        → Finds (q .later .field) (q .later .level) (q .later .covered) (register (d .remainder .words)) (d .found)
-    at zero l f = absurd (omega arith)
-    at (suc b) l f = f
 
 -- the fields of the blocks
 
-pub later-field : (q : Plan) (b : ℕ) → 0 < b → OneField q b
-unfolding shape
-later-field q b l = record { each = λ c m. at c (omega arith) }
-  where
-    at : (c : ℕ) → 0 < c → field q c ≡ q .later .field
-    at zero k = absurd (omega arith)
-    at (suc c) k = refl
+pub later-field : (q : Plan) (b : ℕ) → Planned q → 0 < b → OneField q b
+later-field q b p l = record { each = λ c m i. p .behind c (omega arith) i .0 }
 
-pub same-field : (q : Plan) (b : ℕ) → degree (q .first .field) ≡ degree (q .later .field) → OneField q b
-unfolding shape
-same-field q b e = record { each = λ c m. at c }
+pub same-field : (q : Plan) (b : ℕ) → Planned q → degree (q .first .field) ≡ degree (q .later .field) → OneField q b
+same-field q b p e = record { each = λ c m i. at c i }
   where
-    at : (c : ℕ) → field q c ≡ q .later .field
-    at zero = degree-field _ _ e
-    at (suc c) = refl
+    at : (c : ℕ) → c < q .blocks → field q c ≡ q .later .field
+    at zero i = ap (λ (s : Shape). s .field) (sym (shape-zero q p)) ∙ degree-field _ _ e
+    at (suc c) i = p .behind (suc c) (omega arith) i .0
 
-pub one-field-tables : (q : Plan) (a b : ℕ) {powers logs : List ℕ} → OneField q a → a ≤ b → Tables (q .later .field) powers logs → Tables (field q b) powers logs
-one-field-tables q a b h l t = rw (h .each b l) t
+pub one-field-tables : (q : Plan) (a b : ℕ) {powers logs : List ℕ} → OneField q a → a ≤ b → b < q .blocks → Tables (q .later .field) powers logs
+    → Tables (field q b) powers logs
+one-field-tables q a b h l i t = rw (h .each b l i) t

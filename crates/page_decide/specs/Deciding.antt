@@ -4,18 +4,18 @@
 -- erasedAt q page b          the count of a block with no codeword near
 -- countAt q page b r         the count of block b, for whose remainder r was found
 -- DecidedAt q page b ps n    block b is decided with the count n: the exponents ps repair it, or it is erased, or it is ruined
--- Remembers q d              what was found for the last decided block d is right for every later block with its remainder
--- Alike d b words            block b, whose remainder has these words, and the last decided block d are later blocks with one remainder
+-- Remembers q d              what was found for the last decided block d is right for every block with its shape and its remainder
+-- Alike q d b words          block b, whose remainder has these words, and the last decided block d have one shape and one remainder
 -- BlockDecided q page b d    block b was decided as d
--- OneField q b               from block b on the blocks have the field of the later ones
+-- OneField q b               from block b on the blocks of the page have the field of the later ones
 use mathlib.Core.Path.{_≡_}
 use mathlib.Core.Bool.{true, cond}
 use mathlib.Core.List.{List}
 use Prim.Native.Nat.{ℕ, _≤_, _<_}
 use lib.ListN.{length, take, replicate}
-use lib.Dec.{leb}
+use lib.Dec.{leb, ltb}
 use Rattle.layout.specs.declared.Plan.{Plan}
-use Rattle.layout.specs.Plan.{bits, field, level}
+use Rattle.layout.specs.Plan.{bits, field, level, covered}
 use Rattle.code.specs.Word.{zeros}
 use Rattle.code.specs.Outcome.{erasedCount}
 use Rattle.code.specs.Register.{register}
@@ -39,13 +39,14 @@ pub record DecidedAt (q : Plan) (page : List ℕ) (b : ℕ) (ps : List ℕ) (n :
   pub ruined : 255 ≤ n → RefusedAt q page b
   pub small : n ≤ 255
 
--- The later blocks have one shape, so what was found for one holds for each with the same remainder.
+-- The first blocks have one shape, and so have the others; what was found for a block holds for each with the same remainder.
 pub record Remembers (q : Plan) (d : Decided) : Type 0 where
-  pub finds : d .later ≡ true → Finds (q .later .field) (q .later .level) (q .later .covered) (register (d .remainder .words)) (d .found)
+  pub finds : d .known ≡ true → (b : ℕ) → d .first ≡ ltb b (q .firsts)
+      → Finds (field q b) (level q b) (covered q b) (register (d .remainder .words)) (d .found)
 
-pub record Alike (d : Decided) (b : ℕ) (words : List ℕ) : Type 0 where
-  pub later : d .later ≡ true
-  pub own : 0 < b
+pub record Alike (q : Plan) (d : Decided) (b : ℕ) (words : List ℕ) : Type 0 where
+  pub known : d .known ≡ true
+  pub first : d .first ≡ ltb b (q .firsts)
   pub same : d .remainder .words ≡ words
 
 pub record BlockDecided (q : Plan) (page : List ℕ) (b : ℕ) (d : Decided) : Type 0 where
@@ -54,4 +55,4 @@ pub record BlockDecided (q : Plan) (page : List ℕ) (b : ℕ) (d : Decided) : T
   pub remembers : Remembers q d
 
 pub record OneField (q : Plan) (b : ℕ) : Type 0 where
-  pub each : (c : ℕ) → b ≤ c → field q c ≡ q .later .field
+  pub each : (c : ℕ) → b ≤ c → c < q .blocks → field q c ≡ q .later .field

@@ -25,7 +25,7 @@ use remainder::coefficients::zero;
 
 // No block decided yet: nothing that a later block could be like.
 pub fn nothing() -> Decided
-    ensures { λ r. ⌜ r .later ≡ false ⌝ }
+    ensures { λ r. ⌜ r .known ≡ false ⌝ }
 {
     let found = Found {
         located: false,
@@ -33,7 +33,8 @@ pub fn nothing() -> Decided
         exponents: [0u16; 64],
     };
     Decided {
-        later: false,
+        known: false,
+        first: false,
         remainder: zero(),
         found: found,
         count: 0,
@@ -56,15 +57,17 @@ fn same_words(a: Register, b: Register) -> bool
     true
 }
 
-// Whether a block has the shape and the remainder of the last decided one: both are later blocks, and the registers are the same.
-fn alike(last: Decided, block: u16, remainder: Register) -> bool
-    ensures { λ r. ⌜ Decides r (Alike last block (remainder .words)) ⌝ }
+// Whether a block has the shape and the remainder of the last decided one: both are of the first blocks or both are not, and the registers
+// are the same.
+fn alike(plan: Plan, last: Decided, block: u16, remainder: Register) -> bool
+    ensures { λ r. ⌜ Decides r (Alike plan last block (remainder .words)) ⌝ }
 {
-    let later = last.later;
-    if !later {
+    let known = last.known;
+    if !known {
         return false;
     }
-    if block == 0 {
+    let first = block < plan.firsts;
+    if first != last.first {
         return false;
     }
     let other = last.remainder;
@@ -84,7 +87,7 @@ fn outcome_after(
     requires { ⌜ (register (remainder .words) < 2 ^ (degree (field plan block) * level plan block)) × (Remembers plan last) ⌝ }
     ensures { λ r. ⌜ Finds (field plan block) (level plan block) (covered plan block) (register (remainder .words)) r ⌝ }
 {
-    if alike(last, block, remainder) {
+    if alike(plan, last, block, remainder) {
         let found = last.found;
         return found;
     }
@@ -109,7 +112,8 @@ pub fn decide_block(
     let found = outcome_after(plan, block, remainder, last, powers, logs);
     let count = block_count(plan, page, block, found);
     Decided {
-        later: block != 0,
+        known: true,
+        first: block < plan.firsts,
         remainder: remainder,
         found: found,
         count: count,
@@ -148,6 +152,7 @@ pub fn decide_alone(plan: Plan, page: &[u8], scan: Scan) -> Decided
 
 // Whether a damaged block is block 0 with another field than the later ones. From any other on, one field serves.
 pub fn apart(plan: Plan, scan: Scan) -> bool
+    requires { ⌜ Planned plan ⌝ }
     ensures { λ r. ⌜ (r ≡ false → OneField plan (scan .block)) × (r ≡ true → scan .block ≡ 0) ⌝ }
 {
     let block = scan.block;

@@ -10,8 +10,8 @@
 //   decide::decide_lent       the same by itself, with lent tables, which it fills
 //   decide::decide_alone      the same with tables of its own
 //
-// A block's outcome depends on its shape and its remainder. So what was decided last goes on with the calls: a later block with the
-// remainder of the last decided one, which was a later block too, is not decoded again. Its zeros are counted all the same.
+// A block's outcome depends on its shape and its remainder. So what was decided last goes on with the calls: a block with the shape and the
+// remainder of the last decided one is not decoded again. Its zeros are counted all the same.
 // Nothing is written to what a caller lent; looking, taking and judging go on from here.
 //
 // specs/ has what the steps promise (Scanning, Deciding); proofs/ the laws: Remainders (what the remainder of a block says of it),
@@ -29,9 +29,11 @@ pub struct Scan {
     pub remainder: Register,
 }
 
-// A block that was decided: whether it is a later one, its remainder, what was found for it, and its count.
+// A block that was decided, if `known`: whether it is one of the first, which share a shape, its remainder, what was found for it, and its
+// count.
 pub struct Decided {
-    pub later: bool,
+    pub known: bool,
+    pub first: bool,
     pub remainder: Register,
     pub found: Found,
     pub count: u8,

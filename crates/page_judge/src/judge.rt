@@ -3,8 +3,8 @@ ghost use mathlib.Core.Path.{_≡_};
 ghost use Prim.Native.Nat.{_<_};
 ghost use Rattle.code.specs.Register.{register};
 ghost use Rattle.layout.specs.Record.{wordsOf};
-ghost use Rattle.page_theory.specs.Calls.{judgeEnded, judgeIn, judgeOf};
-ghost use Rattle.page_plan.specs.Plans.{Planned, Ready};
+ghost use Rattle.page_theory.specs.Calls.{judgeEnded, judgeIn, judgeFor, judgeOf};
+ghost use Rattle.page_plan.specs.Plans.{Planned, Ready, Sound};
 ghost use Rattle.page_decide.specs.Scanning.{remainderAt, Left};
 ghost use Rattle.page_judge.specs.Answers.{judgeNumber, judgeBlock, judgeFlips};
 use crate::JudgeAnswer;
@@ -79,12 +79,20 @@ fn judge_in(plan: Plan, page: &[u8], block: u64) -> JudgeAnswer
     }
 }
 
+// Judges one block of a page under the answer to a layout, whatever names it.
+pub fn judge_for(answer: Acceptance, page: &[u8], block: u64) -> JudgeAnswer
+    requires { ⌜ Sound answer ⌝ }
+    ensures { λ r. ⌜ judgeEnded (judgeNumber r) (judgeBlock r) (judgeFlips r) ≡ judgeFor answer (now (page .entry)) block ⌝ }
+{
+    match answer {
+        Acceptance::Accepted(layout) => judge_in(plan_of(layout), page, block),
+        Acceptance::Refused(refusal) => JudgeAnswer::Refused(refusal_of(refusal)),
+    }
+}
+
 // Judges one block of a page: its flip count. `words` is the layout record.
 pub fn judge_block(edition: u64, words: &[u8], page: &[u8], block: u64) -> JudgeAnswer
     ensures { λ r. ⌜ judgeEnded (judgeNumber r) (judgeBlock r) (judgeFlips r) ≡ judgeOf (wordsOf edition (now (words .entry))) (now (page .entry)) block ⌝ }
 {
-    match check_layout(edition, words) {
-        Acceptance::Accepted(layout) => judge_in(plan_of(layout), page, block),
-        Acceptance::Refused(refusal) => JudgeAnswer::Refused(refusal_of(refusal)),
-    }
+    judge_for(check_layout(edition, words), page, block)
 }

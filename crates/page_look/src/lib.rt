@@ -15,6 +15,7 @@
 // specs/ has the answer (Answers) and what the steps promise (Looking); proofs/ the laws: Looking (the counts, block after block), Ends.
 mod look;
 
+pub use look::look_for;
 pub use look::look_page;
 use replies::Refusal;
 

@@ -7,8 +7,8 @@ ghost use Rattle.division_table.specs.Table.{Table};
 ghost use Rattle.replies.specs.Replies.{verdictNumber};
 ghost use Rattle.layout.specs.Record.{wordsOf};
 ghost use Rattle.page_theory.specs.Reading as reading;
-ghost use Rattle.page_theory.specs.Calls.{lookEnded, lookReply, lookIn, lookOf};
-ghost use Rattle.page_plan.specs.Plans.{Planned, Ready};
+ghost use Rattle.page_theory.specs.Calls.{lookEnded, lookReply, lookIn, lookFor, lookOf};
+ghost use Rattle.page_plan.specs.Plans.{Planned, Ready, Sound};
 ghost use Rattle.page_decide.specs.Scanning.{Scanned};
 ghost use Rattle.page_decide.specs.Deciding.{OneField};
 ghost use Rattle.page_look.specs.Answers.{lookNumber, lookBlock};
@@ -177,13 +177,21 @@ fn look_in(plan: Plan, page: &[u8], counts: &mut [u8]) -> LookAnswer
     }
 }
 
+// Looks at a page under the answer to a layout, whatever names it.
+pub fn look_for(answer: Acceptance, page: &[u8], counts: &mut [u8]) -> LookAnswer
+    requires { ⌜ Sound answer ⌝ }
+    ensures { λ r. ⌜ lookEnded (lookNumber r) (lookBlock r) (now (counts .exit)) ≡ lookFor answer (now (page .entry)) (now (counts .entry)) ⌝ }
+{
+    match answer {
+        Acceptance::Accepted(layout) => look_in(plan_of(layout), page, counts),
+        Acceptance::Refused(refusal) => LookAnswer::Refused(refusal_of(refusal)),
+    }
+}
+
 // Looks at a page: the counts of all blocks. `words` is the layout record.
 pub fn look_page(edition: u64, words: &[u8], page: &[u8], counts: &mut [u8]) -> LookAnswer
     ensures { λ r. ⌜ lookEnded (lookNumber r) (lookBlock r) (now (counts .exit))
         ≡ lookOf (wordsOf edition (now (words .entry))) (now (page .entry)) (now (counts .entry)) ⌝ }
 {
-    match check_layout(edition, words) {
-        Acceptance::Accepted(layout) => look_in(plan_of(layout), page, counts),
-        Acceptance::Refused(refusal) => LookAnswer::Refused(refusal_of(refusal)),
-    }
+    look_for(check_layout(edition, words), page, counts)
 }

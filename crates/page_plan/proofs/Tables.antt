@@ -2,11 +2,12 @@
 --
 -- degree-field    fields of one degree are one field
 -- table-same      where the test for the same generator holds, a table of the one block's generator is one of the other's
--- table-later     the later blocks have one generator
-use mathlib.Core.Path.{_≡_, refl, sym, _∙_}
+-- table-first     block 0 has the generator of the first shape
+-- table-later, table-shape     the blocks after block 0 have one generator
+use mathlib.Core.Path.{_≡_, refl, sym, _∙_, subst}
 use mathlib.Core.Bool.{Bool, true, false, cond}
 use mathlib.Core.List.{List}
-use Prim.Native.Nat.{ℕ, zero, suc, _<_}
+use Prim.Native.Nat.{ℕ, _<_}
 use native.Mathlib.Omega.{arith}
 use lib.Dec.{eqb}
 use borrow.Author.Tests.{eqb-true}
@@ -17,6 +18,8 @@ use Rattle.layout.specs.declared.Shape.{Shape}
 use Rattle.layout.specs.declared.Plan.{Plan}
 use Rattle.layout.specs.Plan.{shape, field, level}
 use Rattle.division_table.specs.Table.{Table}
+use Rattle.page_plan.specs.Plans.{Planned}
+use Rattle.page_plan.proofs.Plans.{shape-zero}
 
 pub degree-field : (f g : Field) → degree f ≡ degree g → f ≡ g
 unfolding degree
@@ -33,7 +36,13 @@ table-same a b {words} e t h = go (eqb (degree (a .field)) (degree (b .field))) 
     go true ex l = rw (degree-field (a .field) (b .field) (eqb-true _ _ ex), eqb-true (a .level) (b .level) l) at h
     go false ex l = absurd (let z : _≡_ {A = ℕ} 0 1 = cc in omega arith)
 
-pub table-later : (q : Plan) (b : ℕ) {words : List ℕ} → 0 < b → Table (q .later .field) (q .later .level) words → Table (field q b) (level q b) words
-unfolding shape
-table-later q zero l h = absurd (omega arith)
-table-later q (suc b) l h = h
+pub table-first : (q : Plan) → Planned q → {words : List ℕ} → Table (q .first .field) (q .first .level) words → Table (field q 0) (level q 0) words
+table-first q p {words} h = subst (λ (s : Shape). Table (s .field) (s .level) words) (shape-zero q p) h
+
+pub table-later : (q : Plan) → Planned q → (b : ℕ) {words : List ℕ} → 0 < b → b < q .blocks → Table (q .later .field) (q .later .level) words
+    → Table (field q b) (level q b) words
+table-later q p b l i h = let e = p .behind b l i in rw (e .0, e .1) h
+
+pub table-shape : (q : Plan) → Planned q → (b : ℕ) {s : Shape} {words : List ℕ} → 0 < b → b < q .blocks → s ≡ shape q b → Table (q .later .field) (q .later .level) words
+    → Table (s .field) (s .level) words
+table-shape q p b l i e h = rw e (table-later q p b l i h)

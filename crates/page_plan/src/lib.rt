@@ -7,7 +7,7 @@
 // specs/Plans.antt says what the plan of an accepted layout has, and proofs/Plans.antt shows it; that is all the code asks of a plan.
 ghost use mathlib.Core.Path.{_≡_};
 ghost use mathlib.Core.Bool.{cond, false};
-ghost use Prim.Native.Nat.{_≤_, _<_};
+ghost use Prim.Native.Nat.{_*_, _≤_, _<_};
 ghost use lib.ListN.{length};
 ghost use lib.Dec.{eqb};
 ghost use Rattle.replies.specs.Replies.{verdictNumber};
@@ -35,17 +35,26 @@ pub fn block_reply(plan: Plan, page: usize, block: u64) -> Verdict
     Verdict::Passed
 }
 
+// The bits of n messages of a shape.
+fn messages(n: u16, shape: Shape) -> usize
+    ensures eq { λ r. ⌜ r ≡ n * shape .message ⌝ }
+    ensures small { λ r. ⌜ r < 281474976710656 ⌝ }
+{
+    n as usize * shape.message as usize
+}
+
 // Where the message of a block starts in the payload.
 pub fn message_start(plan: Plan, block: u16) -> usize
     ensures eq { λ r. ⌜ r ≡ from plan block ⌝ }
     ensures small { λ r. ⌜ r < 1125899906842624 ⌝ }
 {
-    if block == 0 {
-        return 0;
+    let firsts = plan.firsts;
+    let first = plan.first;
+    if block <= firsts {
+        return messages(block, first);
     }
-    let first = plan.first.message as usize;
-    let later = plan.later.message as usize;
-    first + (block as usize - 1) * later
+    let later = plan.later;
+    messages(firsts, first) + messages(block - firsts, later)
 }
 
 // Whether two blocks have the same generator: the same field and the same level.

@@ -5,8 +5,8 @@ ghost use lib.ListN.{length};
 ghost use Rattle.division_table.specs.Table.{Table};
 ghost use Rattle.replies.specs.Replies.{verdictNumber};
 ghost use Rattle.layout.specs.Record.{wordsOf};
-ghost use Rattle.page_theory.specs.Calls.{takeEnded, takeReply, takeIn, takeOf};
-ghost use Rattle.page_plan.specs.Plans.{Planned, Ready};
+ghost use Rattle.page_theory.specs.Calls.{takeEnded, takeReply, takeIn, takeFor, takeOf};
+ghost use Rattle.page_plan.specs.Plans.{Planned, Ready, Sound};
 ghost use Rattle.page_decide.specs.Scanning.{Scanned};
 ghost use Rattle.page_take.specs.Answers.{takeNumber, takeBlock};
 use crate::TakeAnswer;
@@ -94,6 +94,18 @@ fn take_in(plan: Plan, page: &[u8], metadata: &mut [u8], data: &mut [u8]) -> Tak
     }
 }
 
+// Takes metadata and data out of a page under the answer to a layout, whatever names it.
+pub fn take_for(answer: Acceptance, page: &[u8], metadata: &mut [u8], data: &mut [u8]) -> TakeAnswer
+    requires { ⌜ Sound answer ⌝ }
+    ensures { λ r. ⌜ takeEnded (takeNumber r) (takeBlock r) (now (metadata .exit)) (now («data» .exit))
+        ≡ takeFor answer (now (page .entry)) (now (metadata .entry)) (now («data» .entry)) ⌝ }
+{
+    match answer {
+        Acceptance::Accepted(layout) => take_in(plan_of(layout), page, metadata, data),
+        Acceptance::Refused(refusal) => TakeAnswer::Refused(refusal_of(refusal)),
+    }
+}
+
 // Takes metadata and data out of a page. `words` is the layout record.
 pub fn take_page(
     edition: u64,
@@ -105,8 +117,5 @@ pub fn take_page(
     ensures { λ r. ⌜ takeEnded (takeNumber r) (takeBlock r) (now (metadata .exit)) (now («data» .exit))
         ≡ takeOf (wordsOf edition (now (words .entry))) (now (page .entry)) (now (metadata .entry)) (now («data» .entry)) ⌝ }
 {
-    match check_layout(edition, words) {
-        Acceptance::Accepted(layout) => take_in(plan_of(layout), page, metadata, data),
-        Acceptance::Refused(refusal) => TakeAnswer::Refused(refusal_of(refusal)),
-    }
+    take_for(check_layout(edition, words), page, metadata, data)
 }

@@ -13,8 +13,9 @@ use Rattle.bits.proofs.Pages.{bytes-bit}
 use Rattle.mark.specs.Mark.{place, marked, streamBit}
 use Rattle.mark.proofs.Places.{streamed-place, place-free, place-below}
 use Rattle.layout.specs.declared.Plan.{Plan}
-use Rattle.layout.specs.Plan.{bits, field, level, covered, start, used, room, Valid}
-use Rattle.page_bits.proofs.Placing.{Lies, block-lies, block-past}
+use Rattle.layout.specs.Plan.{bits, field, level, covered, start, room, Valid}
+use Rattle.layout.specs.Bits.{blockOf}
+use Rattle.page_bits.proofs.Placing.{Lies, block-lies}
 use Rattle.code.specs.Code.{Codeword, Fits}
 use Rattle.code.proofs.Remainder.{parity-length, parity-codeword}
 use Rattle.page_theory.specs.Page.{message, written, writtenBit, pageBit, pageOf, blockWord}
@@ -58,10 +59,10 @@ module _ (q : Plan) where
       let h : Lies q b (start q b + j) = record { from = omega arith; to = omega arith } in
       rw (block-lies q l h) (simp (lt-ltb b (q .blocks) l, i)))
 
-  -- and ones in the tail
-  pub written-tail : Valid q → (d : List ℕ) (p : ℕ) → used q ≤ p → writtenBit q d p ≡ true
+  -- and ones where there is none
+  pub written-tail : (d : List ℕ) (p : ℕ) → blockOf q p ≡ q .blocks → writtenBit q d p ≡ true
   unfolding writtenBit
-  written-tail v d p h = rw (block-past q v p h) (simp (le-ltb (q .blocks) (q .blocks) (omega arith)))
+  written-tail d p h = rw h (simp (le-ltb (q .blocks) (q .blocks) (omega arith)))
 
   -- the stream stands in the page
   pub place-room : Valid q → (p : ℕ) → p < room q → place (q .mark) p < 8 * q .size
@@ -80,8 +81,8 @@ module _ (q : Plan) where
   page-block lent d v b l =
       run-cong _ _ _ _ _ (λ j k. page-stream v lent d (start q b + j) (omega (arith, v .ends b l))) ∙ written-run v d b l
 
-  pub page-tail : Valid q → (lent d : List ℕ) (p : ℕ) → used q ≤ p → p < room q → streamBit (q .mark) (pageOf q lent d) p ≡ true
-  page-tail v lent d p h l = page-stream v lent d p l ∙ written-tail v d p h
+  pub page-tail : Valid q → (lent d : List ℕ) (p : ℕ) → blockOf q p ≡ q .blocks → p < room q → streamBit (q .mark) (pageOf q lent d) p ≡ true
+  page-tail v lent d p h l = page-stream v lent d p l ∙ written-tail d p h
 
   -- Its mark is the lent one's.
   pub page-mark : (lent d : List ℕ) (p : ℕ) → p < 8 * q .size → marked (q .mark) p ≡ true → bitOf (pageOf q lent d) p ≡ bitOf lent p

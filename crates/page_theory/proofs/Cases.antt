@@ -17,8 +17,9 @@ use Rattle.mark.specs.Mark.{place, marked, streamed, streamBit}
 use Rattle.layout.specs.declared.BlockFields.{BlockFields}
 use Rattle.layout.specs.declared.Plan.{Plan}
 use Rattle.layout.specs.declared.BitAnswer.the-variants.{InBlock}
-use Rattle.layout.specs.Record.{Words, fieldOf, blockFields, markAt, markIn, fieldsAt, fieldsUnder, layoutOf}
+use Rattle.layout.specs.Record.{Words}
 use Rattle.layout.specs.Plan.{shapeWith, shapeOf, laterShape, dataBytes, planFor, layoutFor, planOf, shape, field, level, start, from, Valid}
+use Rattle.layout.specs.Acceptance.{acceptance}
 use Rattle.layout.specs.Bits.{within, blockBelow, blockOf, bitAnswer}
 use Rattle.layout.proofs.Cases.{word, words, twoBlocks, layoutE, CaseA, CaseB, CaseC, CaseD, CaseE, CaseI, CaseK, CaseEdition, layout-cases}
 use Rattle.code.specs.Word.{Word, apart, distance, ones, turned, flipped}
@@ -30,7 +31,7 @@ use Rattle.page_theory.specs.Reading.{GivesAt}
 use Rattle.page_theory.specs.Damage.{Accepts, Payload}
 use Rattle.page_theory.specs.Claim.{Right}
 use Rattle.page_theory.specs.Calls.{writeEnded, writeOf, lookEnded, lookOf, takeEnded, takeOf, claimEnded, claimOf}
-use Rattle.page_theory.proofs.Accepted.{accepted-accepts, accepts-valid, look-accepted, take-accepted}
+use Rattle.page_theory.proofs.Accepted.{words-accepts, look-accepted, take-accepted}
 use Rattle.page_theory.proofs.Blocks.{written-message, written-code, blockWord-length, page-block}
 use Rattle.page_theory.proofs.Calls.{look-gives, take-gives}
 use Rattle.page_theory.proofs.Claims.{accepted-when, otherwise-ten}
@@ -99,9 +100,9 @@ pub record Cases : Type 0 where
   -- document 02, E13: m = 13, t = 62, 230 units of data in edition 2: metadata 3 is accepted, metadata 4 is 3
   pub edition : (later : BlockFields) → CaseEdition later
 
-accepts-E : Accepts recordE (planOf layoutE)
-unfolding recordE word words fieldOf blockFields markAt markIn fieldsAt fieldsUnder layoutOf layoutE twoBlocks
-accepts-E = accepted-accepts recordE layoutE (layout-cases .e .accepted)
+accepts-E : Accepts (acceptance recordE) (planOf layoutE)
+unfolding recordE
+accepts-E = words-accepts recordE layoutE (layout-cases .e .accepted)
 
 page-F : (lent : List ℕ) → pageOf (planOf layoutE) lent (replicate 8 0) ≡ pageF
 unfolding pageF pageOf bytes pageBit writtenBit marked streamed within blockBelow blockOf layoutE twoBlocks layoutFor planFor planOf shapeWith shapeOf laterShape dataBytes shape start from
@@ -110,7 +111,7 @@ unfolding pageF pageOf bytes pageBit writtenBit marked streamed within blockBelo
 page-F lent = refl
 
 valid-E : Valid (planOf layoutE)
-valid-E = accepts-valid recordE (planOf layoutE) accepts-E
+valid-E = accepts-E .valid
 
 payload-E : Payload (planOf layoutE) [] (replicate 8 0)
 unfolding layoutE twoBlocks layoutFor planFor planOf dataBytes
@@ -122,7 +123,7 @@ payload-E = record {
 case-F : CaseF
 case-F = record {
   parity-zero = zeros-parity;
-  page = λ lent h. write-done recordE (planOf layoutE) accepts-E [] (replicate 8 0) lent payload-E (unfold layoutE twoBlocks layoutFor planFor planOf in h) ∙ ap (writeEnded 0 0) (page-F lent);
+  page = λ lent h. write-done (acceptance recordE) (planOf layoutE) accepts-E [] (replicate 8 0) lent payload-E (unfold layoutE twoBlocks layoutFor planFor planOf in h) ∙ ap (writeEnded 0 0) (page-F lent);
 }
 
 -- the written blocks of the page of F, and how far those of the page of G are from them
@@ -171,20 +172,20 @@ each-G (suc (suc b)) l = absurd (omega arith)
 looks-G : (counts : List ℕ) → length counts ≡ 2 → lookOf recordE pageG counts ≡ lookEnded 0 0 (1 ∷ 0 ∷ [])
 unfolding layoutE twoBlocks layoutFor planFor planOf dataBytes shapeWith shapeOf laterShape shape pageG
 looks-G c k =
-    look-accepted recordE (planOf layoutE) accepts-E pageG c
+    look-accepted (acceptance recordE) (planOf layoutE) accepts-E pageG c
     ∙ look-gives (planOf layoutE) valid-E pageG (1 ∷ 0 ∷ []) (message (planOf layoutE) (replicate 8 0)) refl refl each-G c k
 
 takes-G : («data» : List ℕ) → length «data» ≡ 8 → takeOf recordE pageG [] «data» ≡ takeEnded 0 0 [] (replicate 8 0)
 unfolding layoutE twoBlocks layoutFor planFor planOf dataBytes shapeWith shapeOf laterShape shape pageG
 takes-G d k =
-    take-accepted recordE (planOf layoutE) accepts-E pageG [] d
+    take-accepted (acceptance recordE) (planOf layoutE) accepts-E pageG [] d
     ∙ take-gives (planOf layoutE) valid-E pageG [] (replicate 8 0) (λ b. getD (1 ∷ 0 ∷ []) b 0) refl payload-E each-G [] d refl k
 
 case-L : CaseL
 unfolding layoutE twoBlocks layoutFor planFor planOf shapeWith shapeOf shape pageG flipped
 case-L = record {
-  twice = otherwise-ten recordE (planOf layoutE) accepts-E pageG 0 refl (lit< tt) (57 ∷ 57 ∷ []) (λ r. r .distinct 0 1 (lit< tt) (lit< tt) refl);
-  once = accepted-when recordE (planOf layoutE) accepts-E pageG 0 refl (lit< tt) (57 ∷ []) right;
+  twice = otherwise-ten (acceptance recordE) (planOf layoutE) accepts-E pageG 0 refl (lit< tt) (57 ∷ 57 ∷ []) (λ r. r .distinct 0 1 (lit< tt) (lit< tt) refl);
+  once = accepted-when (acceptance recordE) (planOf layoutE) accepts-E pageG 0 refl (lit< tt) (57 ∷ []) right;
 }
   where
     right : Right (field (planOf layoutE) 0) (level (planOf layoutE) 0) (blockWord (planOf layoutE) pageG 0) (57 ∷ [])

@@ -6,14 +6,14 @@ use Prim.Native.Nat.{ℕ, _<_}
 use native.Mathlib.Omega.{arith}
 use lib.ListN.{length}
 use Rattle.field.specs.declared.Field.{Field}
-use Rattle.layout.specs.Record.{Words}
+use Rattle.layout.specs.declared.Acceptance.{Acceptance}
 use Rattle.layout.specs.declared.Plan.{Plan}
 use Rattle.layout.specs.Plan.{field, level}
 use Rattle.code.specs.Word.{Word}
 use Rattle.page_theory.specs.Page.{blockWord}
 use Rattle.page_theory.specs.Claim.{Right, right?}
 use Rattle.page_theory.specs.Damage.{Accepts}
-use Rattle.page_theory.specs.Calls.{Claimed, claimEnded, claimBy, claimIn, claimOf}
+use Rattle.page_theory.specs.Calls.{Claimed, claimEnded, claimBy, claimIn, claimFor}
 use Rattle.page_theory.proofs.OneBlock.{blockReply-right}
 use Rattle.page_theory.proofs.Accepted.{claim-accepted}
 
@@ -44,16 +44,16 @@ module _ (q : Plan) (page : List ℕ) (b : ℕ) (size : length page ≡ q .size)
   pub claim-wrong : (Right (field q b) (level q b) (blockWord q page b) claims → ⊥) → claimIn q page b claims ≡ claimEnded 10
   claim-wrong h = claim-by ∙ by-wrong h (right? _ _ _ _)
 
-module _ (rec : Words) (q : Plan) (accepted : Accepts rec q) (page : List ℕ) (b : ℕ) (size : length page ≡ q .size) (inside : b < q .blocks)
+module _ (a : Acceptance) (q : Plan) (accepted : Accepts a q) (page : List ℕ) (b : ℕ) (size : length page ≡ q .size) (inside : b < q .blocks)
     (claims : List ℕ) where
-  pub accepted-when : Right (field q b) (level q b) (blockWord q page b) claims → claimOf rec page b claims ≡ claimEnded 0
-  accepted-when h = claim-accepted rec q accepted page b claims ∙ claim-right q page b size inside claims h
+  pub accepted-when : Right (field q b) (level q b) (blockWord q page b) claims → claimFor a page b claims ≡ claimEnded 0
+  accepted-when h = claim-accepted a q accepted page b claims ∙ claim-right q page b size inside claims h
 
-  pub accepted-only : claimOf rec page b claims .reply ≡ 0 → Right (field q b) (level q b) (blockWord q page b) claims
+  pub accepted-only : claimFor a page b claims .reply ≡ 0 → Right (field q b) (level q b) (blockWord q page b) claims
   accepted-only e =
       by-accepted (right? _ _ _ _)
-      (ap (λ (r : Claimed). r .reply) (sym (claim-accepted rec q accepted page b claims ∙ claim-by q page b size inside claims)) ∙ e)
+      (ap (λ (r : Claimed). r .reply) (sym (claim-accepted a q accepted page b claims ∙ claim-by q page b size inside claims)) ∙ e)
 
   pub otherwise-ten : (Right (field q b) (level q b) (blockWord q page b) claims → ⊥)
-      → claimOf rec page b claims ≡ claimEnded 10
-  otherwise-ten h = claim-accepted rec q accepted page b claims ∙ claim-wrong q page b size inside claims h
+      → claimFor a page b claims ≡ claimEnded 10
+  otherwise-ten h = claim-accepted a q accepted page b claims ∙ claim-wrong q page b size inside claims h

@@ -13,23 +13,22 @@ use native.Mathlib.Decide.{ℕ-discrete}
 use lib.ListN.{length}
 use lib.Dec.{eqb, ltb}
 use Rattle.replies.specs.Replies.{among}
-use Rattle.layout.specs.Record.{Words}
 use Rattle.layout.specs.declared.Plan.{Plan}
 use Rattle.layout.specs.declared.Acceptance.{Acceptance}
 use Rattle.layout.specs.declared.Acceptance.the-variants.{Accepted, Refused}
 use Rattle.layout.specs.Plan.{planOf, field, level}
-use Rattle.layout.specs.Acceptance.{acceptance, refusalReply}
+use Rattle.layout.specs.Acceptance.{refusalReply}
+use Rattle.layout.proofs.Numbers.{refusal-reply-early}
 use Rattle.code.specs.Outcome.{Outcome, good, erased, ruined}
-use Rattle.layout.proofs.Numbers.{acceptance-refused-reply}
 use Rattle.page_theory.specs.Page.{pageOf, blockWord}
 use Rattle.page_theory.specs.Reading.{Reading, done, refused, outcome, reading, counts}
 use Rattle.page_theory.specs.Claim.{Right, right?}
 use Rattle.page_theory.specs.Demands.{WriteEnds, LookEnds, TakeEnds, JudgeEnds, ClaimEnds}
-use Rattle.page_theory.specs.Calls.{writeEnded, writeReply, writeIn, writeFor, writeOf}
-use Rattle.page_theory.specs.Calls.{lookEnded, lookReply, lookBy, lookIn, lookFor, lookOf}
-use Rattle.page_theory.specs.Calls.{takeEnded, takeReply, takeBy, takeIn, takeFor, takeOf}
-use Rattle.page_theory.specs.Calls.{blockReply, judgeEnded, judgeBy, judgeIn, judgeFor, judgeOf}
-use Rattle.page_theory.specs.Calls.{claimEnded, claimBy, claimIn, claimFor, claimOf}
+use Rattle.page_theory.specs.Calls.{writeEnded, writeReply, writeIn, writeFor}
+use Rattle.page_theory.specs.Calls.{lookEnded, lookReply, lookBy, lookIn, lookFor}
+use Rattle.page_theory.specs.Calls.{takeEnded, takeReply, takeBy, takeIn, takeFor}
+use Rattle.page_theory.specs.Calls.{blockReply, judgeEnded, judgeBy, judgeIn, judgeFor}
+use Rattle.page_theory.specs.Calls.{claimEnded, claimBy, claimIn, claimFor}
 use Rattle.page_theory.proofs.Calls.{look-wrong, take-wrong}
 
 -- the numbers 0 to 7 come first in each list
@@ -89,13 +88,10 @@ module _ (m d page : List ℕ) where
       go true = record { table = among-small 0 _ (omega arith); kept = λ n. absurd (n refl); block = refl }
       go false = ends-write _ (inl (write-small q _ _ _))
 
-  pub write-ends : (rec : Words) → WriteEnds page (writeOf rec m d page)
-  unfolding writeOf writeFor
-  write-ends rec = go (acceptance rec) refl
-    where
-      go : (a : Acceptance) → acceptance rec ≡ a → WriteEnds page (writeFor a m d page)
-      go (Accepted l) h = write-in (planOf l)
-      go (Refused r) h = ends-write (refusalReply r) (acceptance-refused-reply rec r h)
+  pub write-ends : (a : Acceptance) → WriteEnds page (writeFor a m d page)
+  unfolding writeFor
+  write-ends (Accepted l) = write-in (planOf l)
+  write-ends (Refused r) = ends-write (refusalReply r) (refusal-reply-early r)
 
 module _ (page c : List ℕ) where
   ends-look : (x : ℕ) → Early x → LookEnds c (lookEnded x 0 c)
@@ -113,13 +109,10 @@ module _ (page c : List ℕ) where
     | no n ↦ rw (look-wrong q page c n) (ends-look _ (inl (look-small q _ _)))
   ]
 
-  pub look-ends : (rec : Words) → LookEnds c (lookOf rec page c)
-  unfolding lookOf lookFor
-  look-ends rec = go (acceptance rec) refl
-    where
-      go : (a : Acceptance) → acceptance rec ≡ a → LookEnds c (lookFor a page c)
-      go (Accepted l) h = look-in (planOf l)
-      go (Refused r) h = ends-look (refusalReply r) (acceptance-refused-reply rec r h)
+  pub look-ends : (a : Acceptance) → LookEnds c (lookFor a page c)
+  unfolding lookFor
+  look-ends (Accepted l) = look-in (planOf l)
+  look-ends (Refused r) = ends-look (refusalReply r) (refusal-reply-early r)
 
 module _ (page m d : List ℕ) where
   ends-take : (x : ℕ) → Early x → TakeEnds m d (takeEnded x 0 m d)
@@ -137,13 +130,10 @@ module _ (page m d : List ℕ) where
     | no n ↦ rw (take-wrong q page m d n) (ends-take _ (inl (take-small q _ _ _)))
   ]
 
-  pub take-ends : (rec : Words) → TakeEnds m d (takeOf rec page m d)
-  unfolding takeOf takeFor
-  take-ends rec = go (acceptance rec) refl
-    where
-      go : (a : Acceptance) → acceptance rec ≡ a → TakeEnds m d (takeFor a page m d)
-      go (Accepted l) h = take-in (planOf l)
-      go (Refused r) h = ends-take (refusalReply r) (acceptance-refused-reply rec r h)
+  pub take-ends : (a : Acceptance) → TakeEnds m d (takeFor a page m d)
+  unfolding takeFor
+  take-ends (Accepted l) = take-in (planOf l)
+  take-ends (Refused r) = ends-take (refusalReply r) (refusal-reply-early r)
 
 -- the replies about a page and a block number
 data BlockReply : ℕ → Type 0 where
@@ -184,13 +174,10 @@ module _ (page : List ℕ) (b : ℕ) where
       go x length-wrong = ends-judge 5 (inl (omega arith))
       go x range-wrong = ends-judge 7 (inl (omega arith))
 
-  pub judge-ends : (rec : Words) → JudgeEnds b (judgeOf rec page b)
-  unfolding judgeOf judgeFor
-  judge-ends rec = go (acceptance rec) refl
-    where
-      go : (a : Acceptance) → acceptance rec ≡ a → JudgeEnds b (judgeFor a page b)
-      go (Accepted l) h = judge-in (planOf l)
-      go (Refused r) h = ends-judge (refusalReply r) (acceptance-refused-reply rec r h)
+  pub judge-ends : (a : Acceptance) → JudgeEnds b (judgeFor a page b)
+  unfolding judgeFor
+  judge-ends (Accepted l) = judge-in (planOf l)
+  judge-ends (Refused r) = ends-judge (refusalReply r) (refusal-reply-early r)
 
 module _ (page : List ℕ) (b : ℕ) (claims : List ℕ) where
   ends-claim : (x : ℕ) → Early x → ClaimEnds (claimEnded x)
@@ -211,10 +198,7 @@ module _ (page : List ℕ) (b : ℕ) (claims : List ℕ) where
       go x length-wrong = ends-claim 5 (inl (omega arith))
       go x range-wrong = ends-claim 7 (inl (omega arith))
 
-  pub claim-ends : (rec : Words) → ClaimEnds (claimOf rec page b claims)
-  unfolding claimOf claimFor
-  claim-ends rec = go (acceptance rec) refl
-    where
-      go : (a : Acceptance) → acceptance rec ≡ a → ClaimEnds (claimFor a page b claims)
-      go (Accepted l) h = claim-in (planOf l)
-      go (Refused r) h = ends-claim (refusalReply r) (acceptance-refused-reply rec r h)
+  pub claim-ends : (a : Acceptance) → ClaimEnds (claimFor a page b claims)
+  unfolding claimFor
+  claim-ends (Accepted l) = claim-in (planOf l)
+  claim-ends (Refused r) = ends-claim (refusalReply r) (refusal-reply-early r)

@@ -8,54 +8,54 @@ use Prim.Native.Nat.{ℕ, _<_}
 use native.Mathlib.Omega.{arith}
 use lib.ListN.{length}
 use Rattle.bits.specs.Bits.{run}
-use Rattle.layout.specs.Record.{Words}
+use Rattle.layout.specs.declared.Acceptance.{Acceptance}
 use Rattle.layout.specs.declared.Plan.{Plan}
 use Rattle.layout.specs.Plan.{Valid}
 use Rattle.page_theory.specs.Page.{pageOf}
 use Rattle.page_theory.specs.Reading.{RefusedAt, Lowest, Reading, reading, counts}
 use Rattle.page_theory.specs.Damage.{Accepts, Outputs, flips, Damaged, WrittenAndDamaged}
-use Rattle.page_theory.specs.Calls.{Looked, lookEnded, lookBy, lookOf, Taken, takeEnded, takeBy, takeOf}
+use Rattle.page_theory.specs.Calls.{Looked, lookEnded, lookBy, lookFor, Taken, takeEnded, takeBy, takeFor}
 use Rattle.page_theory.proofs.Reading.{refused-lowest, ruined-lowest}
 use Rattle.page_theory.proofs.Damage.{damaged-reading, damaged-counts}
 use Rattle.page_theory.proofs.Calls.{Replied, whole, named, look-replied, take-replied}
 use Rattle.page_theory.proofs.Calls.{look-right, look-refuses, take-right, take-refuses, takeBy-payload}
-use Rattle.page_theory.proofs.Accepted.{accepts-valid, look-accepted, take-accepted}
+use Rattle.page_theory.proofs.Accepted.{look-accepted, take-accepted}
 use Rattle.page_theory.proofs.Demand2.{write-done}
 
-module _ (rec : Words) (q : Plan) (accepted : Accepts rec q) where
-  module _ (m d page : List ℕ) (s : ℕ → ℕ → Bool) (h : WrittenAndDamaged rec q m d page s) where
+module _ (a : Acceptance) (q : Plan) (accepted : Accepts a q) where
+  module _ (m d page : List ℕ) (s : ℕ → ℕ → Bool) (h : WrittenAndDamaged a q m d page s) where
     as-written : Damaged q (pageOf q (h .lent) (m ++ d)) page s
-    as-written = rw (write-done rec q accepted m d (h .lent) (h .payload) (h .size)) at (h .damaged)
+    as-written = rw (write-done a q accepted m d (h .lent) (h .payload) (h .size)) at (h .damaged)
 
     -- "Every page so written and damaged reads back: it gives the payload that was written, and for each block the number of
     -- its covered bits that flipped." Looking gives the numbers, taking the payload.
 
-    pub looks-back : (c : List ℕ) → length c ≡ q .blocks → lookOf rec page c ≡ lookEnded 0 0 (run (flips q s) 0 (q .blocks))
+    pub looks-back : (c : List ℕ) → length c ≡ q .blocks → lookFor a page c ≡ lookEnded 0 0 (run (flips q s) 0 (q .blocks))
     unfolding lookBy
     looks-back c l =
-        look-accepted rec q accepted page c
+        look-accepted a q accepted page c
         ∙ look-right q page c (h .damaged .page .count) l
         ∙ rw (damaged-reading q valid (h .lent) (m ++ d) page s as-written, damaged-counts q valid (h .lent) (m ++ d) page s as-written)
       where
         valid : Valid q
-        valid = accepts-valid rec q accepted
+        valid = accepted .valid
 
-    pub takes-back : (old-m old-d : List ℕ) → length old-m ≡ q .metadata → length old-d ≡ q .«data» → takeOf rec page old-m old-d ≡ takeEnded 0 0 m d
+    pub takes-back : (old-m old-d : List ℕ) → length old-m ≡ q .metadata → length old-d ≡ q .«data» → takeFor a page old-m old-d ≡ takeEnded 0 0 m d
     takes-back old-m old-d i j =
-        take-accepted rec q accepted page old-m old-d
+        take-accepted a q accepted page old-m old-d
         ∙ take-right q page old-m old-d (h .damaged .page .count) i j
-        ∙ ap (λ (r : Reading). takeBy q r old-m old-d) (damaged-reading q (accepts-valid rec q accepted) (h .lent) (m ++ d) page s as-written)
+        ∙ ap (λ (r : Reading). takeBy q r old-m old-d) (damaged-reading q (accepted .valid) (h .lent) (m ++ d) page s as-written)
         ∙ takeBy-payload q m d (h .payload) old-m old-d
 
     pub reads-back : (old-m old-d old-c : List ℕ) → Outputs q old-m old-d old-c
-        → (lookOf rec page old-c ≡ lookEnded 0 0 (run (flips q s) 0 (q .blocks))) × (takeOf rec page old-m old-d ≡ takeEnded 0 0 m d)
+        → (lookFor a page old-c ≡ lookEnded 0 0 (run (flips q s) 0 (q .blocks))) × (takeFor a page old-m old-d ≡ takeEnded 0 0 m d)
     reads-back old-m old-d old-c o = (looks-back old-c (o .counts), takes-back old-m old-d (o .metadata) (o .«data»))
 
   -- "Take one accepted layout and any two different payloads (metadata and data), each written to a page. Whichever covered bits
   -- then flip in either page, at most t in each block, and whatever becomes of the tail bits, the two pages are never the same."
   -- Document 02, E7, counts the bits of the mark with the tail.
-  pub told-apart : (m d page : List ℕ) (s : ℕ → ℕ → Bool) → WrittenAndDamaged rec q m d page s
-      → (m' d' page' : List ℕ) (s' : ℕ → ℕ → Bool) → WrittenAndDamaged rec q m' d' page' s'
+  pub told-apart : (m d page : List ℕ) (s : ℕ → ℕ → Bool) → WrittenAndDamaged a q m d page s
+      → (m' d' page' : List ℕ) (s' : ℕ → ℕ → Bool) → WrittenAndDamaged a q m' d' page' s'
       → (m ≡ m' → d ≡ d' → ⊥)
       → page ≡ page' → ⊥
   told-apart m d page s h m' d' page' s' h' different same =
@@ -64,7 +64,7 @@ module _ (rec : Words) (q : Plan) (accepted : Accepts rec q) where
       equal : takeEnded 0 0 m d ≡ takeEnded 0 0 m' d'
       equal =
           let i = h .payload .metadata .count in let j = h .payload .«data» .count in
-          sym (takes-back m d page s h m d i j) ∙ ap (λ p. takeOf rec p m d) same ∙ takes-back m' d' page' s' h' m d i j
+          sym (takes-back m d page s h m d i j) ∙ ap (λ p. takeFor a p m d) same ∙ takes-back m' d' page' s' h' m d i j
 
   -- "Whatever a page of the right length holds, with outputs of the right length it is refused as uncorrectable exactly when some
   -- block has no codeword of its shortened length within t flips, and the lowest such block is named. Here t is the block's own
@@ -81,42 +81,42 @@ module _ (rec : Words) (q : Plan) (accepted : Accepts rec q) where
 
     -- Looking.
     module _ (c : List ℕ) (lent : length c ≡ q .blocks) where
-      looked : Replied (reading q page) (lookOf rec page c .reply) (lookOf rec page c .block)
-      looked = rw (look-accepted rec q accepted page c, look-right q page c size lent) (look-replied (reading q page) (counts q page))
+      looked : Replied (reading q page) (lookFor a page c .reply) (lookFor a page c .block)
+      looked = rw (look-accepted a q accepted page c, look-right q page c size lent) (look-replied (reading q page) (counts q page))
 
       -- the lowest ruined block is named, and the counts of all blocks are written
-      pub look-refused-naming : (b : ℕ) → Lowest q page b → lookOf rec page c ≡ lookEnded 9 b (counts q page)
-      look-refused-naming b h = look-accepted rec q accepted page c ∙ look-refuses q page c b size lent h
+      pub look-refused-naming : (b : ℕ) → Lowest q page b → lookFor a page c ≡ lookEnded 9 b (counts q page)
+      look-refused-naming b h = look-accepted a q accepted page c ∙ look-refuses q page c b size lent h
 
       -- some block is ruined: the page is refused
-      pub look-refused-when : (b : ℕ) → b < q .blocks → RefusedAt q page b → lookOf rec page c .reply ≡ 9
+      pub look-refused-when : (b : ℕ) → b < q .blocks → RefusedAt q page b → lookFor a page c .reply ≡ 9
       look-refused-when b l h = let r = ruined-lowest q page b l h in ap (λ (r : Looked). r .reply) (look-refused-naming (r .0) (r .1))
 
       -- the page is refused: a block is ruined, and the lowest such block is named
-      pub look-refused-only : lookOf rec page c .reply ≡ 9 → Lowest q page (lookOf rec page c .block)
+      pub look-refused-only : lookFor a page c .reply ≡ 9 → Lowest q page (lookFor a page c .block)
       look-refused-only h = replied-only refl looked h
 
       -- a page that is not refused so gives its counts
-      pub look-otherwise : (lookOf rec page c .reply ≡ 9 → ⊥) → lookOf rec page c .reply ≡ 0
+      pub look-otherwise : (lookFor a page c .reply ≡ 9 → ⊥) → lookFor a page c .reply ≡ 0
       look-otherwise h = replied-otherwise looked h
 
     -- Taking.
     module _ (m d : List ℕ) (lent-m : length m ≡ q .metadata) (lent-d : length d ≡ q .«data») where
-      taken : Replied (reading q page) (takeOf rec page m d .reply) (takeOf rec page m d .block)
-      taken = rw (take-accepted rec q accepted page m d, take-right q page m d size lent-m lent-d) (take-replied q (reading q page) m d)
+      taken : Replied (reading q page) (takeFor a page m d .reply) (takeFor a page m d .block)
+      taken = rw (take-accepted a q accepted page m d, take-right q page m d size lent-m lent-d) (take-replied q (reading q page) m d)
 
       -- the lowest ruined block is named, and every output is as it was lent
-      pub take-refused-naming : (b : ℕ) → Lowest q page b → takeOf rec page m d ≡ takeEnded 9 b m d
-      take-refused-naming b h = take-accepted rec q accepted page m d ∙ take-refuses q page m d b size lent-m lent-d h
+      pub take-refused-naming : (b : ℕ) → Lowest q page b → takeFor a page m d ≡ takeEnded 9 b m d
+      take-refused-naming b h = take-accepted a q accepted page m d ∙ take-refuses q page m d b size lent-m lent-d h
 
       -- some block is ruined: the page is refused
-      pub take-refused-when : (b : ℕ) → b < q .blocks → RefusedAt q page b → takeOf rec page m d .reply ≡ 9
+      pub take-refused-when : (b : ℕ) → b < q .blocks → RefusedAt q page b → takeFor a page m d .reply ≡ 9
       take-refused-when b l h = let r = ruined-lowest q page b l h in ap (λ (r : Taken). r .reply) (take-refused-naming (r .0) (r .1))
 
       -- the page is refused: a block is ruined, and the lowest such block is named
-      pub take-refused-only : takeOf rec page m d .reply ≡ 9 → Lowest q page (takeOf rec page m d .block)
+      pub take-refused-only : takeFor a page m d .reply ≡ 9 → Lowest q page (takeFor a page m d .block)
       take-refused-only h = replied-only refl taken h
 
       -- a page that is not refused so gives its payload
-      pub take-otherwise : (takeOf rec page m d .reply ≡ 9 → ⊥) → takeOf rec page m d .reply ≡ 0
+      pub take-otherwise : (takeFor a page m d .reply ≡ 9 → ⊥) → takeFor a page m d .reply ≡ 0
       take-otherwise h = replied-otherwise taken h

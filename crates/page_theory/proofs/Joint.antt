@@ -12,20 +12,19 @@ use borrow.Author.Tests.{eq-eqb}
 use Rattle.bits.specs.Bits.{run}
 use Rattle.replies.specs.Replies.{unless}
 use Rattle.layout.specs.declared.Plan.{Plan}
+use Rattle.layout.specs.declared.Layout.{Layout}
 use Rattle.layout.specs.declared.Acceptance.{Acceptance}
 use Rattle.layout.specs.declared.Acceptance.the-variants.{Accepted, Refused}
-use Rattle.layout.specs.Record.{Words, layoutOf}
 use Rattle.layout.specs.Plan.{planOf}
-use Rattle.layout.specs.Acceptance.{acceptance, refusalReply}
+use Rattle.layout.specs.Acceptance.{refusalReply}
 use Rattle.code.specs.Word.{Word}
 use Rattle.code.specs.Outcome.{Outcome, good, erased, ruined, erasedCount}
 use Rattle.page_theory.specs.Reading as parted
 use Rattle.page_theory.specs.Reading.{outcome, countOf, counts}
-use Rattle.page_theory.specs.Damage.{Accepts, Outputs}
-use Rattle.page_theory.specs.Calls.{bytesAt, Looked, lookBy, lookIn, lookFor, lookOf, Taken, takeBy, takeIn, takeFor, takeOf}
+use Rattle.page_theory.specs.Damage.{Outputs}
+use Rattle.page_theory.specs.Calls.{bytesAt, Looked, lookBy, lookIn, lookFor, Taken, takeBy, takeIn, takeFor}
 use Rattle.page_theory.proofs.Words.{run-last}
 use Rattle.page_theory.proofs.Calls.{look-right, take-right}
-use Rattle.page_theory.proofs.Accepted.{accepted-accepts, accepts-layout}
 
 -- ---- document 01's joint call
 
@@ -84,9 +83,6 @@ readIn q page metadata «data» counts =
 unfoldable pub readFor : Acceptance → List ℕ → List ℕ → List ℕ → List ℕ → Read
 readFor (Accepted l) page metadata «data» counts = readIn (planOf l) page metadata «data» counts
 readFor (Refused r) page metadata «data» counts = readEnded (refusalReply r) 0 metadata «data» counts
-
-unfoldable pub readOf : Words → List ℕ → List ℕ → List ℕ → List ℕ → Read
-readOf rec page metadata «data» counts = readFor (acceptance rec) page metadata «data» counts
 
 -- ---- looking, then taking
 
@@ -156,21 +152,14 @@ module _ (q : Plan) (page : List ℕ) where
         take-right q page m d size (outputs .metadata) (outputs .«data»),
       ) (by-both (reading q page) (parted.reading q page) both)
 
--- For any record: where it is accepted, with page and outputs of the lengths that its plan gives.
-pub looked-then-taken : (rec : Words) (page m d c : List ℕ) → ((q : Plan) → Accepts rec q → (length page ≡ q .size) × Outputs q m d c)
-    → Parted (readOf rec page m d c) (lookOf rec page c) (takeOf rec page m d) c
-unfolding readOf readFor lookOf lookFor takeOf takeFor joined
-looked-then-taken rec page m d c lengths = go (acceptance rec) refl
+-- Whatever names the layout: where it is accepted, with page and outputs of the lengths that its plan gives.
+pub looked-then-taken : (a : Acceptance) (page m d c : List ℕ) → ((l : Layout) → a ≡ Accepted l → (length page ≡ planOf l .size) × Outputs (planOf l) m d c)
+    → Parted (readFor a page m d c) (lookFor a page c) (takeFor a page m d) c
+unfolding readFor lookFor takeFor joined
+looked-then-taken (Accepted l) page m d c lengths = let (size, outputs) = lengths l refl in parted-in (planOf l) page m d c size outputs
+looked-then-taken (Refused r) page m d c lengths =
+    record { same = ap (readEnded (refusalReply r) 0 m d) (either (eqb (refusalReply r) 0)); reply = refl; block = refl }
   where
     either : (b : Bool) → c ≡ cond b c c
     either true = refl
     either false = refl
-
-    go : (a : Acceptance) → acceptance rec ≡ a → Parted (readFor a page m d c) (lookFor a page c) (takeFor a page m d) c
-    go (Refused r) e = record { same = ap (readEnded (refusalReply r) 0 m d) (either (eqb (refusalReply r) 0)); reply = refl; block = refl }
-    go (Accepted l) e =
-        let a = accepted-accepts rec l e in
-        let k = accepts-layout rec (planOf (layoutOf rec)) a in
-        let i : l ≡ layoutOf rec = cc in
-        let (size, outputs) = lengths (planOf (layoutOf rec)) a in
-        rw i (parted-in (planOf (layoutOf rec)) page m d c size outputs)

@@ -15,18 +15,15 @@ use Rattle.bits.proofs.Pages.{byte-number, bytes-bytes, bytes-cong}
 use Rattle.mark.specs.declared.Mark.{Mark}
 use Rattle.mark.specs.Mark.{marked}
 use Rattle.mark.proofs.Places.{marked-before, marked-after, marked-within}
-use Rattle.layout.specs.Record.{Words}
 use Rattle.layout.specs.declared.Plan.{Plan}
 use Rattle.layout.specs.declared.Acceptance.{Acceptance}
 use Rattle.layout.specs.declared.Acceptance.the-variants.{Accepted, Refused}
 use Rattle.layout.specs.Plan.{planOf}
-use Rattle.layout.specs.Acceptance.{acceptance}
 use Rattle.page_theory.specs.Page.{pageBit, pageOf}
 use Rattle.page_theory.specs.Damage.{Accepts, Payload}
-use Rattle.page_theory.specs.Calls.{Written, writeEnded, writeReply, writeIn, writeFor, writeOf}
+use Rattle.page_theory.specs.Calls.{Written, writeEnded, writeReply, writeIn, writeFor}
 use Rattle.page_theory.specs.Alike.{SameMark}
 use Rattle.page_theory.proofs.Blocks.{page-mark}
-use Rattle.page_theory.proofs.Accepted.{accepts-valid}
 use Rattle.page_theory.proofs.Demand2.{write-done}
 
 -- a bit of the mark lies in one of its bytes
@@ -61,19 +58,19 @@ module _ (q : Plan) (d : List ℕ) where
       go p true e = rw (e, same .bytes (p / 8) (marked-first (q .mark) p e) (marked-last (q .mark) p e))
       go p false e = rw e
 
-module _ (rec : Words) (q : Plan) (accepted : Accepts rec q) (m d : List ℕ) (payload : Payload q m d) where
+module _ (a : Acceptance) (q : Plan) (accepted : Accepts a q) (m d : List ℕ) (payload : Payload q m d) where
   -- the mark's bytes are those that were lent
-  pub write-kept : (lent : List ℕ) → Bytes (q .size) lent → SameMark q (writeOf rec m d lent .page) lent
-  write-kept lent small = rw (write-done rec q accepted m d lent payload (small .count)) (page-kept q (m ++ d) lent small (accepts-valid rec q accepted .inside))
+  pub write-kept : (lent : List ℕ) → Bytes (q .size) lent → SameMark q (writeFor a m d lent .page) lent
+  write-kept lent small = rw (write-done a q accepted m d lent payload (small .count)) (page-kept q (m ++ d) lent small (accepted .valid .inside))
 
   -- over two pages with the same mark the same page is written
   pub write-alike : (lent other : List ℕ) → length lent ≡ q .size → length other ≡ q .size → SameMark q lent other
-      → writeOf rec m d lent ≡ writeOf rec m d other
+      → writeFor a m d lent ≡ writeFor a m d other
   write-alike lent other h k same =
-      write-done rec q accepted m d lent payload h ∙ ap (writeEnded 0 0) (page-alike q (m ++ d) lent other same)
-      ∙ sym (write-done rec q accepted m d other payload k)
+      write-done a q accepted m d lent payload h ∙ ap (writeEnded 0 0) (page-alike q (m ++ d) lent other same)
+      ∙ sym (write-done a q accepted m d other payload k)
 
--- Under any record, and whatever is lent: the reply to writing has of the lent page only its length.
+-- Whether or not a layout is accepted, and whatever is lent: the reply to writing has of the lent page only its length.
 module _ (m d lent other : List ℕ) (size : length lent ≡ length other) where
   in-replied : (q : Plan) → (writeIn q m d lent .reply ≡ writeIn q m d other .reply) × (writeIn q m d lent .block ≡ writeIn q m d other .block)
   unfolding writeIn
@@ -88,10 +85,7 @@ module _ (m d lent other : List ℕ) (size : length lent ≡ length other) where
       go true r = (refl, refl)
       go false r = (refl, refl)
 
-  pub write-replied : (rec : Words) → (writeOf rec m d lent .reply ≡ writeOf rec m d other .reply) × (writeOf rec m d lent .block ≡ writeOf rec m d other .block)
-  unfolding writeOf writeFor
-  write-replied rec = go (acceptance rec)
-    where
-      go : (a : Acceptance) → (writeFor a m d lent .reply ≡ writeFor a m d other .reply) × (writeFor a m d lent .block ≡ writeFor a m d other .block)
-      go (Accepted l) = in-replied (planOf l)
-      go (Refused r) = (refl, refl)
+  pub write-replied : (a : Acceptance) → (writeFor a m d lent .reply ≡ writeFor a m d other .reply) × (writeFor a m d lent .block ≡ writeFor a m d other .block)
+  unfolding writeFor
+  write-replied (Accepted l) = in-replied (planOf l)
+  write-replied (Refused r) = (refl, refl)

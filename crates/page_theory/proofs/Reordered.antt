@@ -8,17 +8,15 @@ use lib.ListN.{length, getD}
 use lib.Dec.{eqb}
 use Rattle.algebra.specs.Word.{flip}
 use Rattle.field.specs.declared.Field.{Field}
-use Rattle.layout.specs.Record.{Words}
 use Rattle.layout.specs.declared.Plan.{Plan}
 use Rattle.layout.specs.declared.Acceptance.{Acceptance}
 use Rattle.layout.specs.declared.Acceptance.the-variants.{Accepted, Refused}
 use Rattle.layout.specs.Plan.{planOf, field, level}
-use Rattle.layout.specs.Acceptance.{acceptance}
 use Rattle.code.specs.Word.{Word, turned, flipped}
 use Rattle.code.proofs.Flips.{turned-length}
 use Rattle.page_theory.specs.Page.{blockWord}
 use Rattle.page_theory.specs.Claim.{Right, right?}
-use Rattle.page_theory.specs.Calls.{claimBy, claimIn, claimFor, claimOf}
+use Rattle.page_theory.specs.Calls.{claimBy, claimIn, claimFor}
 use Rattle.page_theory.specs.Alike.{Reordered, same, swap, keep, then}
 
 reordered-back : {xs ys : List ℕ} → Reordered xs ys → Reordered ys xs
@@ -136,10 +134,7 @@ claimIn-reordered : (q : Plan) (page : List ℕ) (b : ℕ) {claims other : List 
 unfolding claimIn
 claimIn-reordered q page b r = rw (by-reordered r (right? (field q b) (level q b) (blockWord q page b) _) (right? (field q b) (level q b) (blockWord q page b) _))
 
-pub claim-reordered : (rec : Words) (page : List ℕ) (b : ℕ) {claims other : List ℕ} → Reordered claims other → claimOf rec page b claims ≡ claimOf rec page b other
-unfolding claimOf claimFor
-claim-reordered rec page b {claims} {other} r = go (acceptance rec)
-  where
-    go : (a : Acceptance) → claimFor a page b claims ≡ claimFor a page b other
-    go (Accepted l) = claimIn-reordered (planOf l) page b r
-    go (Refused x) = refl
+pub claim-reordered : (a : Acceptance) (page : List ℕ) (b : ℕ) {claims other : List ℕ} → Reordered claims other → claimFor a page b claims ≡ claimFor a page b other
+unfolding claimFor
+claim-reordered (Accepted l) page b r = claimIn-reordered (planOf l) page b r
+claim-reordered (Refused x) page b r = refl

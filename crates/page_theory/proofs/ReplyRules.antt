@@ -1,14 +1,15 @@
 -- Each page call replies as its list of rules says, block number included, so each reply is given exactly if its rule applies and none before it
--- does (document 01, "Replies"). `..-replies` says the first, `..-exactly` the second, `..-ascending` that after the edition and the record's length,
--- which are looked at first, the turns never fall: where several rules apply the smallest number wins, but that 11 comes between 3 and 4 (document 02, E7;
--- replies/Given `smallest-after`).
+-- does (document 01, "Replies"). `..-replies` says the first, `..-exactly` the second, `..-ascending` that after the rules that are looked at first of
+-- all the turns never fall: where several rules apply the smallest number wins, but that 11 comes between 3 and 4 (document 02, E7; replies/Given
+-- `smallest-after`). All are said of whatever names the layout, with its list of rules; layout/ReplyRules `words-ruled` and `words-ascends` give that of
+-- layout words, where the edition and the record's length are looked at first.
 use mathlib.Core.Path.{_≡_, refl, _∙_}
 use mathlib.Core.Bool.{Bool, true, false, cond}
 use mathlib.Core.List.{List, [], _∷_, _++_}
 use Prim.Native.Nat.{ℕ, zero, suc, _≤_}
 use native.Mathlib.Omega.{arith}
 use lib.ListN.{length, drop}
-use lib.Dec.{eqb, ltb}
+use lib.Dec.{eqb, ltb, lit≤}
 use borrow.Author.Tests.{le-leb}
 use Rattle.replies.specs.declared.Refusal.the-variants.{PageLength, BufferLength, OutOfRange, Uncorrectable, ClaimWrong}
 use Rattle.replies.specs.declared.Verdict.the-variants.{Refused}
@@ -19,22 +20,20 @@ use Rattle.replies.proofs.Tests.{leb-not}
 use Rattle.replies.proofs.Given.{follows-next, none-verdict, verdict-none, append-kept, append-refused, exactly}
 use Rattle.layout.specs.declared.Plan.{Plan}
 use Rattle.layout.specs.declared.Acceptance.{Acceptance}
-use Rattle.layout.specs.Record.{Words, layoutOf}
 use Rattle.layout.specs.Plan.{planOf, field, level}
-use Rattle.layout.specs.Acceptance.{acceptance}
-use Rattle.layout.specs.ReplyRules.{fieldRules, layoutRules}
-use Rattle.layout.proofs.ReplyRules.{Accepting, accepts, refuses, accepting, accepted-follows, refused-follows}
+use Rattle.layout.specs.ReplyRules.{Ruled, accepts, refuses, Ascends}
+use Rattle.layout.proofs.ReplyRules.{refused-follows, accepted-follows, ascends-after}
 use Rattle.code.specs.Word.{Word}
 use Rattle.code.specs.Outcome.{Outcome, good, erased, ruined}
 use Rattle.page_theory.specs.Page.{pageOf, blockWord}
 use Rattle.page_theory.specs.Reading.{Reading, done, refused, more, readingOf, reading, outcome, counts}
 use Rattle.page_theory.specs.Claim.{Right, right?}
 use Rattle.page_theory.specs.Calls as call
-use Rattle.page_theory.specs.Calls.{writeEnded, writeReply, writeFor, writeOf}
-use Rattle.page_theory.specs.Calls.{Looked, lookEnded, lookReply, lookBy, lookFor, lookOf}
-use Rattle.page_theory.specs.Calls.{Taken, takeEnded, takeReply, takeBy, takeFor, takeOf}
-use Rattle.page_theory.specs.Calls.{blockReply, Judged, judgeEnded, judgeBy, judgeFor, judgeOf}
-use Rattle.page_theory.specs.Calls.{Claimed, claimEnded, claimBy, claimFor, claimOf}
+use Rattle.page_theory.specs.Calls.{writeEnded, writeReply, writeFor}
+use Rattle.page_theory.specs.Calls.{Looked, lookEnded, lookReply, lookBy, lookFor}
+use Rattle.page_theory.specs.Calls.{Taken, takeEnded, takeReply, takeBy, takeFor}
+use Rattle.page_theory.specs.Calls.{blockReply, Judged, judgeEnded, judgeBy, judgeFor}
+use Rattle.page_theory.specs.Calls.{Claimed, claimEnded, claimBy, claimFor}
 use Rattle.page_theory.specs.ReplyRules as rules
 use Rattle.page_theory.specs.ReplyRules.{isRuined, isWrong, ruinedRules, writeRules, lookRules, takeRules, judgeRules, claimRules}
 use Rattle.page_theory.proofs.Calls as by
@@ -56,22 +55,15 @@ module _ (m d page : List ℕ) where
       go true false c = record { number = refl; beside = refl }
       go false b c = record { number = refl; beside = refl }
 
-  module _ (rec : Words) where
-    write-for : (a : Acceptance) → Accepting rec a → Follows (writeRules rec m d page) (writeFor a m d page .reply) (writeFor a m d page .block)
-    unfolding writeRules writeFor
-    write-for a (accepts none) = accepted-follows rec none _ (write-in (planOf (layoutOf rec)))
-    write-for a (refuses r e) = refused-follows rec r e _
+pub write-replies : {before : List Rule} {q : Plan} {a : Acceptance} → Ruled before q a → (m d page : List ℕ)
+    → Follows (writeRules before q m d page) (writeFor a m d page .reply) (writeFor a m d page .block)
+unfolding writeRules writeFor
+write-replies (accepts l none) m d page = accepted-follows none (write-in m d page (planOf l))
+write-replies {before} (refuses q r e) m d page = refused-follows before r e _
 
-    pub write-replies : Follows (writeRules rec m d page) (writeOf rec m d page .reply) (writeOf rec m d page .block)
-    unfolding writeOf
-    write-replies = write-for (acceptance rec) (accepting rec)
-
-    pub write-exactly : Exactly (writeRules rec m d page) (writeOf rec m d page .reply) (writeOf rec m d page .block)
-    write-exactly = exactly (writeRules rec m d page) write-replies
-
-    pub write-ascending : ascending (drop 2 (writeRules rec m d page)) ≡ true
-    unfolding writeRules rules.writeIn layoutRules fieldRules ascending atMost turn number
-    write-ascending = refl
+pub write-exactly : {before : List Rule} {q : Plan} {a : Acceptance} → Ruled before q a → (m d page : List ℕ)
+    → Exactly (writeRules before q m d page) (writeFor a m d page .reply) (writeFor a m d page .block)
+write-exactly h m d page = exactly (writeRules _ _ m d page) (write-replies h m d page)
 
 -- ---- looking and taking
 
@@ -137,68 +129,25 @@ module _ (q : Plan) (page : List ℕ) where
         go true false z = record { number = refl; beside = refl }
         go false y z = record { number = refl; beside = refl }
 
-module _ (rec : Words) (page c : List ℕ) where
-  look-for : (a : Acceptance) → Accepting rec a → Follows (lookRules rec page c) (lookFor a page c .reply) (lookFor a page c .block)
-  unfolding lookRules lookFor
-  look-for a (accepts none) = accepted-follows rec none _ (look-in (planOf (layoutOf rec)) page c)
-  look-for a (refuses r e) = refused-follows rec r e _
+pub look-replies : {before : List Rule} {q : Plan} {a : Acceptance} → Ruled before q a → (page c : List ℕ)
+    → Follows (lookRules before q page c) (lookFor a page c .reply) (lookFor a page c .block)
+unfolding lookRules lookFor
+look-replies (accepts l none) page c = accepted-follows none (look-in (planOf l) page c)
+look-replies {before} (refuses q r e) page c = refused-follows before r e _
 
-  pub look-replies : Follows (lookRules rec page c) (lookOf rec page c .reply) (lookOf rec page c .block)
-  unfolding lookOf
-  look-replies = look-for (acceptance rec) (accepting rec)
+pub look-exactly : {before : List Rule} {q : Plan} {a : Acceptance} → Ruled before q a → (page c : List ℕ)
+    → Exactly (lookRules before q page c) (lookFor a page c .reply) (lookFor a page c .block)
+look-exactly h page c = exactly (lookRules _ _ page c) (look-replies h page c)
 
-  pub look-exactly : Exactly (lookRules rec page c) (lookOf rec page c .reply) (lookOf rec page c .block)
-  look-exactly = exactly (lookRules rec page c) look-replies
+pub take-replies : {before : List Rule} {q : Plan} {a : Acceptance} → Ruled before q a → (page m d : List ℕ)
+    → Follows (takeRules before q page m d) (takeFor a page m d .reply) (takeFor a page m d .block)
+unfolding takeRules takeFor
+take-replies (accepts l none) page m d = accepted-follows none (take-in (planOf l) page m d)
+take-replies {before} (refuses q r e) page m d = refused-follows before r e _
 
-module _ (rec : Words) (page m d : List ℕ) where
-  take-for : (a : Acceptance) → Accepting rec a → Follows (takeRules rec page m d) (takeFor a page m d .reply) (takeFor a page m d .block)
-  unfolding takeRules takeFor
-  take-for a (accepts none) = accepted-follows rec none _ (take-in (planOf (layoutOf rec)) page m d)
-  take-for a (refuses r e) = refused-follows rec r e _
-
-  pub take-replies : Follows (takeRules rec page m d) (takeOf rec page m d .reply) (takeOf rec page m d .block)
-  unfolding takeOf
-  take-replies = take-for (acceptance rec) (accepting rec)
-
-  pub take-exactly : Exactly (takeRules rec page m d) (takeOf rec page m d .reply) (takeOf rec page m d .block)
-  take-exactly = exactly (takeRules rec page m d) take-replies
-
--- The rules about the blocks all have the number 9.
-data Nines : List Rule → Type 0 where
-  end : Nines []
-  next : {r : Rule} {rs : List Rule} → number (r .why) ≡ 9 → Nines rs → Nines (r ∷ rs)
-
-nines-append : {rs ss : List Rule} → Nines rs → Nines ss → Nines (rs ++ ss)
-nines-append end k = k
-nines-append (next e h) k = next e (nines-append h k)
-
-nines-least : (n : ℕ) {rs : List Rule} → turn n ≤ turn 9 → Nines rs → atMost n rs ≡ true
-unfolding atMost
-nines-least n l end = refl
-nines-least n l (next {r} e h) = rw e (le-leb (turn n) (turn 9) l)
-
-nines-ascending : {rs : List Rule} → Nines rs → ascending rs ≡ true
-unfolding ascending
-nines-ascending end = refl
-nines-ascending (next {r} {rs} e h) = rw (nines-least (number (r .why)) (rw e (omega arith)) h) (nines-ascending h)
-
-module _ (q : Plan) (page : List ℕ) where
-  ruined-nines : (n : ℕ) → Nines (ruinedRules q page n)
-  unfolding ruinedRules number
-  ruined-nines zero = end
-  ruined-nines (suc n) = nines-append (ruined-nines n) (next refl end)
-
-pub look-ascending : (rec : Words) (page c : List ℕ) → ascending (drop 2 (lookRules rec page c)) ≡ true
-unfolding lookRules rules.lookIn layoutRules fieldRules ascending atMost turn number
-look-ascending rec page c =
-    let h = ruined-nines (planOf (layoutOf rec)) page (planOf (layoutOf rec) .blocks) in
-    rw (nines-least 6 (omega arith) h, nines-ascending h)
-
-pub take-ascending : (rec : Words) (page m d : List ℕ) → ascending (drop 2 (takeRules rec page m d)) ≡ true
-unfolding takeRules rules.takeIn layoutRules fieldRules ascending atMost turn number
-take-ascending rec page m d =
-    let h = ruined-nines (planOf (layoutOf rec)) page (planOf (layoutOf rec) .blocks) in
-    rw (nines-least 6 (omega arith) h, nines-ascending h)
+pub take-exactly : {before : List Rule} {q : Plan} {a : Acceptance} → Ruled before q a → (page m d : List ℕ)
+    → Exactly (takeRules before q page m d) (takeFor a page m d .reply) (takeFor a page m d .block)
+take-exactly h page m d = exactly (takeRules _ _ page m d) (take-replies h page m d)
 
 -- ---- judging one block, and claims
 
@@ -236,36 +185,70 @@ module _ (q : Plan) (page : List ℕ) (b : ℕ) where
         go true false o = record { number = refl; beside = refl }
         go false y o = record { number = refl; beside = refl }
 
-module _ (rec : Words) (page : List ℕ) (b : ℕ) where
-  judge-for : (a : Acceptance) → Accepting rec a → Follows (judgeRules rec page b) (judgeFor a page b .reply) (judgeFor a page b .block)
-  unfolding judgeRules judgeFor
-  judge-for a (accepts none) = accepted-follows rec none _ (judge-in (planOf (layoutOf rec)) page b)
-  judge-for a (refuses r e) = refused-follows rec r e _
+pub judge-replies : {before : List Rule} {q : Plan} {a : Acceptance} → Ruled before q a → (page : List ℕ) (b : ℕ)
+    → Follows (judgeRules before q page b) (judgeFor a page b .reply) (judgeFor a page b .block)
+unfolding judgeRules judgeFor
+judge-replies (accepts l none) page b = accepted-follows none (judge-in (planOf l) page b)
+judge-replies {before} (refuses q r e) page b = refused-follows before r e _
 
-  pub judge-replies : Follows (judgeRules rec page b) (judgeOf rec page b .reply) (judgeOf rec page b .block)
-  unfolding judgeOf
-  judge-replies = judge-for (acceptance rec) (accepting rec)
+pub judge-exactly : {before : List Rule} {q : Plan} {a : Acceptance} → Ruled before q a → (page : List ℕ) (b : ℕ)
+    → Exactly (judgeRules before q page b) (judgeFor a page b .reply) (judgeFor a page b .block)
+judge-exactly h page b = exactly (judgeRules _ _ page b) (judge-replies h page b)
 
-  pub judge-exactly : Exactly (judgeRules rec page b) (judgeOf rec page b .reply) (judgeOf rec page b .block)
-  judge-exactly = exactly (judgeRules rec page b) judge-replies
+pub claim-replies : {before : List Rule} {q : Plan} {a : Acceptance} → Ruled before q a → (page : List ℕ) (b : ℕ) (claims : List ℕ)
+    → Follows (claimRules before q page b claims) (claimFor a page b claims .reply) (claimFor a page b claims .block)
+unfolding claimRules claimFor
+claim-replies (accepts l none) page b claims = accepted-follows none (claim-in (planOf l) page b claims)
+claim-replies {before} (refuses q r e) page b claims = refused-follows before r e _
 
-  pub judge-ascending : ascending (drop 2 (judgeRules rec page b)) ≡ true
-  unfolding judgeRules rules.judgeIn layoutRules fieldRules ascending atMost turn number
-  judge-ascending = refl
+pub claim-exactly : {before : List Rule} {q : Plan} {a : Acceptance} → Ruled before q a → (page : List ℕ) (b : ℕ) (claims : List ℕ)
+    → Exactly (claimRules before q page b claims) (claimFor a page b claims .reply) (claimFor a page b claims .block)
+claim-exactly h page b claims = exactly (claimRules _ _ page b claims) (claim-replies h page b claims)
 
-  module _ (claims : List ℕ) where
-    claim-for : (a : Acceptance) → Accepting rec a → Follows (claimRules rec page b claims) (claimFor a page b claims .reply) (claimFor a page b claims .block)
-    unfolding claimRules claimFor
-    claim-for a (accepts none) = accepted-follows rec none _ (claim-in (planOf (layoutOf rec)) page b claims)
-    claim-for a (refuses r e) = refused-follows rec r e _
+-- ---- the order of the rules
 
-    pub claim-replies : Follows (claimRules rec page b claims) (claimOf rec page b claims .reply) (claimOf rec page b claims .block)
-    unfolding claimOf
-    claim-replies = claim-for (acceptance rec) (accepting rec)
+-- The rules about the blocks all have the number 9.
+data Nines : List Rule → Type 0 where
+  end : Nines []
+  next : {r : Rule} {rs : List Rule} → number (r .why) ≡ 9 → Nines rs → Nines (r ∷ rs)
 
-    pub claim-exactly : Exactly (claimRules rec page b claims) (claimOf rec page b claims .reply) (claimOf rec page b claims .block)
-    claim-exactly = exactly (claimRules rec page b claims) claim-replies
+nines-append : {rs ss : List Rule} → Nines rs → Nines ss → Nines (rs ++ ss)
+nines-append end k = k
+nines-append (next e h) k = next e (nines-append h k)
 
-    pub claim-ascending : ascending (drop 2 (claimRules rec page b claims)) ≡ true
-    unfolding claimRules rules.claimIn layoutRules fieldRules ascending atMost turn number
-    claim-ascending = refl
+nines-least : (n : ℕ) {rs : List Rule} → turn n ≤ turn 9 → Nines rs → atMost n rs ≡ true
+unfolding atMost
+nines-least n l end = refl
+nines-least n l (next {r} e h) = rw e (le-leb (turn n) (turn 9) l)
+
+nines-ascending : {rs : List Rule} → Nines rs → ascending rs ≡ true
+unfolding ascending
+nines-ascending end = refl
+nines-ascending (next {r} {rs} e h) = rw (nines-least (number (r .why)) (rw e (omega arith)) h) (nines-ascending h)
+
+module _ (q : Plan) (page : List ℕ) where
+  ruined-nines : (n : ℕ) → Nines (ruinedRules q page n)
+  unfolding ruinedRules number
+  ruined-nines zero = end
+  ruined-nines (suc n) = nines-append (ruined-nines n) (next refl end)
+
+module _ {n : ℕ} {before : List Rule} (h : Ascends n before) (q : Plan) (page : List ℕ) where
+  pub write-ascending : (m d : List ℕ) → ascending (drop n (writeRules before q m d page)) ≡ true
+  unfolding writeRules rules.writeIn ascending atMost turn number
+  write-ascending m d = ascends-after _ _ (lit≤ tt) h refl
+
+  pub look-ascending : (c : List ℕ) → ascending (drop n (lookRules before q page c)) ≡ true
+  unfolding lookRules rules.lookIn ascending atMost turn number
+  look-ascending c = let k = ruined-nines q page (q .blocks) in ascends-after _ _ (lit≤ tt) h (rw (nines-least 6 (omega arith) k, nines-ascending k))
+
+  pub take-ascending : (m d : List ℕ) → ascending (drop n (takeRules before q page m d)) ≡ true
+  unfolding takeRules rules.takeIn ascending atMost turn number
+  take-ascending m d = let k = ruined-nines q page (q .blocks) in ascends-after _ _ (lit≤ tt) h (rw (nines-least 6 (omega arith) k, nines-ascending k))
+
+  pub judge-ascending : (b : ℕ) → ascending (drop n (judgeRules before q page b)) ≡ true
+  unfolding judgeRules rules.judgeIn ascending atMost turn number
+  judge-ascending b = ascends-after _ _ (lit≤ tt) h refl
+
+  pub claim-ascending : (b : ℕ) (claims : List ℕ) → ascending (drop n (claimRules before q page b claims)) ≡ true
+  unfolding claimRules rules.claimIn ascending atMost turn number
+  claim-ascending b claims = ascends-after _ _ (lit≤ tt) h refl

@@ -1,7 +1,7 @@
 -- The tail is ignored (document 01, "Layout words"), and so is the mark (document 02, E7): two pages of one length that agree in every covered bit
--- are looked at, taken, judged and claimed about with the same answers, whatever their tails and marks hold; under any record, any pages, any lent
--- buffers.
-use mathlib.Core.Path.{_≡_, refl, sym, ap, ap₂, _∙_}
+-- are looked at, taken, judged and claimed about with the same answers, whatever their tails and marks hold; whether or not a layout is accepted, with
+-- any pages and any lent buffers.
+use mathlib.Core.Path.{_≡_, refl, ap, ap₂}
 use mathlib.Core.List.{List}
 use Prim.Native.Nat.{ℕ, zero, suc, _≤_, _<_}
 use native.Mathlib.Omega.{arith}
@@ -13,19 +13,16 @@ use lib.Dec.{eqb}
 use mathlib.Core.Bool.{Bool, true, false, cond}
 use Rattle.bits.proofs.Runs.{run-cong}
 use Rattle.layout.specs.declared.Plan.{Plan}
+use Rattle.layout.specs.declared.Layout.{Layout}
 use Rattle.layout.specs.declared.Acceptance.{Acceptance}
 use Rattle.layout.specs.declared.Acceptance.the-variants.{Accepted, Refused}
-use Rattle.layout.specs.Record.{Words, layoutOf}
 use Rattle.layout.specs.Plan.{planOf}
-use Rattle.layout.specs.Acceptance.{acceptance}
 use Rattle.page_theory.specs.Page.{blockWord}
 use Rattle.page_theory.specs.Reading.{outcome, more, readingOf, reading, countOf, counts}
-use Rattle.page_theory.specs.Damage.{Accepts}
-use Rattle.page_theory.specs.Calls.{lookIn, lookFor, lookOf, takeIn, takeFor, takeOf}
-use Rattle.page_theory.specs.Calls.{blockReply, judgeIn, judgeFor, judgeOf, claimIn, claimFor, claimOf}
+use Rattle.page_theory.specs.Calls.{lookIn, lookFor, takeIn, takeFor}
+use Rattle.page_theory.specs.Calls.{blockReply, judgeIn, judgeFor, claimIn, claimFor}
 use Rattle.page_theory.specs.Alike.{SameBlocks}
 use Rattle.page_theory.proofs.Blocks.{blockWord-cong}
-use Rattle.page_theory.proofs.Accepted.{accepted-accepts, look-accepted, take-accepted, judge-accepted, claim-accepted}
 
 module _ (q : Plan) (page other : List ℕ) (size : length page ≡ length other) (words : (b : ℕ) → b < q .blocks → blockWord q page b ≡ blockWord q other b) where
   tail-outcome : (b : ℕ) → b < q .blocks → outcome q page b ≡ outcome q other b
@@ -72,43 +69,26 @@ module _ (q : Plan) (page other : List ℕ) (size : length page ≡ length other
     | no l ↦ rw (size, outside b (omega arith) (length other))
   ]
 
-module _ (rec : Words) (page other : List ℕ) (alike : SameBlocks rec page other) where
-  same-words : (q : Plan) → Accepts rec q → (b : ℕ) → b < q .blocks → blockWord q page b ≡ blockWord q other b
-  same-words q a b l = blockWord-cong q page other b (λ j k. alike .bits q a b j l k)
+module _ (l : Layout) (page other : List ℕ) (alike : SameBlocks (Accepted l) page other) where
+  same-words : (b : ℕ) → b < planOf l .blocks → blockWord (planOf l) page b ≡ blockWord (planOf l) other b
+  same-words b h = blockWord-cong (planOf l) page other b (alike .bits l refl b h)
 
-  pub tail-look : (c : List ℕ) → lookOf rec page c ≡ lookOf rec other c
-  unfolding lookOf lookFor
-  tail-look c = go (acceptance rec) refl
-    where
-      go : (a : Acceptance) → acceptance rec ≡ a → lookOf rec page c ≡ lookOf rec other c
-      go (Refused r) e = rw e
-      go (Accepted l) e = let q = planOf (layoutOf rec) in let a = accepted-accepts rec l e in
-          look-accepted rec q a page c ∙ tail-lookIn q page other (alike .size) (same-words q a) c ∙ sym (look-accepted rec q a other c)
+pub tail-look : (a : Acceptance) (page other : List ℕ) → SameBlocks a page other → (c : List ℕ) → lookFor a page c ≡ lookFor a other c
+unfolding lookFor
+tail-look (Refused r) page other alike c = refl
+tail-look (Accepted l) page other alike c = tail-lookIn (planOf l) page other (alike .size) (same-words l page other alike) c
 
-  pub tail-take : (m d : List ℕ) → takeOf rec page m d ≡ takeOf rec other m d
-  unfolding takeOf takeFor
-  tail-take m d = go (acceptance rec) refl
-    where
-      go : (a : Acceptance) → acceptance rec ≡ a → takeOf rec page m d ≡ takeOf rec other m d
-      go (Refused r) e = rw e
-      go (Accepted l) e = let q = planOf (layoutOf rec) in let a = accepted-accepts rec l e in
-          take-accepted rec q a page m d ∙ tail-takeIn q page other (alike .size) (same-words q a) m d ∙ sym (take-accepted rec q a other m d)
+pub tail-take : (a : Acceptance) (page other : List ℕ) → SameBlocks a page other → (m d : List ℕ) → takeFor a page m d ≡ takeFor a other m d
+unfolding takeFor
+tail-take (Refused r) page other alike m d = refl
+tail-take (Accepted l) page other alike m d = tail-takeIn (planOf l) page other (alike .size) (same-words l page other alike) m d
 
-  pub tail-judge : (b : ℕ) → judgeOf rec page b ≡ judgeOf rec other b
-  unfolding judgeOf judgeFor
-  tail-judge b = go (acceptance rec) refl
-    where
-      go : (a : Acceptance) → acceptance rec ≡ a → judgeOf rec page b ≡ judgeOf rec other b
-      go (Refused r) e = rw e
-      go (Accepted l) e = let q = planOf (layoutOf rec) in let a = accepted-accepts rec l e in
-          judge-accepted rec q a page b ∙ tail-judgeIn q page other (alike .size) (same-words q a) b ∙ sym (judge-accepted rec q a other b)
+pub tail-judge : (a : Acceptance) (page other : List ℕ) → SameBlocks a page other → (b : ℕ) → judgeFor a page b ≡ judgeFor a other b
+unfolding judgeFor
+tail-judge (Refused r) page other alike b = refl
+tail-judge (Accepted l) page other alike b = tail-judgeIn (planOf l) page other (alike .size) (same-words l page other alike) b
 
-  pub tail-claim : (b : ℕ) (claims : List ℕ) → claimOf rec page b claims ≡ claimOf rec other b claims
-  unfolding claimOf claimFor
-  tail-claim b claims = go (acceptance rec) refl
-    where
-      go : (a : Acceptance) → acceptance rec ≡ a → claimOf rec page b claims ≡ claimOf rec other b claims
-      go (Refused r) e = rw e
-      go (Accepted l) e = let q = planOf (layoutOf rec) in let a = accepted-accepts rec l e in
-          claim-accepted rec q a page b claims ∙ tail-claimIn q page other (alike .size) (same-words q a) b claims
-          ∙ sym (claim-accepted rec q a other b claims)
+pub tail-claim : (a : Acceptance) (page other : List ℕ) → SameBlocks a page other → (b : ℕ) (claims : List ℕ) → claimFor a page b claims ≡ claimFor a other b claims
+unfolding claimFor
+tail-claim (Refused r) page other alike b claims = refl
+tail-claim (Accepted l) page other alike b claims = tail-claimIn (planOf l) page other (alike .size) (same-words l page other alike) b claims

@@ -11,7 +11,7 @@ use native.Mathlib.Omega.{arith}
 use native.Mathlib.Decide.{decLe, decLt, ℕ-discrete}
 use lib.ListN.{length, getD}
 use Rattle.mark.specs.Mark.{streamBit}
-use Rattle.layout.specs.Record.{Words}
+use Rattle.layout.specs.declared.Acceptance.{Acceptance}
 use Rattle.layout.specs.declared.Plan.{Plan}
 use Rattle.layout.specs.Plan.{bits, field, level, covered, start, Valid}
 use Rattle.code.specs.Word.{Word, distance}
@@ -21,13 +21,13 @@ use Rattle.code.proofs.Outcome.{near-gives, judge-worn}
 use Rattle.page_theory.specs.Page.{message, written, pageOf, blockWord}
 use Rattle.page_theory.specs.Reading.{GivesAt, Reading, done, refused, reading, outcome, countOf, counts}
 use Rattle.page_theory.specs.Damage.{Accepts, flips}
-use Rattle.page_theory.specs.Calls.{Looked, lookBy, lookOf, Judged, judgeEnded, judgeBy, judgeOf}
+use Rattle.page_theory.specs.Calls.{Looked, lookBy, lookFor, Judged, judgeEnded, judgeBy, judgeFor}
 use Rattle.page_theory.specs.Worn.{Changed, WrittenAndChanged, Past, Touched, Worn, is-ruined, is-erased, is-read, Answered, Means, as-counted, beyond, Unharmed, untouched, past}
 use Rattle.page_theory.proofs.Blocks.{written-length, written-message, written-code, blockWord-length, blockWord-fits, page-block}
 use Rattle.page_theory.proofs.Damage.{distance-turned}
 use Rattle.page_theory.proofs.Reading.{Hands, of-good, of-erased, outcome-gives, counts-at}
 use Rattle.page_theory.proofs.Calls.{look-right}
-use Rattle.page_theory.proofs.Accepted.{accepts-valid, look-accepted, judge-accepted}
+use Rattle.page_theory.proofs.Accepted.{look-accepted, judge-accepted}
 use Rattle.page_theory.proofs.OneBlock.{judge-outcome}
 use Rattle.page_theory.proofs.Demand2.{write-done}
 
@@ -102,43 +102,43 @@ lookBy-counts (refused b) c = refl
 
 -- of the calls
 
-module _ (rec : Words) (q : Plan) (accepted : Accepts rec q) (m d page : List ℕ) (s : ℕ → ℕ → Bool) (h : WrittenAndChanged rec q m d page s)
+module _ (a : Acceptance) (q : Plan) (accepted : Accepts a q) (m d page : List ℕ) (s : ℕ → ℕ → Bool) (h : WrittenAndChanged a q m d page s)
     (lent : List ℕ) (room : length lent ≡ q .blocks) where
   as-written : Changed q (pageOf q (h .lent) (m ++ d)) page s
-  as-written = rw (write-done rec q accepted m d (h .lent) (h .payload) (h .size)) at (h .changed)
+  as-written = rw (write-done a q accepted m d (h .lent) (h .payload) (h .size)) at (h .changed)
 
   module _ (b : ℕ) (inside : b < q .blocks) where
-    looked-count : getD (lookOf rec page lent .counts) b 0 ≡ countOf (outcome q page b)
+    looked-count : getD (lookFor a page lent .counts) b 0 ≡ countOf (outcome q page b)
     looked-count = ap (λ (r : Looked). getD (r .counts) b 0)
-        (look-accepted rec q accepted page lent ∙ look-right q page lent (h .changed .page .count) room)
+        (look-accepted a q accepted page lent ∙ look-right q page lent (h .changed .page .count) room)
         ∙ rw (lookBy-counts (reading q page) (counts q page)) (counts-at q page b inside)
 
-    judged-outcome : judgeOf rec page b ≡ judgeBy b (outcome q page b)
-    judged-outcome = judge-accepted rec q accepted page b ∙ judge-outcome q page b (h .changed .page .count) inside
+    judged-outcome : judgeFor a page b ≡ judgeBy b (outcome q page b)
+    judged-outcome = judge-accepted a q accepted page b ∙ judge-outcome q page b (h .changed .page .count) inside
 
     -- "either refused, read as erased under E1, or read with at least 2t + 1 - e flips reported"
-    pub past-level : Past q s b → (o : Outcome) × (Worn (level q b) (flips q s b) o) × (Answered rec page lent b o)
+    pub past-level : Past q s b → (o : Outcome) × (Worn (level q b) (flips q s b) o) × (Answered a page lent b o)
     past-level p = (
       outcome q page b,
-      outcome-past q (accepts-valid rec q accepted) (h .lent) (m ++ d) page s as-written b inside (p .more),
+      outcome-past q (accepted .valid) (h .lent) (m ++ d) page s as-written b inside (p .more),
       record { looked = looked-count; judged = judged-outcome },
     )
 
     -- with one to t flips the count is their number
-    pub within-level : flips q s b ≤ level q b → (getD (lookOf rec page lent .counts) b 0 ≡ flips q s b) × (judgeOf rec page b ≡ judgeEnded 0 0 (flips q s b))
-    within-level few = let w = outcome-within q (accepts-valid rec q accepted) (h .lent) (m ++ d) page s as-written b inside few in
+    pub within-level : flips q s b ≤ level q b → (getD (lookFor a page lent .counts) b 0 ≡ flips q s b) × (judgeFor a page b ≡ judgeEnded 0 0 (flips q s b))
+    within-level few = let w = outcome-within q (accepted .valid) (h .lent) (m ++ d) page s as-written b inside few in
         (looked-count ∙ w .0, judged-outcome ∙ w .1)
 
     -- a count up to the level is the number of flips, or there were at least 2t + 1 less the count
-    pub count-means : getD (lookOf rec page lent .counts) b 0 ≤ level q b → Means (level q b) (getD (lookOf rec page lent .counts) b 0) (flips q s b)
+    pub count-means : getD (lookFor a page lent .counts) b 0 ≤ level q b → Means (level q b) (getD (lookFor a page lent .counts) b 0) (flips q s b)
     count-means low = elim (decLe (flips q s b) (level q b)) [
       | yes few ↦ as-counted (sym (within-level few .0))
-      | no far ↦ rw looked-count (worn-means _ _ (outcome q page b) (accepts-valid rec q accepted .strong b inside)
-          (outcome-past q (accepts-valid rec q accepted) (h .lent) (m ++ d) page s as-written b inside (omega arith)) (rw looked-count at low))
+      | no far ↦ rw looked-count (worn-means _ _ (outcome q page b) (accepted .valid .strong b inside)
+          (outcome-past q (accepted .valid) (h .lent) (m ++ d) page s as-written b inside (omega arith)) (rw looked-count at low))
     ]
 
     -- a count above the level, as an erased or ruined block has it, means more flips than the level corrects
-    pub high-means : level q b < getD (lookOf rec page lent .counts) b 0 → level q b < flips q s b
+    pub high-means : level q b < getD (lookFor a page lent .counts) b 0 → level q b < flips q s b
     high-means high = elim (decLe (flips q s b) (level q b)) [
       | yes few ↦ absurd (omega (arith, within-level few .0))
       | no far ↦ omega arith
@@ -147,18 +147,18 @@ module _ (rec : Words) (q : Plan) (accepted : Accepts rec q) (m d page : List �
     -- "damage of one to 2t flips never passes as an untouched block"
     count-touched : Touched q s b → countOf (outcome q page b) ≡ 0 → ⊥
     count-touched t z = elim (decLe (flips q s b) (level q b)) [
-      | yes few ↦ omega (arith, t .some, outcome-within q (accepts-valid rec q accepted) (h .lent) (m ++ d) page s as-written b inside few .0)
-      | no far ↦ worn-count _ _ _ (outcome-past q (accepts-valid rec q accepted) (h .lent) (m ++ d) page s as-written b inside (omega arith)) (t .few) z
+      | yes few ↦ omega (arith, t .some, outcome-within q (accepted .valid) (h .lent) (m ++ d) page s as-written b inside few .0)
+      | no far ↦ worn-count _ _ _ (outcome-past q (accepted .valid) (h .lent) (m ++ d) page s as-written b inside (omega arith)) (t .few) z
     ]
 
-    pub never-untouched : Touched q s b → (getD (lookOf rec page lent .counts) b 0 ≡ 0 → ⊥) × (judgeOf rec page b ≡ judgeEnded 0 0 0 → ⊥)
+    pub never-untouched : Touched q s b → (getD (lookFor a page lent .counts) b 0 ≡ 0 → ⊥) × (judgeFor a page b ≡ judgeEnded 0 0 0 → ⊥)
     never-untouched t = (
       λ z. count-touched t (sym looked-count ∙ z),
       λ z. count-touched t (counted-judged b _ (sym judged-outcome ∙ z)),
     )
 
   -- A page whose counts are all 0 was not damaged in a covered bit, or in some block more than 2t bits flipped.
-  pub counts-zero : ((b : ℕ) → b < q .blocks → getD (lookOf rec page lent .counts) b 0 ≡ 0) → Unharmed q s
+  pub counts-zero : ((b : ℕ) → b < q .blocks → getD (lookFor a page lent .counts) b 0 ≡ 0) → Unharmed q s
   counts-zero zeros = go (q .blocks) (omega arith) (λ b k l. absurd (omega arith))
     where
       none : (b : ℕ) → b < q .blocks → flips q s b ≤ 2 * level q b → flips q s b ≡ 0

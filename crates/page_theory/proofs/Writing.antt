@@ -14,8 +14,10 @@ use Rattle.bits.proofs.Pages.{bytes-bytes, bytes-ext, bytes-cong}
 use Rattle.mark.specs.Mark.{marked, streamed, streamBit, putBit, put}
 use Rattle.mark.proofs.Places.{place-streamed, streamed-below}
 use Rattle.layout.specs.declared.Plan.{Plan}
-use Rattle.layout.specs.Plan.{covered, start, used, room, Valid}
-use Rattle.page_bits.proofs.Placing.{Lies, block-or-tail}
+use Rattle.layout.specs.Plan.{covered, pads, start, used, room, Valid}
+use Rattle.layout.specs.Bits.{blockOf}
+use Rattle.layout.proofs.Plans.{start-next}
+use Rattle.page_bits.proofs.Placing.{Lies, block-or-tail, block-past, pads-free}
 use Rattle.code.specs.Word.{Word}
 use Rattle.page_theory.specs.Page.{written, writtenBit, pageBit, pageOf, blockWord}
 use Rattle.page_theory.specs.Demands.{Stands}
@@ -44,8 +46,8 @@ module _ (q : Plan) (v : Valid q) (lent d : List ℕ) where
         sym (run-lies q (streamBit (q .mark) page) b p (i .2))
         ∙ ap (λ (w : Word). getD w (p - start q b) false) (s .blocks b (i .1) ∙ sym (written-run q v d b (i .1)))
         ∙ run-lies q (writtenBit q d) b p (i .2))
-        (λ (h : used q ≤ p). s .tail p h l ∙ sym (written-tail q v d p h))
-        (block-or-tail q v p)
+        (λ (h : blockOf q p ≡ q .blocks). s .tail p h l ∙ sym (written-tail q d p h))
+        (block-or-tail q p)
 
     stands-bit : (p : ℕ) → p < 8 * q .size → bitOf page p ≡ pageBit q lent d p
     unfolding streamBit pageBit room
@@ -62,45 +64,56 @@ module _ (q : Plan) (v : Valid q) (lent d : List ℕ) where
     unfolding pageOf
     stands-page = sym (bytes-ext _ (q .size) page (s .bytes) stands-bit)
 
--- The first n written blocks, one after the other.
+-- A written block with its pads.
+unfoldable pub padded : Plan → List ℕ → ℕ → Word
+padded q d b = written q d b ++ replicate (pads q b) true
+
+-- The first n of them, one after the other.
 unfoldable pub stream : Plan → List ℕ → ℕ → Word
 stream q d zero = []
-stream q d (suc n) = stream q d n ++ written q d n
+stream q d (suc n) = stream q d n ++ padded q d n
+
+padded-length : (q : Plan) → Valid q → (d : List ℕ) (b : ℕ) → length (padded q d b) ≡ covered q b + pads q b
+unfolding padded
+padded-length q v d b = length-append (written q d b) _ ∙ rw (written-length q v d b, length-replicate (pads q b) true)
 
 pub stream-length : (q : Plan) → Valid q → (d : List ℕ) (n : ℕ) → length (stream q d n) ≡ start q n
 unfolding stream start
 stream-length q v d zero = refl
-stream-length q v d (suc n) = length-append (stream q d n) (written q d n) ∙ rw (stream-length q v d n, written-length q v d n)
-
-pub used-room : (q : Plan) → Valid q → used q ≤ room q
-unfolding start
-used-room q v = let r = go (q .blocks) (v .ends) in omega (arith, v .total)
-  where
-    go : (n : ℕ) → ((b : ℕ) → b < n → start q b + covered q b ≤ room q) → start q n ≤ room q
-    go zero h = omega arith
-    go (suc n) h = h n (omega arith)
+stream-length q v d (suc n) = length-append (stream q d n) (padded q d n) ∙ rw (stream-length q v d n, padded-length q v d n)
 
 -- All blocks, and ones to the end of the stream.
 unfoldable pub filled : Plan → List ℕ → Word
 filled q d = stream q d (q .blocks) ++ replicate (room q - used q) true
 
 module _ (q : Plan) (v : Valid q) (d : List ℕ) where
+  -- ones where there is no block
+  ones-run : (s n : ℕ) → ((j : ℕ) → j < n → blockOf q (s + j) ≡ q .blocks) → run (writtenBit q d) s n ≡ replicate n true
+  ones-run s n h = run-ext (writtenBit q d) s (replicate n true) n false (length-replicate n true)
+      (λ j l. written-tail q d (s + j) (h j l) ∙ sym (getD-replicate n j true false l))
+
+  padded-run : (b : ℕ) → b < q .blocks → padded q d b ≡ run (writtenBit q d) (start q b) (covered q b + pads q b)
+  unfolding padded
+  padded-run b l =
+      ap₂ _++_ (sym (written-run q v d b l))
+      (sym (ones-run (start q b + covered q b) (pads q b) (λ j k. pads-free q b (start q b + covered q b + j) (omega arith) (omega (arith, start-next q b)))))
+      ∙ sym (run-append (writtenBit q d) (start q b) (covered q b) (pads q b))
+
   stream-run : (n : ℕ) → n ≤ q .blocks → stream q d n ≡ run (writtenBit q d) 0 (start q n)
   unfolding stream start run
   stream-run zero l = refl
   stream-run (suc n) l =
-      ap₂ _++_ (stream-run n (omega arith)) (sym (written-run q v d n l))
-      ∙ sym (run-append (writtenBit q d) 0 (start q n) (covered q n) ∙ rw (zero-add (start q n)))
+      ap₂ _++_ (stream-run n (omega arith)) (padded-run n l)
+      ∙ sym (run-append (writtenBit q d) 0 (start q n) (covered q n + pads q n) ∙ rw (zero-add (start q n)))
 
   tail-run : (n : ℕ) → run (writtenBit q d) (used q) n ≡ replicate n true
-  tail-run n = run-ext (writtenBit q d) (used q) (replicate n true) n false (length-replicate n true)
-      (λ j l. written-tail q v d (used q + j) (omega arith) ∙ sym (getD-replicate n j true false l))
+  tail-run n = ones-run (used q) n (λ j l. block-past q v (used q + j) (omega arith))
 
   -- They are the whole written stream.
   pub filled-run : filled q d ≡ run (writtenBit q d) 0 (room q)
   unfolding filled
   filled-run =
-      let e : used q + (room q - used q) ≡ room q = omega (arith, used-room q v) in
+      let e : used q + (room q - used q) ≡ room q = omega (arith, v .fits) in
       ap₂ _++_ (stream-run (q .blocks) (omega arith) ∙ ap (run (writtenBit q d) 0) (sym (v .total))) (sym (tail-run (room q - used q)))
       ∙ sym (ap (run (writtenBit q d) 0) (sym e) ∙ run-append (writtenBit q d) 0 (used q) (room q - used q) ∙ rw (zero-add (used q)))
 

@@ -1,7 +1,8 @@
 -- What no answer depends on (document 01, "Layout words" and "Claim"; document 02, E7): the tail of a page, which is ignored when read, the mark,
 -- and the order of a claim; and what a written page has from the lent one, the mark.
 --
--- SameBlocks rec page other    two pages of one length that agree in every covered bit, where the record is accepted; their tails and marks hold anything
+-- SameBits q page other b      two pages agree in every covered bit of block b
+-- SameBlocks a page other      two pages of one length that agree in every covered bit, where a layout is accepted; their tails and marks hold anything
 -- SameMark q page other        two pages that hold the same bytes in the mark
 -- Reordered claims other       the same list in another order: two neighbours change places, any number of times
 use mathlib.Core.Path.{_≡_}
@@ -9,15 +10,18 @@ use mathlib.Core.List.{List, _∷_}
 use Prim.Native.Nat.{ℕ, _+_, _≤_, _<_}
 use lib.ListN.{length, getD}
 use Rattle.mark.specs.Mark.{streamBit}
-use Rattle.layout.specs.Record.{Words}
 use Rattle.layout.specs.declared.Plan.{Plan}
-use Rattle.layout.specs.Plan.{covered, start}
-use Rattle.page_theory.specs.Damage.{Accepts}
+use Rattle.layout.specs.declared.Layout.{Layout}
+use Rattle.layout.specs.declared.Acceptance.{Acceptance}
+use Rattle.layout.specs.declared.Acceptance.the-variants.{Accepted}
+use Rattle.layout.specs.Plan.{planOf, covered, start}
 
-pub record SameBlocks (rec : Words) (page other : List ℕ) : Type 0 where
+abbrev pub SameBits : Plan → List ℕ → List ℕ → ℕ → Type 0
+SameBits q page other b = (j : ℕ) → j < covered q b → streamBit (q .mark) page (start q b + j) ≡ streamBit (q .mark) other (start q b + j)
+
+pub record SameBlocks (a : Acceptance) (page other : List ℕ) : Type 0 where
   pub size : length page ≡ length other
-  pub bits : (q : Plan) → Accepts rec q → (b j : ℕ) → b < q .blocks → j < covered q b
-      → streamBit (q .mark) page (start q b + j) ≡ streamBit (q .mark) other (start q b + j)
+  pub bits : (l : Layout) → a ≡ Accepted l → (b : ℕ) → b < planOf l .blocks → SameBits (planOf l) page other b
 
 pub record SameMark (q : Plan) (page other : List ℕ) : Type 0 where
   pub bytes : (i : ℕ) → q .mark .offset ≤ i → i < q .mark .offset + q .mark .length → getD page i 0 ≡ getD other i 0

@@ -15,7 +15,7 @@
 --
 -- Of each call: `..Ended` is what it ends with; `..Reply` the reply about lengths and numbers under a plan, 0 where they are
 -- right; `..By` how it ends by what the page, the block or the claim turns out to be; `..In` the call under a plan, `..For`
--- with the answer to a layout record, `..Of` with the record itself and the edition beside it (document 02, E13).
+-- with the answer to a layout, whatever names it, `..Of` with layout words: a record and the edition beside it (document 02, E13).
 use mathlib.Core.Bool.{false, cond}
 use mathlib.Core.List.{List, _++_}
 use Prim.Native.Nat.{ℕ, _+_, _*_}
@@ -64,7 +64,7 @@ unfoldable pub writeFor : Acceptance → List ℕ → List ℕ → List ℕ → 
 writeFor (Accepted l) metadata «data» page = writeIn (planOf l) metadata «data» page
 writeFor (Refused r) metadata «data» page = writeEnded (refusalReply r) 0 page
 
-unfoldable pub writeOf : Words → List ℕ → List ℕ → List ℕ → Written
+abbrev pub writeOf : Words → List ℕ → List ℕ → List ℕ → Written
 writeOf rec metadata «data» page = writeFor (acceptance rec) metadata «data» page
 
 -- Looking at a page: its counts (document 02, E6).
@@ -99,7 +99,7 @@ unfoldable pub lookFor : Acceptance → List ℕ → List ℕ → Looked
 lookFor (Accepted l) page lent = lookIn (planOf l) page lent
 lookFor (Refused r) page lent = lookEnded (refusalReply r) 0 lent
 
-unfoldable pub lookOf : Words → List ℕ → List ℕ → Looked
+abbrev pub lookOf : Words → List ℕ → List ℕ → Looked
 lookOf rec page lent = lookFor (acceptance rec) page lent
 
 -- Taking metadata and data out of a page (document 02, E6).
@@ -139,7 +139,7 @@ unfoldable pub takeFor : Acceptance → List ℕ → List ℕ → List ℕ → T
 takeFor (Accepted l) page metadata «data» = takeIn (planOf l) page metadata «data»
 takeFor (Refused r) page metadata «data» = takeEnded (refusalReply r) 0 metadata «data»
 
-unfoldable pub takeOf : Words → List ℕ → List ℕ → List ℕ → Taken
+abbrev pub takeOf : Words → List ℕ → List ℕ → List ℕ → Taken
 takeOf rec page metadata «data» = takeFor (acceptance rec) page metadata «data»
 
 -- Judging one block.
@@ -174,7 +174,7 @@ unfoldable pub judgeFor : Acceptance → List ℕ → ℕ → Judged
 judgeFor (Accepted l) page b = judgeIn (planOf l) page b
 judgeFor (Refused r) page b = judgeEnded (refusalReply r) 0 0
 
-unfoldable pub judgeOf : Words → List ℕ → ℕ → Judged
+abbrev pub judgeOf : Words → List ℕ → ℕ → Judged
 judgeOf rec page b = judgeFor (acceptance rec) page b
 
 -- Claimed locations of one block.
@@ -200,5 +200,5 @@ unfoldable pub claimFor : Acceptance → List ℕ → ℕ → List ℕ → Claim
 claimFor (Accepted l) page b claims = claimIn (planOf l) page b claims
 claimFor (Refused r) page b claims = claimEnded (refusalReply r)
 
-unfoldable pub claimOf : Words → List ℕ → ℕ → List ℕ → Claimed
+abbrev pub claimOf : Words → List ℕ → ℕ → List ℕ → Claimed
 claimOf rec page b claims = claimFor (acceptance rec) page b claims

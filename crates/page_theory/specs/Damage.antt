@@ -2,14 +2,14 @@
 -- A set of numbers is given by its test. Sets of covered bits: `s b j` says whether bit j of block b, counted from the block's
 -- start, is in the set of block b.
 --
--- Accepts rec q                     the layout record is accepted under the edition beside it, and q is its plan
+-- Accepts a q                       the answer a accepts a layout, and q is its plan
 -- Payload q m d                     m and d are metadata and data of the lengths that the plan gives
 -- Outputs q m d c                   m, d and c have the lengths of metadata, data and counts
 -- size s n                          how many numbers below n are in the set s
 -- flips q s b                       how many covered bits of block b are in its set
 -- turn x b                          the bit b, turned over where x is true
 -- Damaged q before after s          the page `after` is the page `before` with the sets s turned over, and any tail and mark
--- WrittenAndDamaged rec q m d page s    metadata m and data d were written, and damage made `page` of the written page
+-- WrittenAndDamaged a q m d page s      metadata m and data d were written, and damage made `page` of the written page
 use mathlib.Core.Path.{_≡_}
 use mathlib.Core.Bool.{Bool, cond}
 use mathlib.Core.List.{List}
@@ -19,16 +19,20 @@ use Rattle.algebra.specs.Word.{flip}
 use Rattle.bits.specs.Bits.{digit, Bytes}
 use Rattle.mark.specs.Mark.{streamBit}
 use Rattle.layout.specs.declared.Plan.{Plan}
-use Rattle.layout.specs.Record.{Words, layoutOf}
-use Rattle.layout.specs.Plan.{planOf, level, covered, start}
-use Rattle.layout.specs.Acceptance.{acceptance}
-use Rattle.layout.specs.Answers.{acceptanceNumbers}
-use Rattle.page_theory.specs.Calls.{writeOf}
+use Rattle.layout.specs.declared.Layout.{Layout}
+use Rattle.layout.specs.declared.Acceptance.{Acceptance}
+use Rattle.layout.specs.declared.Acceptance.the-variants.{Accepted}
+use Rattle.layout.specs.Plan.{planOf, level, covered, start, Valid}
+use Rattle.page_theory.specs.Calls.{writeFor}
 
--- No reply about the layout alone applies.
-pub record Accepts (rec : Words) (q : Plan) : Type 0 where
-  pub reply : acceptanceNumbers (acceptance rec) .reply ≡ 0
-  pub plan : q ≡ planOf (layoutOf rec)
+-- The laws about pages speak of an answer that accepts a layout, whatever names the layout: layout words w with their edition have the answer
+-- `acceptance w`. That the plan is valid stands here because an answer could come with any numbers; proofs/Accepted `words-accepts` shows that the
+-- answer to layout words does not, so that nothing is left to suppose.
+pub record Accepts (a : Acceptance) (q : Plan) : Type 0 where
+  pub layout : Layout
+  pub accepted : a ≡ Accepted layout
+  pub plan : q ≡ planOf layout
+  pub valid : Valid q
 
 pub record Payload (q : Plan) (m d : List ℕ) : Type 0 where
   pub metadata : Bytes (q .metadata) m
@@ -58,9 +62,9 @@ pub record Damaged (q : Plan) (before after : List ℕ) (s : ℕ → ℕ → Boo
   pub few : (b : ℕ) → b < q .blocks → flips q s b ≤ level q b
 
 -- The writer was lent some page of PAGE_SIZE bytes, and nothing but the damage changed the page that it left. The edition is part of the layout
--- (document 02, E13): a page is written and read under one edition, that of `rec`.
-pub record WrittenAndDamaged (rec : Words) (q : Plan) (m d page : List ℕ) (s : ℕ → ℕ → Bool) : Type 0 where
+-- (document 02, E13): a page is written and read under one answer `a`.
+pub record WrittenAndDamaged (a : Acceptance) (q : Plan) (m d page : List ℕ) (s : ℕ → ℕ → Bool) : Type 0 where
   pub payload : Payload q m d
   pub lent : List ℕ
   pub size : length lent ≡ q .size
-  pub damaged : Damaged q (writeOf rec m d lent .page) page s
+  pub damaged : Damaged q (writeFor a m d lent .page) page s

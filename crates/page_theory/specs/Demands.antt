@@ -5,7 +5,7 @@
 -- LookEnds lent r                   demand 1, looking: r is an answer of the table, and a refusal other than 9 leaves the counts as they were lent
 -- TakeEnds metadata body r          demand 1, taking: r is an answer of the table, and a refusal leaves the outputs as they were lent
 -- JudgeEnds b r, ClaimEnds r        demand 1, judging block b and a claim, which are lent nothing to write to
--- Stands q lent payload page        demand 2: the page holds the written blocks of a payload, ones in the tail, and in the mark what was lent
+-- Stands q lent payload page        demand 2: the page holds the written blocks of a payload, ones in the tail, pads included, and in the mark what was lent
 -- Reported q page b n               block b gives some message and reports n, or it is ruined and n is 255
 -- Looks q page r                    demand 2: what looking at a page reports of each block, ruined ones included
 -- Takes q page r                    demand 2: what is taken out of a page, block by block
@@ -19,7 +19,8 @@ use Rattle.bits.specs.Bits.{bitOf, Bytes}
 use Rattle.replies.specs.Replies.{among}
 use Rattle.layout.specs.declared.Plan.{Plan}
 use Rattle.mark.specs.Mark.{marked, streamBit}
-use Rattle.layout.specs.Plan.{used, room}
+use Rattle.layout.specs.Plan.{room}
+use Rattle.layout.specs.Bits.{blockOf}
 use Rattle.code.specs.Word.{Word}
 use Rattle.page_theory.specs.Page.{message, written, blockWord}
 use Rattle.page_theory.specs.Reading.{GivesAt, RefusedAt}
@@ -56,12 +57,11 @@ pub record ClaimEnds (r : Claimed) : Type 0 where
   pub table : among (r .reply) (0 ∷ 1 ∷ 2 ∷ 3 ∷ 4 ∷ 5 ∷ 6 ∷ 7 ∷ 10 ∷ 11 ∷ []) ≡ true
   pub block : r .block ≡ 0
 
--- The written page, said block by block: each block stands in its place, the bits after the last block are ones, and the mark has the bits of the
--- lent page.
+-- The written page, said block by block: each block stands in its place, the bits of no block are ones, and the mark has the bits of the lent page.
 pub record Stands (q : Plan) (lent payload page : List ℕ) : Type 0 where
   pub bytes : Bytes (q .size) page
   pub blocks : (b : ℕ) → b < q .blocks → blockWord q page b ≡ written q payload b
-  pub tail : (p : ℕ) → used q ≤ p → p < room q → streamBit (q .mark) page p ≡ true
+  pub tail : (p : ℕ) → blockOf q p ≡ q .blocks → p < room q → streamBit (q .mark) page p ≡ true
   pub mark : (p : ℕ) → p < 8 * q .size → marked (q .mark) p ≡ true → bitOf page p ≡ bitOf lent p
 
 -- What is reported of a block: the distance of a codeword within t flips; where there is none and the block has at most t zeros, 128 plus the

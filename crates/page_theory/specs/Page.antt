@@ -28,7 +28,8 @@ message q payload b = run (bitOf payload) (from q b) (bits q b)
 unfoldable pub written : Plan → List ℕ → ℕ → Word
 written q payload b = message q payload b ++ parity (field q b) (level q b) (message q payload b)
 
--- The bit of the block in which the position lies. The tail, document 01's word for the bits of no block, is written as ones.
+-- The bit of the block in which the position lies. The tail, document 01's word for the bits of no block, is written as ones; the pads of blocks belong
+-- to it (document 02, E12).
 unfoldable pub writtenBit : Plan → List ℕ → ℕ → Bool
 writtenBit q payload p =
     cond (ltb (blockOf q p) (q .blocks)) (getD (written q payload (blockOf q p)) (p - start q (blockOf q p)) true) true

@@ -1,6 +1,6 @@
 -- The replies of the five page calls, each as one list of rules in the order in which they are looked at (document 01, "Replies"). The first that
--- applies is given (replies/Given). What an edition and a layout record are refused for comes first (layout/ReplyRules
--- `layoutRules`); q is the plan of the record.
+-- applies is given (replies/Given). What a layout is refused for comes first: `before`, a list of its own for whatever names the layout (layout/ReplyRules
+-- `Ruled`; for layout words `layoutRules`); q is the plan of the layout.
 --
 -- isRuined o               an outcome is that the block has no codeword within t flips and more than t zeros
 -- isWrong d                what is decided does not hold
@@ -15,9 +15,7 @@ use lib.Dec.{leb}
 use Rattle.replies.specs.declared.Refusal.the-variants.{PageLength, BufferLength, OutOfRange, Uncorrectable, ClaimWrong}
 use Rattle.replies.specs.Replies.{unequal, Rule, rule}
 use Rattle.layout.specs.declared.Plan.{Plan}
-use Rattle.layout.specs.Record.{Words, layoutOf}
-use Rattle.layout.specs.Plan.{planOf, field, level}
-use Rattle.layout.specs.ReplyRules.{layoutRules}
+use Rattle.layout.specs.Plan.{field, level}
 use Rattle.code.specs.Outcome.{Outcome, good, erased, ruined}
 use Rattle.page_theory.specs.Page.{blockWord}
 use Rattle.page_theory.specs.Reading.{outcome}
@@ -47,8 +45,8 @@ writeIn q metadata «data» page =
     ∷ rule (unequal (length «data») (q .«data»)) BufferLength
     ∷ []
 
-unfoldable pub writeRules : Words → List ℕ → List ℕ → List ℕ → List Rule
-writeRules rec metadata «data» page = layoutRules rec ++ writeIn (planOf (layoutOf rec)) metadata «data» page
+unfoldable pub writeRules : List Rule → Plan → List ℕ → List ℕ → List ℕ → List Rule
+writeRules before q metadata «data» page = before ++ writeIn q metadata «data» page
 
 unfoldable pub lookIn : Plan → List ℕ → List ℕ → List Rule
 lookIn q page counts =
@@ -56,8 +54,8 @@ lookIn q page counts =
     ∷ rule (unequal (length counts) (q .blocks)) BufferLength
     ∷ ruinedRules q page (q .blocks)
 
-unfoldable pub lookRules : Words → List ℕ → List ℕ → List Rule
-lookRules rec page counts = layoutRules rec ++ lookIn (planOf (layoutOf rec)) page counts
+unfoldable pub lookRules : List Rule → Plan → List ℕ → List ℕ → List Rule
+lookRules before q page counts = before ++ lookIn q page counts
 
 unfoldable pub takeIn : Plan → List ℕ → List ℕ → List ℕ → List Rule
 takeIn q page metadata «data» =
@@ -66,8 +64,8 @@ takeIn q page metadata «data» =
     ∷ rule (unequal (length «data») (q .«data»)) BufferLength
     ∷ ruinedRules q page (q .blocks)
 
-unfoldable pub takeRules : Words → List ℕ → List ℕ → List ℕ → List Rule
-takeRules rec page metadata «data» = layoutRules rec ++ takeIn (planOf (layoutOf rec)) page metadata «data»
+unfoldable pub takeRules : List Rule → Plan → List ℕ → List ℕ → List ℕ → List Rule
+takeRules before q page metadata «data» = before ++ takeIn q page metadata «data»
 
 unfoldable pub judgeIn : Plan → List ℕ → ℕ → List Rule
 judgeIn q page b =
@@ -76,8 +74,8 @@ judgeIn q page b =
     ∷ rule (isRuined (outcome q page b)) (Uncorrectable b)
     ∷ []
 
-unfoldable pub judgeRules : Words → List ℕ → ℕ → List Rule
-judgeRules rec page b = layoutRules rec ++ judgeIn (planOf (layoutOf rec)) page b
+unfoldable pub judgeRules : List Rule → Plan → List ℕ → ℕ → List Rule
+judgeRules before q page b = before ++ judgeIn q page b
 
 unfoldable pub claimIn : Plan → List ℕ → ℕ → List ℕ → List Rule
 claimIn q page b claims =
@@ -86,5 +84,5 @@ claimIn q page b claims =
     ∷ rule (isWrong (right? (field q b) (level q b) (blockWord q page b) claims)) ClaimWrong
     ∷ []
 
-unfoldable pub claimRules : Words → List ℕ → ℕ → List ℕ → List Rule
-claimRules rec page b claims = layoutRules rec ++ claimIn (planOf (layoutOf rec)) page b claims
+unfoldable pub claimRules : List Rule → Plan → List ℕ → ℕ → List ℕ → List Rule
+claimRules before q page b claims = before ++ claimIn q page b claims

@@ -10,6 +10,8 @@
 //   5. Damage: accepted layouts, payloads, and the pages that damage may make of a page that was written.
 //   6. Demands: what the first two demands say of a call.
 //
+// All of it is said of an accepted layout with its plan, or of the answer to a layout, whatever names the layout.
+//
 // The theorems:
 //   Demand1, Demand2, Demand3    the owner's demands, sentence by sentence
 //   OneBlock, Claims             what judging one block depends on, and which claims are accepted

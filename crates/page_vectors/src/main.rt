@@ -14,8 +14,8 @@
 // A line shows the reply and its block, and then after `W` the page, after `L` the counts, after `T` metadata and data (in hexadecimal,
 // refused or not), and after `J` the flip count of a block that has one.
 mod claims;
+mod heads;
 mod judges;
-mod lines;
 mod looks;
 mod takes;
 mod writes;

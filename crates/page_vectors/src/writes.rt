@@ -1,5 +1,5 @@
 // Vectors that write a page.
-use crate::lines;
+use crate::heads;
 
 fn write_answer(
     edition: u64,
@@ -10,8 +10,8 @@ fn write_answer(
     line: &mut [u8],
 ) -> usize {
     let answer = page_write::write_page(edition, words, metadata, data, page);
-    let at = lines::put_reply(line, page_write::write_number(answer), 0);
-    lines::put_buffer(line, at, page)
+    let at = page_vector_io::put_write(line, answer);
+    page_vector_io::put_buffer(line, at, page)
 }
 
 // Reads metadata and data into buffers of their lengths, and writes the page.
@@ -29,9 +29,9 @@ fn write_body(
         return 0;
     }
     let mut page = [165u8; 65536];
-    let size = lines::length(head, 24);
+    let size = heads::length(head, 24);
     write_answer(
-        lines::edition(head),
+        heads::edition(head),
         words,
         metadata,
         data,
@@ -44,8 +44,8 @@ fn write_body(
 pub fn write_line(head: &[u8], words: &[u8], line: &mut [u8]) -> usize {
     let mut metadata = [0u8; 512];
     let mut data = [0u8; 65536];
-    let m = lines::length(head, 28);
-    let d = lines::length(head, 32);
+    let m = heads::length(head, 28);
+    let d = heads::length(head, 32);
     write_body(
         head,
         words,

@@ -1,12 +1,12 @@
 -- Laws behind the writer: one block, the lengths, blocks put one after the other, the tail.
 use mathlib.Core.Path.{_≡_, refl, sym, ap, _∙_}
 use mathlib.Core.Bool.{Bool, true, false, cond}
-use mathlib.Core.List.{List, _++_}
+use mathlib.Core.List.{List, _++_, append-nil}
 use Prim.Native.Nat.{ℕ, zero, suc, _+_, _-_, _*_, _<_}
 use native.Mathlib.Omega.{arith}
 use native.Mathlib.Nat.{mul-zero, zero-add}
 use native.Mathlib.Numerals.{add-one}
-use lib.ListN.{length, length-append}
+use lib.ListN.{length, replicate, length-append}
 use lib.Dec.{eqb}
 use borrow.Author.Tests.{eqb-true, ne-eqb}
 use Rattle.bits.specs.Bits.{bitOf, run, ones, digits, Bytes, Inside}
@@ -24,16 +24,18 @@ use Rattle.layout.specs.declared.Refusal as kinds
 use Rattle.layout.specs.declared.Acceptance.{Acceptance}
 use Rattle.layout.specs.declared.Acceptance.the-variants.{Refused}
 use Rattle.layout.specs.Acceptance.{refusalOf, refusalReply}
-use Rattle.layout.specs.Plan.{shape, start, used, room, from, payload, Valid}
+use Rattle.layout.specs.Plan.{shape, bits, start, used, room, from, payload, Summed, Valid}
 use Rattle.code.specs.Word.{Word}
 use Rattle.code.specs.Generator.{parity}
 use Rattle.page_theory.specs.Page.{message, written, pageBit, pageOf}
 use Rattle.page_theory.specs.Calls.{writeEnded, writeReply, writeIn, writeFor}
 use Rattle.page_theory.proofs.Calls.{writeReply-right}
+use Rattle.page_theory.proofs.Writing as theory
 use Rattle.page_theory.proofs.Writing.{stream, stream-length, filled, filled-page}
+use Rattle.code.proofs.Remainder.{parity-length}
 use Rattle.page_plan.proofs.Plans.{message-inside}
 use Rattle.page_plan.proofs.Asking.{number-some, number-bare, layout-bare}
-use Rattle.page_write.specs.Writing.{Lent, encoded}
+use Rattle.page_write.specs.Writing.{Lent, encoded, padded}
 
 -- ---- one block
 
@@ -51,6 +53,23 @@ unfolding encoded
 encoded-put s k page position w l h e f =
     let r : run (streamBit k (put k page position w)) position (length w) ≡ w = put-run k page position w (rw (← l) at h) in
     f ∙ rw (e, ← l, r) (put-append k page position _ w _ refl)
+
+encoded-length : (s : Shape) (w : Word) → Summed s → length w ≡ s .message → length (encoded s w) ≡ s .covered
+unfolding encoded
+encoded-length s w e l = length-append w _ ∙ rw (l, parity-length) (sym e)
+
+-- the pads follow the covered bits
+pub padded-put : (s : Shape) (k : Mark) (page : List ℕ) (position : ℕ) (w : Word) → Summed s → length w ≡ s .message
+    → {one two : List ℕ} → one ≡ put k page position (encoded s w) → two ≡ put k one (position + s .covered) (ones (s .pads))
+    → two ≡ put k page position (padded s w)
+unfolding padded
+padded-put s k page position w e l f g =
+    g ∙ rw f (put-append k page position (position + s .covered) (encoded s w) (ones (s .pads)) (rw (encoded-length s w e l)))
+
+pub padded-none : (s : Shape) (k : Mark) (page : List ℕ) (position : ℕ) (w : Word) → s .pads ≡ 0
+    → {one : List ℕ} → one ≡ put k page position (encoded s w) → one ≡ put k page position (padded s w)
+unfolding padded ones replicate
+padded-none s k page position w e f = f ∙ ap (put k page position) (sym (ap (λ (n : ℕ). encoded s w ++ replicate n true) e ∙ append-nil (encoded s w)))
 
 -- ---- the lengths are right
 
@@ -104,14 +123,13 @@ module _ (q : Plan) (v : Valid q) (b : ℕ) (l : b < q .blocks) {s : Shape} (es 
 
 -- ---- block after block
 
-pub from-one : (q : Plan) → q .first .message ≡ from q 1
-unfolding from shape
-from-one q = sym (zero-add (q .first .message))
+pub from-one : (q : Plan) → q .first ≡ shape q 0 → q .first .message ≡ from q 1
+unfolding from
+from-one q e = ap (λ (s : Shape). s .message) e ∙ sym (zero-add (bits q 0))
 
-pub from-next : (q : Plan) (b : ℕ) → 0 < b → from q b + q .later .message ≡ from q (b + 1)
-unfolding from shape
-from-next q zero h = absurd (omega arith)
-from-next q (suc b) h = sym (ap (from q) (add-one (suc b)))
+pub from-next : (q : Plan) (b : ℕ) {s : Shape} → s ≡ shape q b → from q b + s .message ≡ from q (b + 1)
+unfolding from
+from-next q b e = rw e (sym (ap (from q) (add-one b)))
 
 -- what is put twice is put once
 put-again : (k : Mark) (page : List ℕ) (s : ℕ) (w : Word) → put k (put k page s w) s w ≡ put k page s w
@@ -136,12 +154,12 @@ pub record Streamed (q : Plan) (d lent : List ℕ) (n : ℕ) (page : List ℕ) :
 
 module _ (q : Plan) (d : List ℕ) where
   -- once block 0 is written, it may be taken as lent
-  pub streamed-first : (lent : List ℕ) {page : List ℕ} → length lent ≡ q .size → page ≡ put (q .mark) lent 0 (encoded (q .first) (run (bitOf d) 0 (q .first .message)))
-      → Streamed q d page 1 page
-  unfolding stream encoded written message from shape
-  streamed-first lent h e = record {
+  pub streamed-first : (lent : List ℕ) {s : Shape} {page : List ℕ} → s ≡ shape q 0 → length lent ≡ q .size
+      → page ≡ put (q .mark) lent 0 (padded s (run (bitOf d) 0 (s .message))) → Streamed q d page 1 page
+  unfolding stream padded theory.padded ones encoded written message from
+  streamed-first lent es h e = record {
     size = ap length e ∙ put-length (q .mark) lent 0 _ ∙ h;
-    stands = rw e (sym (put-again (q .mark) lent 0 _));
+    stands = rw (e, es) (sym (put-again (q .mark) lent 0 _));
   }
 
   module _ {lent : List ℕ} where
@@ -149,8 +167,8 @@ module _ (q : Plan) (d : List ℕ) where
     streamed-size n h = ap length (h .stands) ∙ put-length (q .mark) lent 0 (stream q d n) ∙ h .size
 
     pub streamed-next : Valid q → (b : ℕ) {s : Shape} {at position : ℕ} {page after : List ℕ} → Streamed q d lent b page → s ≡ shape q b → at ≡ from q b
-        → position ≡ start q b → after ≡ put (q .mark) page position (encoded s (run (bitOf d) at (s .message))) → Streamed q d lent (b + 1) after
-    unfolding stream encoded written message
+        → position ≡ start q b → after ≡ put (q .mark) page position (padded s (run (bitOf d) at (s .message))) → Streamed q d lent (b + 1) after
+    unfolding stream padded theory.padded ones encoded written message
     streamed-next v b h es ea ep e = record {
       size = h .size;
       stands = e ∙ rw (es, ea, ep, h .stands, add-one b)

@@ -2,12 +2,14 @@
 --
 -- Lent q m d page     the metadata, the data and the page have the lengths of the plan
 -- encoded s w         the message w of a block of the shape s, followed by its parity
+-- padded s w          the same, followed by ones in its pads
 use mathlib.Core.Path.{_≡_}
 use mathlib.Core.List.{List, _++_}
 use Prim.Native.Nat.{ℕ}
 use lib.ListN.{length}
 use Rattle.layout.specs.declared.Shape.{Shape}
 use Rattle.layout.specs.declared.Plan.{Plan}
+use Rattle.bits.specs.Bits.{ones}
 use Rattle.code.specs.Word.{Word}
 use Rattle.code.specs.Generator.{parity}
 
@@ -18,3 +20,6 @@ pub record Lent (q : Plan) (m d page : List ℕ) : Type 0 where
 
 unfoldable pub encoded : Shape → Word → Word
 encoded s w = w ++ parity (s .field) (s .level) w
+
+unfoldable pub padded : Shape → Word → Word
+padded s w = encoded s w ++ ones (s .pads)

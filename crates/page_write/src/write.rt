@@ -1,4 +1,4 @@
-// Writing a page: block after block its message and its parity, then ones into the tail. All of them go into the stream, which leaves the
+// Writing a page: block after block its message, its parity and ones into its pads, then ones into the tail. All of them go into the stream, which leaves the
 // mark out: the mark's bytes stay as they were lent.
 use crate::WriteAnswer;
 use crate::lengths::write_reply;
@@ -6,6 +6,7 @@ use division_table::make_table;
 use layout::Acceptance;
 use layout::Plan;
 use layout::Shape;
+use layout::block_shape;
 use layout::block_start;
 use layout::check_layout;
 use layout::plan_of;
@@ -29,10 +30,10 @@ ghost use Rattle.code.specs.Generator.{parity};
 ghost use Rattle.division_table.specs.Table.{Table};
 ghost use Rattle.layout.specs.Record.{wordsOf};
 ghost use Rattle.page_theory.specs.Page.{pageOf};
-ghost use Rattle.page_theory.specs.Calls.{writeEnded, writeIn, writeOf};
-ghost use Rattle.page_plan.specs.Plans.{Planned};
+ghost use Rattle.page_theory.specs.Calls.{writeEnded, writeIn, writeFor, writeOf};
+ghost use Rattle.page_plan.specs.Plans.{Planned, Sound};
 ghost use Rattle.page_write.specs.Answers.{writeNumber, writeBlock};
-ghost use Rattle.page_write.specs.Writing.{Lent, encoded};
+ghost use Rattle.page_write.specs.Writing.{Lent, encoded, padded};
 
 // Puts the parity of a block after its message, which stands at the block's position.
 fn write_parity(shape: Shape, table: &[u64], mark: Mark, page: &mut [u8], position: usize)
@@ -52,8 +53,8 @@ fn write_parity(shape: Shape, table: &[u64], mark: Mark, page: &mut [u8], positi
     put_parity(remainder, degree, mark, page, position + n);
 }
 
-// Writes a block at a position: the message that starts at position `at` of the payload, and its parity.
-fn write_block(
+// Writes the covered bits of a block at a position: the message that starts at position `at` of the payload, and its parity.
+fn write_covered(
     shape: Shape,
     table: &[u64],
     metadata: &[u8],
@@ -74,11 +75,36 @@ fn write_block(
     write_parity(shape, table, mark, page, position);
 }
 
+// Writes a block at a position, and ones into its pads.
+fn write_block(
+    shape: Shape,
+    table: &[u64],
+    metadata: &[u8],
+    data: &[u8],
+    at: usize,
+    mark: Mark,
+    page: &mut [u8],
+    position: usize,
+)
+    requires { ⌜ Table (shape .field) (shape .level) (now table) × Summed shape × (length (now metadata) < 256)
+        × Inside (now metadata ++ now «data») at (shape .message) × InStream mark (now page) position (shape .covered + shape .pads) ⌝ }
+    ensures { λ r. ⌜ now (page .exit)
+        ≡ put mark (now (page .entry)) position
+        (padded shape (run (bitOf (now (metadata .entry) ++ now («data» .entry))) at (shape .message))) ⌝ }
+{
+    write_covered(shape, table, metadata, data, at, mark, page, position);
+    let pads = shape.pads as usize;
+    if pads == 0 {
+        return;
+    }
+    fill_ones(mark, page, position + shape.covered as usize, pads);
+}
+
 // Writes block 0, and leaves the table of the later blocks' generator. One table is made after the other in the same place.
 fn write_first(plan: Plan, table: &mut [u64], metadata: &[u8], data: &[u8], page: &mut [u8])
     requires { ⌜ Planned plan × Lent plan (now metadata) (now «data») (now page) × (3600 ≤ length (now table)) ⌝ }
     ensures { λ r. ⌜ (now (page .exit)
-        ≡ put (plan .mark) (now (page .entry)) 0 (encoded (plan .first) (run (bitOf (now (metadata .entry) ++ now («data» .entry))) 0 (plan .first .message))))
+        ≡ put (plan .mark) (now (page .entry)) 0 (padded (plan .first) (run (bitOf (now (metadata .entry) ++ now («data» .entry))) 0 (plan .first .message))))
         × Table (plan .later .field) (plan .later .level) (now (table .exit)) ⌝ }
 {
     let first = plan.first;
@@ -96,16 +122,16 @@ fn write_blocks(plan: Plan, metadata: &[u8], data: &[u8], page: &mut [u8])
 {
     let blocks = plan.blocks;
     let first = plan.first;
-    let later = plan.later;
     let mark = plan.mark;
     let mut table = [0u64; 3600];
     write_first(plan, &mut table, metadata, data, page);
     let mut at = first.message as usize;
     let mut block = 1;
     while block < blocks {
+        let shape = block_shape(plan, block);
         let position = block_start(plan, block);
-        write_block(later, &table, metadata, data, at, mark, page, position);
-        at += later.message as usize;
+        write_block(shape, &table, metadata, data, at, mark, page, position);
+        at += shape.message as usize;
         block += 1;
     }
     let used = plan.used as usize;
@@ -113,7 +139,7 @@ fn write_blocks(plan: Plan, metadata: &[u8], data: &[u8], page: &mut [u8])
     fill_ones(mark, page, used, room - used);
 }
 
-// Writes a page under a plan, where the lengths are right.
+// Writes a page under the plan of an accepted layout.
 fn write_in(plan: Plan, metadata: &[u8], data: &[u8], page: &mut [u8]) -> WriteAnswer
     requires { ⌜ Planned plan ⌝ }
     ensures { λ r. ⌜ writeEnded (writeNumber r) (writeBlock r) (now (page .exit))
@@ -128,6 +154,18 @@ fn write_in(plan: Plan, metadata: &[u8], data: &[u8], page: &mut [u8]) -> WriteA
     }
 }
 
+// Writes a page under the answer to a layout: that of layout words, or of whatever else names it.
+pub fn write_for(answer: Acceptance, metadata: &[u8], data: &[u8], page: &mut [u8]) -> WriteAnswer
+    requires { ⌜ Sound answer ⌝ }
+    ensures { λ r. ⌜ writeEnded (writeNumber r) (writeBlock r) (now (page .exit))
+        ≡ writeFor answer (now (metadata .entry)) (now («data» .entry)) (now (page .entry)) ⌝ }
+{
+    match answer {
+        Acceptance::Accepted(layout) => write_in(plan_of(layout), metadata, data, page),
+        Acceptance::Refused(refusal) => WriteAnswer::Refused(refusal_of(refusal)),
+    }
+}
+
 // Writes a page from metadata and data.
 pub fn write_page(
     edition: u64,
@@ -139,8 +177,5 @@ pub fn write_page(
     ensures { λ r. ⌜ writeEnded (writeNumber r) (writeBlock r) (now (page .exit))
         ≡ writeOf (wordsOf edition (now (words .entry))) (now (metadata .entry)) (now («data» .entry)) (now (page .entry)) ⌝ }
 {
-    match check_layout(edition, words) {
-        Acceptance::Accepted(layout) => write_in(plan_of(layout), metadata, data, page),
-        Acceptance::Refused(refusal) => WriteAnswer::Refused(refusal_of(refusal)),
-    }
+    write_for(check_layout(edition, words), metadata, data, page)
 }

@@ -14,10 +14,12 @@ use Rattle.mark.specs.Mark.{streamBit}
 use Rattle.replies.specs.Edition.{offered, highest}
 use Rattle.replies.proofs.Editions.{highest-small}
 use Rattle.layout.specs.declared.Fields.{Fields}
+use Rattle.layout.specs.declared.Shape.{Shape}
 use Rattle.layout.specs.declared.Plan.{Plan}
-use Rattle.layout.specs.Record.{Words, fieldsAt, fieldsUnder, fieldsIn, layoutOf}
+use Rattle.layout.specs.Record.{Words, fieldsAt, fieldsUnder, fieldsIn}
 use Rattle.layout.specs.Plan.{shapeWith, shapeOf, planFor, shape, bits, field, level, covered, start}
-use Rattle.layout.proofs.Plans.{later-some}
+use Rattle.layout.specs.Acceptance.{acceptance}
+use Rattle.layout.proofs.Plans.{later-some, shape-later}
 use Rattle.layout.proofs.Accepting.{Keeps, keeps, accepted-taken, accepted-plan, accepted-kept}
 use Rattle.code.specs.Generator.{parity}
 use Rattle.remainder.specs.Remainder.{bytesFor}
@@ -25,7 +27,6 @@ use Rattle.page_theory.specs.Page.{message, blockWord}
 use Rattle.page_theory.specs.Calls.{writeOf}
 use Rattle.page_theory.specs.Damage.{Accepts, Payload}
 use Rattle.page_theory.proofs.Blocks.{message-length}
-use Rattle.page_theory.proofs.Accepted.{accepts-layout, accepts-valid}
 use Rattle.page_theory.proofs.Demand2.{write-blocks}
 use Rattle.pieces.specs.declared.State.{State}
 use Rattle.piece_parity.specs.Carried.{bitsOf}
@@ -43,24 +44,27 @@ module _ (f : Fields) (k : Keeps f (planFor f)) where
   level-low : (b : ℕ) → b < planFor f .blocks → level (planFor f) b ≤ 2 * highest (f .edition)
   unfolding shape planFor shapeOf shapeWith
   level-low zero h = omega (arith, k .levels)
-  level-low (suc b) h = let n : 0 < f .nblocks = omega arith in rw (later-some f n) (omega (arith, k .levels-later n))
+  level-low (suc b) h =
+      let n : 0 < f .nblocks = omega arith in
+      let e : planFor f .later .level ≡ level (planFor f) (suc b) = ap (λ (s : Shape). s .level) (shape-later (planFor f) (suc b) (omega arith)) in
+      let g : planFor f .later .level ≡ 2 * f .later .ecc = ap (λ (s : Shape). s .level) (later-some f n) in
+      omega (arith, k .levels-later n)
 
-accepted-low : (rec : Words) (q : Plan) → Accepts rec q → (b : ℕ) → b < q .blocks → level q b ≤ 2 * highest (rec .edition)
+accepted-low : (rec : Words) (q : Plan) → Accepts (acceptance rec) q → (b : ℕ) → b < q .blocks → level q b ≤ 2 * highest (rec .edition)
 unfolding fieldsUnder fieldsAt
 accepted-low rec q a b h =
-    let l = accepts-layout rec q a in
-    let e = a .plan ∙ accepted-plan rec (layoutOf rec) l in
-    rw e (level-low (fieldsIn rec) (keeps (fieldsIn rec) _ (accepted-kept rec (layoutOf rec) l)) b (rw e at h))
+    let e = a .plan ∙ accepted-plan rec (a .layout) (a .accepted) in
+    rw e (level-low (fieldsIn rec) (keeps (fieldsIn rec) _ (accepted-kept rec (a .layout) (a .accepted))) b (rw e at h))
 
 -- ---- the law
 
-module _ (rec : Words) (q : Plan) (accepted : Accepts rec q) (m d page : List ℕ) (payload : Payload q m d) (lent : length page ≡ q .size)
+module _ (rec : Words) (q : Plan) (accepted : Accepts (acceptance rec) q) (m d page : List ℕ) (payload : Payload q m d) (lent : length page ≡ q .size)
     (b : ℕ) (inside : b < q .blocks) (ecc : ℕ) (ps : List (List ℕ)) (given : InPieces q (m ++ d) b ecc ps) where
   low : ecc ≤ highest (rec .edition)
   low = let h = accepted-low rec q accepted b inside in omega (arith, given .twice)
 
   known : offered (rec .edition) ≡ true
-  known = accepted-taken rec (layoutOf rec) (accepts-layout rec q accepted) .edition
+  known = accepted-taken rec (accepted .layout) (accepted .accepted) .edition
 
   size : 8 * length (joined ps) ≡ bits q b
   unfolding bitsOf
@@ -68,7 +72,7 @@ module _ (rec : Words) (q : Plan) (accepted : Accepts rec q) (m d page : List �
 
   -- a start accepts the block
   right : startReply (rec .edition) (field q b) ecc (length (joined ps)) ≡ 0
-  right = let v = accepts-valid rec q accepted in let c = v .sums b in let t = given .twice in let n = size in let f = v .filled b inside in elim (decLt 0 ecc) [
+  right = let v = accepted .valid in let c = v .sums b in let t = given .twice in let n = size in let f = v .filled b inside in elim (decLt 0 ecc) [
     | no h ↦ sym (reply-plain (rec .edition) (field q b) ecc (length (joined ps)) low (omega arith) (omega arith))
     | yes h ↦ (let s = v .short b inside (omega arith) in
         let e : degree (field q b) * level q b ≡ degree (field q b) * (2 * ecc) = ap (λ x. degree (field q b) * x) t in
@@ -81,9 +85,9 @@ module _ (rec : Words) (q : Plan) (accepted : Accepts rec q) (m d page : List �
   unfolding blockWord
   stands =
       sym (drop-at (run (streamBit (q .mark) (writeOf rec m d page .page)) (start q b) (bits q b)) _ (bits q b) (run-length _ _ _))
-      ∙ ap (drop (bits q b)) (sym (ap (run (streamBit (q .mark) (writeOf rec m d page .page)) (start q b)) (accepts-valid rec q accepted .sums b)
+      ∙ ap (drop (bits q b)) (sym (ap (run (streamBit (q .mark) (writeOf rec m d page .page)) (start q b)) (accepted .valid .sums b)
       ∙ run-append (streamBit (q .mark) (writeOf rec m d page .page)) (start q b) (bits q b) (degree (field q b) * level q b))
-      ∙ write-blocks rec q accepted m d page payload lent b inside)
+      ∙ write-blocks (acceptance rec) q accepted m d page payload lent b inside)
       ∙ drop-at (message q (m ++ d) b) _ (bits q b) (message-length q (m ++ d) b)
 
   module _ (s : State) (buffer : List ℕ) (room : length buffer ≡ bytesFor (degree (field q b) * level q b)) where

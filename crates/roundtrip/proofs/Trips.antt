@@ -16,15 +16,11 @@ use Rattle.replies.specs.Replies.{number}
 use Rattle.replies.proofs.Given.{number-positive}
 use Rattle.layout.specs.Record.{Words}
 use Rattle.layout.specs.declared.Plan.{Plan}
-use Rattle.layout.specs.declared.Layout.{Layout}
-use Rattle.layout.specs.declared.Acceptance.the-variants.{Accepted}
-use Rattle.layout.specs.Record.{layoutOf}
-use Rattle.layout.specs.Plan.{planOf}
 use Rattle.layout.specs.Acceptance.{acceptance}
 use Rattle.page_theory.specs.Page.{pageOf}
 use Rattle.page_theory.specs.Damage.{Accepts, Payload, flips, turn, WrittenAndDamaged}
 use Rattle.page_theory.specs.Calls.{Written, writeEnded, writeReply, writeIn, writeOf, lookEnded, lookReply, lookOf, takeEnded, takeReply, takeOf}
-use Rattle.page_theory.proofs.Accepted.{accepted-accepts, accepts-layout, accepts-valid, write-accepted, look-accepted, take-accepted}
+use Rattle.page_theory.proofs.Accepted.{write-accepted, look-accepted, take-accepted}
 use Rattle.page_theory.proofs.Calls.{look-wrong, take-wrong}
 use Rattle.page_theory.proofs.Damage.{maskSets, mask-flips, mask-damaged}
 use Rattle.page_theory.proofs.Demand2.{write-done}
@@ -41,12 +37,6 @@ use Rattle.roundtrip.specs.declared.RoundTrip.the-variants.{Done, Refuse
 use Rattle.roundtrip.specs.Mask.{named, allowed, overlaid}
 use Rattle.roundtrip.specs.Round.{Round, roundEnded, Back, backEnded, backBy, backOf, roundTaken, roundRead, roundIn}
 use Rattle.roundtrip.proofs.Masks.{Allowed, allowed-each}
-
-pub accepted-plan : (rec : Words) (l : Layout) → acceptance rec ≡ Accepted l → Accepts rec (planOf l)
-accepted-plan rec l e =
-    let h = accepted-accepts rec l e in
-    let f = sym e ∙ accepts-layout rec _ h in
-    let k : l ≡ layoutOf rec = cc in rw k h
 
 -- a test that came out false of a number that is 0
 never-zero : {A : Type 0} (n : ℕ) → eqb n 0 ≡ false → n ≡ 0 → A
@@ -125,12 +115,12 @@ pageOf-length : (q : Plan) (lent d : List ℕ) → length (pageOf q lent d) ≡ 
 unfolding pageOf
 pageOf-length q lent d = bytes-length _ (q .size)
 
-module _ (rec : Words) (q : Plan) (h : Accepts rec q) (m d mask page m' d' c' : List ℕ) where
+module _ (rec : Words) (q : Plan) (h : Accepts (acceptance rec) q) (m d mask page m' d' c' : List ℕ) where
   -- a page that was not written
   pub trip-unwritten : {r : ℕ} {after : List ℕ} → writeEnded r 0 after ≡ writeOf rec m d page → (r ≡ 0 → ⊥)
       → roundEnded (Refused r) after m' d' c' ≡ roundIn q m d mask page m' d' c'
   unfolding roundIn writeIn
-  trip-unwritten {r} {after} e n = go (eqb (writeReply q (length m) (length d) (length page)) 0) (e ∙ write-accepted rec q h m d page)
+  trip-unwritten {r} {after} e n = go (eqb (writeReply q (length m) (length d) (length page)) 0) (e ∙ write-accepted (acceptance rec) q h m d page)
     where
       go : (b : Bool)
           → writeEnded r 0 after ≡ cond b (writeEnded 0 0 (pageOf q page (m ++ d))) (writeEnded (writeReply q (length m) (length d) (length page)) 0 page)
@@ -148,7 +138,7 @@ module _ (rec : Words) (q : Plan) (h : Accepts rec q) (m d mask page m' d' c' : 
   pub trip-written : {r : ℕ} {after : List ℕ} → writeEnded r 0 after ≡ writeOf rec m d page → r ≡ 0 → Start after
   unfolding writeIn
   trip-written {r} {after} e z =
-      go (eqb (writeReply q (length m) (length d) (length page)) 0) refl (e ∙ write-accepted rec q h m d page)
+      go (eqb (writeReply q (length m) (length d) (length page)) 0) refl (e ∙ write-accepted (acceptance rec) q h m d page)
     where
       go : (b : Bool) → eqb (writeReply q (length m) (length d) (length page)) 0 ≡ b
           → writeEnded r 0 after ≡ cond b (writeEnded 0 0 (pageOf q page (m ++ d))) (writeEnded (writeReply q (length m) (length d) (length page)) 0 page)
@@ -170,13 +160,13 @@ module _ (rec : Words) (q : Plan) (h : Accepts rec q) (m d mask page m' d' c' : 
     abbrev damagedPage : List ℕ
     damagedPage = overlaid mask (pageOf q page (m ++ d))
 
-    trip-damaged : Allowed q mask → Fitting q m d page → WrittenAndDamaged rec q m d damagedPage (maskSets q mask)
+    trip-damaged : Allowed q mask → Fitting q m d page → WrittenAndDamaged (acceptance rec) q m d damagedPage (maskSets q mask)
     trip-damaged a f = record {
       payload = payload;
       lent = page;
       size = f .size;
-      damaged = rw (write-done rec q h m d page payload (f .size))
-          (mask-damaged q (accepts-valid rec q h) (pageOf q page (m ++ d)) damagedPage mask bytes-damaged bit-damaged (λ b l. unfold named in a .few b l));
+      damaged = rw (write-done (acceptance rec) q h m d page payload (f .size))
+          (mask-damaged q (h .valid) (pageOf q page (m ++ d)) damagedPage mask bytes-damaged bit-damaged (λ b l. unfold named in a .few b l));
     }
       where
         payload : Payload q m d
@@ -200,10 +190,10 @@ module _ (rec : Words) (q : Plan) (h : Accepts rec q) (m d mask page m' d' c' : 
     trip-looked : Allowed q mask → Fitting q m d page → lookOf rec damagedPage c' ≡ cond (eqb looking 0) (lookEnded 0 0 flipped) (lookEnded looking 0 c')
     unfolding named
     trip-looked a f = elim (ℕ-discrete looking 0) [
-      | yes e ↦ looks-back rec q h m d damagedPage (maskSets q mask) (trip-damaged a f) c' (look-fitting q c' e)
+      | yes e ↦ looks-back (acceptance rec) q h m d damagedPage (maskSets q mask) (trip-damaged a f) c' (look-fitting q c' e)
           ∙ ap (lookEnded 0 0) (run-cong (flips q (maskSets q mask)) (named q mask) 0 0 (q .blocks) (λ b l. mask-flips q mask (0 + b)))
           ∙ rw e
-      | no n ↦ look-accepted rec q h damagedPage c' ∙ look-wrong q damagedPage c' (λ e. n (ap (λ k. lookReply q k (length c')) (sym size) ∙ e))
+      | no n ↦ look-accepted (acceptance rec) q h damagedPage c' ∙ look-wrong q damagedPage c' (λ e. n (ap (λ k. lookReply q k (length c')) (sym size) ∙ e))
           ∙ ap (λ k. lookEnded (lookReply q k (length c')) 0 c') size ∙ rw (ne-eqb looking 0 n)
     ]
       where
@@ -213,8 +203,8 @@ module _ (rec : Words) (q : Plan) (h : Accepts rec q) (m d mask page m' d' c' : 
     trip-taken : Allowed q mask → Fitting q m d page → takeOf rec damagedPage m' d' ≡ cond (eqb taking 0) (takeEnded 0 0 m d) (takeEnded taking 0 m' d')
     trip-taken a f = elim (ℕ-discrete taking 0) [
       | yes e ↦ (let fits = take-fitting q m' d' e in
-          takes-back rec q h m d damagedPage (maskSets q mask) (trip-damaged a f) m' d' (fits .0) (fits .1) ∙ rw e)
-      | no n ↦ take-accepted rec q h damagedPage m' d'
+          takes-back (acceptance rec) q h m d damagedPage (maskSets q mask) (trip-damaged a f) m' d' (fits .0) (fits .1) ∙ rw e)
+      | no n ↦ take-accepted (acceptance rec) q h damagedPage m' d'
           ∙ take-wrong q damagedPage m' d' (λ e. n (ap (λ k. takeReply q k (length m') (length d')) (sym size) ∙ e))
           ∙ ap (λ k. takeEnded (takeReply q k (length m') (length d')) 0 m' d') size ∙ rw (ne-eqb taking 0 n)
     ]

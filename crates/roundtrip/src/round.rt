@@ -16,6 +16,7 @@ use page_write::write_page;
 use replies::refusal_number;
 ghost use mathlib.Core.Path.{_≡_};
 ghost use Rattle.layout.specs.Record.{wordsOf};
+ghost use Rattle.layout.specs.Acceptance.{acceptance};
 ghost use Rattle.page_theory.specs.Damage.{Accepts};
 ghost use Rattle.page_theory.specs.Calls.{writeEnded, writeOf};
 ghost use Rattle.roundtrip.specs.Round.{backEnded, backOf, roundEnded, roundIn, roundOf};
@@ -65,7 +66,7 @@ fn round_in(
     data_out: &mut [u8],
     counts: &mut [u8],
 ) -> RoundTrip
-    requires { ⌜ Accepts (wordsOf edition (now words)) plan ⌝ }
+    requires { ⌜ Accepts (acceptance (wordsOf edition (now words))) plan ⌝ }
     ensures { λ r. ⌜ roundEnded r (now (page .exit)) (now («metadata_out» .exit)) (now («data_out» .exit)) (now (counts .exit))
         ≡ roundIn plan (now (metadata .entry)) (now («data» .entry)) (now (mask .entry)) (now (page .entry))
         (now («metadata_out» .entry)) (now («data_out» .entry)) (now (counts .entry)) ⌝ }

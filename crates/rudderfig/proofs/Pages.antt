@@ -77,7 +77,7 @@ judge-block q page b = go (eqb (length page) (q .size)) (ltb b (q .blocks)) refl
 
 module _ (rec : Words) (bytes : (i : ℕ) → getD (rec .bytes) i 0 < 256) where
   look-low : (page c : List ℕ) → lookOf rec page c .block < 65536
-  unfolding lookOf lookFor
+  unfolding lookFor
   look-low page c = go (acceptance rec) refl
     where
       go : (a : Acceptance) → acceptance rec ≡ a → lookFor a page c .block < 65536
@@ -85,7 +85,7 @@ module _ (rec : Words) (bytes : (i : ℕ) → getD (rec .bytes) i 0 < 256) where
       go (Refused r) h = omega arith
 
   take-low : (page m d : List ℕ) → takeOf rec page m d .block < 65536
-  unfolding takeOf takeFor
+  unfolding takeFor
   take-low page m d = go (acceptance rec) refl
     where
       go : (a : Acceptance) → acceptance rec ≡ a → takeFor a page m d .block < 65536
@@ -93,7 +93,7 @@ module _ (rec : Words) (bytes : (i : ℕ) → getD (rec .bytes) i 0 < 256) where
       go (Refused r) h = omega arith
 
   judge-low : (page : List ℕ) (b : ℕ) → judgeOf rec page b .block < 65536
-  unfolding judgeOf judgeFor
+  unfolding judgeFor
   judge-low page b = go (acceptance rec) refl
     where
       go : (a : Acceptance) → acceptance rec ≡ a → judgeFor a page b .block < 65536
@@ -103,25 +103,25 @@ module _ (rec : Words) (bytes : (i : ℕ) → getD (rec .bytes) i 0 < 256) where
   pub write-holds : (m d page : List ℕ) → let w = writeOf rec m d page in Holds (w .reply) (w .block) 0 (answerWord (w .reply) (w .block) 0 0)
   unfolding total
   write-holds m d page =
-      let ends = write-ends m d page rec in
+      let ends = write-ends m d page (acceptance rec) in
       word-holds 0 (omega (arith, among-low _ _ (ends .table))) (omega (arith, ends .block)) (λ h. refl)
 
   pub look-holds : (page c : List ℕ) → let w = lookOf rec page c in Holds (w .reply) (w .block) 0 (answerWord (w .reply) (w .block) 0 0)
   unfolding total
-  look-holds page c = word-holds 0 (omega (arith, among-low _ _ (look-ends page c rec .table))) (look-low page c) (λ h. refl)
+  look-holds page c = word-holds 0 (omega (arith, among-low _ _ (look-ends page c (acceptance rec) .table))) (look-low page c) (λ h. refl)
 
   pub take-holds : (page m d : List ℕ) → let w = takeOf rec page m d in Holds (w .reply) (w .block) 0 (answerWord (w .reply) (w .block) 0 0)
   unfolding total
-  take-holds page m d = word-holds 0 (omega (arith, among-low _ _ (take-ends page m d rec .table))) (take-low page m d) (λ h. refl)
+  take-holds page m d = word-holds 0 (omega (arith, among-low _ _ (take-ends page m d (acceptance rec) .table))) (take-low page m d) (λ h. refl)
 
   pub judge-holds : (page : List ℕ) (b : ℕ) → let w = judgeOf rec page b in Holds (w .reply) (w .block) (w .flips) (judgeWord w)
   unfolding total judgeWord
   judge-holds page b =
-      let ends = judge-ends page b rec in
+      let ends = judge-ends page b (acceptance rec) in
       word-holds _ (omega (arith, among-low _ _ (ends .table))) (judge-low page b) (λ h. ends .kept (λ e. omega arith))
 
   pub claim-holds : (page : List ℕ) (b : ℕ) (claims : List ℕ) → let w = claimOf rec page b claims in Holds (w .reply) (w .block) 0 (claimWord w)
   unfolding total claimWord
   claim-holds page b claims =
-      let ends = claim-ends page b claims rec in
+      let ends = claim-ends page b claims (acceptance rec) in
       word-holds 0 (omega (arith, among-low _ _ (ends .table))) (omega (arith, ends .block)) (λ h. refl)

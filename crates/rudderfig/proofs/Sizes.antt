@@ -3,10 +3,12 @@
 use mathlib.Core.Path.{_≡_, refl}
 use mathlib.Core.List.{List}
 use mathlib.Core.Logic.{⊎-elim}
-use Prim.Native.Nat.{ℕ, zero, suc, _*_, _≤_, _<_}
+use mathlib.Core.Bool.{Bool, true, false, cond}
+use Prim.Native.Nat.{ℕ, _*_, _≤_, _<_}
 use native.Mathlib.Omega.{arith}
 use native.Mathlib.Nat.{eq-zero-or-pos}
 use lib.ListN.{getD}
+use lib.Dec.{ltb}
 use Rattle.field.specs.Field.{degree}
 use Rattle.layout.specs.declared.BlockFields.{BlockFields}
 use Rattle.layout.specs.declared.Layout.{Layout}
@@ -48,11 +50,11 @@ module _ (rec : Words) (bytes : (i : ℕ) → getD (rec .bytes) i 0 < 256) where
 
   narrow : Narrow (planFor (fieldsIn rec))
   unfolding planFor fieldsUnder fieldsAt shape
-  narrow = record { blocks = omega (arith, bytes 0); size = omega (arith, bytes 4, bytes 5); covered = go }
+  narrow = record { blocks = omega (arith, bytes 0); size = omega (arith, bytes 4, bytes 5); covered = λ b. go (ltb b 1) }
     where
-      go : (b : ℕ) → covered (planFor (fieldsIn rec)) b < 65536
-      go zero = first-low
-      go (suc b) = later-low
+      go : (x : Bool) → cond x (shapeOf (fieldsIn rec .metadata) (fieldsIn rec .first)) (laterShape (fieldsIn rec)) .covered < 65536
+      go true = first-low
+      go false = later-low
 
   pub accepted-narrow : (l : Layout) → acceptance rec ≡ Accepted l → Narrow (planOf l)
   accepted-narrow l h = rw (accepted-plan rec l h) narrow

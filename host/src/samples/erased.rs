@@ -9,7 +9,7 @@ use crate::random::Random;
 use crate::samples::pages::WrittenPage;
 use std::collections::HashMap;
 
-impl WrittenPage {
+impl<Record> WrittenPage<Record> {
     /// A page of all ones (one in eight), of erased blocks (two), of blocks erased and written (two),
     /// or such a one with a block of t + 1 zeros (three), mostly one of the last; and that block, or
     /// else any.
@@ -34,9 +34,9 @@ impl WrittenPage {
         (page, block)
     }
 
-    /// Calls about a page with erased blocks: one block judged, the page read, and a claim on the
-    /// block: empty, its zeros, or the right one if it has a codeword within t.
-    pub fn erased_calls(&self, random: &mut Random) -> Vec<Call> {
+    /// A page with erased blocks, one of its blocks, and a claim on that: empty, its zeros, or the right one if it
+    /// has a codeword within t.
+    pub fn erased_claim(&self, random: &mut Random) -> (Vec<u8>, usize, Vec<u16>) {
         let (page, block) = self.erased(random);
         let word = block_word(&self.layout, &page, block);
         let zeros: Vec<usize> = (0..word.len())
@@ -49,12 +49,7 @@ impl WrittenPage {
             _ => right.unwrap_or_default(),
         };
         let claim = claim.iter().map(|&exponent| exponent as u16).collect();
-        let mut calls = vec![
-            self.judge(page.clone(), block),
-            self.claim(page.clone(), block, claim),
-        ];
-        calls.extend(self.read(page));
-        calls
+        (page, block, claim)
     }
 
     /// Makes a block all ones with none, one, t or any other number of zeros up to t. Where t = 2,
@@ -83,6 +78,19 @@ impl WrittenPage {
         for (exponent, position) in lowest_first.enumerate() {
             put(page, position, !exponents.contains(&exponent));
         }
+    }
+}
+
+impl WrittenPage {
+    /// Calls about a page with erased blocks: one block judged, a claim on it, and the page read.
+    pub fn erased_calls(&self, random: &mut Random) -> Vec<Call> {
+        let (page, block, claim) = self.erased_claim(random);
+        let mut calls = vec![
+            self.judge(page.clone(), block),
+            self.claim(page.clone(), block, claim),
+        ];
+        calls.extend(self.read(page));
+        calls
     }
 }
 

@@ -95,7 +95,7 @@ pub fn positions(layout: &Layout, random: &mut Random) -> Vec<u64> {
 
 /// Blocks and exponents at the edges of an accepted layout.
 pub fn code_bits(layout: &Layout, random: &mut Random) -> Vec<(u64, u64)> {
-    let last = layout.later_blocks as u64;
+    let last = layout.blocks() as u64 - 1;
     let mut code_bits = Vec::new();
     for block in [0, random.below(layout.blocks()) as u64, last] {
         let n = layout.block(block as usize).covered_bits() as u64;

@@ -9,3 +9,6 @@ pub mod pages;
 pub mod pieces;
 pub mod remainders;
 pub mod ruined;
+pub mod sector_calls;
+pub mod sector_edges;
+pub mod sectors;

@@ -11,10 +11,11 @@ use crate::samples::marks::outside;
 /// What each byte of a lent output holds before a sampled call.
 pub const BEFORE: u8 = 0xA5;
 
-/// An edition and a layout that it accepts, a payload and the page written for it.
-pub struct WrittenPage {
+/// An edition and a layout that it accepts, a payload and the page written for it. The layout is handed in as
+/// `record`: the bytes of layout words, or the numbers of sectors.
+pub struct WrittenPage<Record = Vec<u8>> {
     pub edition: u64,
-    pub record: Vec<u8>,
+    pub record: Record,
     pub layout: Layout,
     pub metadata: Vec<u8>,
     pub data: Vec<u8>,
@@ -94,19 +95,6 @@ impl WrittenPage {
         }
     }
 
-    /// The page with at most t flips in each block, often just t, and with any tail and mark.
-    pub fn damaged(&self, random: &mut Random) -> Vec<u8> {
-        let mut page = self.page.clone();
-        for block in 0..self.layout.blocks() {
-            let t = self.layout.block(block).t();
-            let any = random.below(t + 1);
-            let count = random.pick(&[0, t.min(1), t, any]);
-            damage(&mut page, &self.layout, block, count, random);
-        }
-        damage_tail(&mut page, &self.layout, random);
-        page
-    }
-
     /// Every call about this page: written, read clean, damaged within t and past it, read from
     /// random bytes, partly erased and with some blocks ruined; blocks judged; claims right and wrong.
     pub fn calls(&self, random: &mut Random) -> Vec<Call> {
@@ -127,26 +115,49 @@ impl WrittenPage {
         calls
     }
 
+    fn claims(&self, random: &mut Random) -> Vec<Call> {
+        let (page, block, claims) = self.claimed(random);
+        let claims = claims.into_iter();
+        claims
+            .map(|claim| self.claim(page.clone(), block, claim))
+            .collect()
+    }
+}
+
+impl<Record> WrittenPage<Record> {
+    /// The page with at most t flips in each block, often just t, and with any tail and mark.
+    pub fn damaged(&self, random: &mut Random) -> Vec<u8> {
+        let mut page = self.page.clone();
+        for block in 0..self.layout.blocks() {
+            let t = self.layout.block(block).t();
+            let any = random.below(t + 1);
+            let count = random.pick(&[0, t.min(1), t, any]);
+            damage(&mut page, &self.layout, block, count, random);
+        }
+        damage_tail(&mut page, &self.layout, random);
+        page
+    }
+
     /// The page with one block damaged by t + 1, 2t or about as many flips, and that block.
     pub fn overdamaged(&self, random: &mut Random) -> (Vec<u8>, usize) {
         let mut page = self.damaged(random);
         let block = random.below(self.layout.blocks());
         let shape = self.layout.block(block);
         let (n, t) = (shape.covered_bits(), shape.t());
-        restore(&mut page, self, block);
+        self.restore(&mut page, block);
         let any = random.within(t, 2 * t + 2);
         let count = random.pick(&[t + 1, 2 * t, 2 * t + 1, any]);
         damage(&mut page, &self.layout, block, count.min(n), random);
         (page, block)
     }
 
-    /// Claims about one damaged block: the true one in any order, and some spoilt ones.
-    fn claims(&self, random: &mut Random) -> Vec<Call> {
+    /// A damaged page, one of its blocks, and claims about that: the true one in any order, and some spoilt ones.
+    pub fn claimed(&self, random: &mut Random) -> (Vec<u8>, usize, Vec<Vec<u16>>) {
         let mut page = self.damaged(random);
         let block = random.below(self.layout.blocks());
         let shape = self.layout.block(block);
         let n = shape.covered_bits();
-        restore(&mut page, self, block);
+        self.restore(&mut page, block);
         let any = random.below(shape.t() + 1);
         let count = random.pick(&[0, shape.t(), shape.t() + 1, any]).min(n);
         let errors = damage(&mut page, &self.layout, block, count, random);
@@ -172,17 +183,14 @@ impl WrittenPage {
             random.shuffle(&mut claim);
             claims.push(claim);
         }
-        claims
-            .into_iter()
-            .map(|claim| self.claim(page.clone(), block, claim))
-            .collect()
+        (page, block, claims)
     }
-}
 
-/// Puts a block back as it was written.
-fn restore(page: &mut [u8], written: &WrittenPage, block: usize) {
-    for position in written.layout.block_places(block) {
-        put(page, position, bit(&written.page, position));
+    /// Puts a block back as it was written.
+    fn restore(&self, page: &mut [u8], block: usize) {
+        for position in self.layout.block_places(block) {
+            put(page, position, bit(&self.page, position));
+        }
     }
 }
 
@@ -268,12 +276,12 @@ pub fn spoil(call: &mut Call, random: &mut Random) {
 }
 
 /// A number that is no edition, the other edition, or one that would be an edition if it were cut.
-fn spoil_edition(edition: &mut u64, random: &mut Random) {
+pub(super) fn spoil_edition(edition: &mut u64, random: &mut Random) {
     let none = random.pick(&NO_EDITIONS);
     *edition = random.pick(&[none, none, *edition ^ 3, *edition | 1 << 32]);
 }
 
-fn spoil_length(buffer: &mut Vec<u8>, random: &mut Random) {
+pub(super) fn spoil_length(buffer: &mut Vec<u8>, random: &mut Random) {
     match random.below(4) {
         0 => buffer.push(BEFORE),
         1 => buffer.clear(),

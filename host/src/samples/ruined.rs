@@ -6,7 +6,7 @@ use crate::page::block_word;
 use crate::random::Random;
 use crate::samples::pages::WrittenPage;
 
-impl WrittenPage {
+impl<Record> WrittenPage<Record> {
     /// A page with ruined blocks among those that have t above 0: the first, the last, any one, some or
     /// all of them. Of the other blocks some are erased, and the rest are damaged within t.
     pub fn ruined(&self, random: &mut Random) -> Vec<u8> {

@@ -158,7 +158,7 @@ impl Faulty {
 
 /// Whether a block of the layout that is examined has the highest level field.
 fn has_highest_field(layout: &Layout) -> bool {
-    let blocks = [Some(layout.block0), layout.later];
+    let blocks = [Some(layout.block(0)), layout.later()];
     let mut blocks = blocks.iter().flatten();
     blocks.any(|block| block.level_field == 0x1F)
 }
@@ -243,8 +243,10 @@ impl Library for Faulty {
         match self.fault {
             Fault::NothingWritten => page.copy_from_slice(&held),
             Fault::TailOfZeros if answer == 0 => {
-                let tail = check_layout(edition, record).unwrap().tail_places();
-                tail.for_each(|position| put(page, position, false));
+                let layout = check_layout(edition, record).unwrap();
+                for position in layout.tail_places() {
+                    put(page, position, false);
+                }
             }
             Fault::MarkWritten if answer == 0 => {
                 Model.write_page(edition, &record[..8], metadata, data, page);

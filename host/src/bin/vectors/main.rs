@@ -1,6 +1,6 @@
 //! Writes test vectors and the model's answers to them:
 //!
-//!     vectors layout|locate|fragments|pages|roots INPUT OUTPUT
+//!     vectors layout|locate|fragments|pages|sectors|roots INPUT OUTPUT
 //!
 //! INPUT is what a program reads on its standard input, OUTPUT what it is to print.
 
@@ -9,31 +9,21 @@ mod layout;
 mod locate;
 mod pages;
 mod roots;
+mod sectors;
 
 use model::reply::NUMBERS;
-use model::samples::edges::EDGES;
 use model::{Refusal, Reply};
 use std::fmt::Display;
 use std::process::ExitCode;
 
 /// Vectors in the making: the input's bytes, the output's lines, how many vectors got which reply,
-/// and how often they met which edge of the rules for erased and ruined blocks and for marks.
+/// and how often they met which edge of the rules.
+#[derive(Default)]
 pub struct Vectors {
     input: Vec<u8>,
     output: String,
     replies: [usize; NUMBERS],
-    edges: [usize; EDGES.len()],
-}
-
-impl Default for Vectors {
-    fn default() -> Vectors {
-        Vectors {
-            input: Vec::new(),
-            output: String::new(),
-            replies: [0; NUMBERS],
-            edges: [0; EDGES.len()],
-        }
-    }
+    edges: Vec<(&'static str, usize)>,
 }
 
 /// A line of output in the making: reply and block, then whatever follows.
@@ -68,17 +58,17 @@ impl Answer {
         self
     }
 
-    /// Appends the bytes as hexadecimal digits; none at all are a hyphen.
+    /// Appends the bytes as hexadecimal digits.
     pub fn with_bytes(self, bytes: &[u8]) -> Answer {
-        match bytes {
-            [] => self.with('-'),
-            _ => self.with(
-                bytes
-                    .iter()
-                    .map(|byte| format!("{byte:02x}"))
-                    .collect::<String>(),
-            ),
-        }
+        self.with(hexadecimal(bytes))
+    }
+}
+
+/// The bytes as hexadecimal digits; none at all are a hyphen.
+pub fn hexadecimal(bytes: &[u8]) -> String {
+    match bytes {
+        [] => "-".to_string(),
+        _ => bytes.iter().map(|byte| format!("{byte:02x}")).collect(),
     }
 }
 
@@ -102,9 +92,13 @@ impl Vectors {
         self.replies[answer.reply as usize] += 1;
     }
 
-    pub fn meet(&mut self, edges: [usize; EDGES.len()]) {
-        for (sum, edge) in self.edges.iter_mut().zip(edges) {
-            *sum += edge;
+    /// Counts how often a vector met the edges of these names.
+    pub fn meet(&mut self, names: &[&'static str], times: impl IntoIterator<Item = usize>) {
+        if self.edges.is_empty() {
+            self.edges.extend(names.iter().map(|&name| (name, 0)));
+        }
+        for ((_, sum), times) in self.edges.iter_mut().zip(times) {
+            *sum += times;
         }
     }
 }
@@ -119,6 +113,7 @@ fn main() -> ExitCode {
         "locate" => locate::vectors(),
         "fragments" => fragments::vectors(),
         "pages" => pages::vectors(),
+        "sectors" => sectors::vectors(),
         "roots" => roots::vectors(),
         _ => return usage(),
     };
@@ -133,13 +128,13 @@ fn main() -> ExitCode {
     }
     let count: usize = vectors.replies.iter().sum();
     println!("{count} vectors, by reply 0 to 11: {:?}", vectors.replies);
-    for (edge, times) in EDGES.iter().zip(vectors.edges).filter(|edge| edge.1 > 0) {
+    for (edge, times) in vectors.edges.iter().filter(|edge| edge.1 > 0) {
         println!("{times:6} {edge}");
     }
     ExitCode::SUCCESS
 }
 
 fn usage() -> ExitCode {
-    eprintln!("usage: vectors layout|locate|fragments|pages|roots INPUT OUTPUT");
+    eprintln!("usage: vectors layout|locate|fragments|pages|sectors|roots INPUT OUTPUT");
     ExitCode::FAILURE
 }

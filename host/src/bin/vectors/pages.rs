@@ -4,7 +4,7 @@ use crate::{Answer, Vectors};
 use model::call::Call;
 use model::layout::{Layout, LayoutRecord, LayoutWords};
 use model::random::Random;
-use model::samples::edges::edges;
+use model::samples::edges::{EDGES, edges};
 use model::samples::erased::edge_layouts;
 use model::samples::layouts::{CASE_A, accepted_words, strong_words};
 use model::samples::marks::marked;
@@ -84,7 +84,7 @@ fn add_large_page(vectors: &mut Vectors, record: LayoutRecord, random: &mut Rand
     let page = written.damaged(random);
     add(
         vectors,
-        &written.judge(page.clone(), written.layout.later_blocks),
+        &written.judge(page.clone(), written.layout.blocks() - 1),
     );
     add_read(vectors, &written, page);
     if written.layout.page_length < 5000 {
@@ -109,7 +109,7 @@ fn add_read(vectors: &mut Vectors, written: &WrittenPage, page: Vec<u8>) {
 fn chosen_words(random: &mut Random, kind: usize, most_page_bytes: usize) -> LayoutWords {
     loop {
         let words = accepted_words(random, most_page_bytes);
-        let n = Layout::from(words).block0.covered_bits();
+        let n = Layout::from(words).block(0).covered_bits();
         let later = words.nblocks > 0;
         let fits = match kind {
             1 => !later,
@@ -201,7 +201,7 @@ fn document_calls() -> Vec<Call> {
 }
 
 fn add(vectors: &mut Vectors, call: &Call) {
-    vectors.meet(edges(call));
+    vectors.meet(&EDGES, edges(call));
     match call.clone() {
         Call::WritePage {
             edition,

@@ -1,11 +1,11 @@
 -- `layout::sums::block_shape` meets its contract.
 use borrow.Author.Needs.{needs}
-use Rattle.layout.proofs.Plans.{shape-zero, shape-later}
+use Rattle.layout.proofs.Plans.{shape-first, shape-later}
 use Rattle.layout.proofs.sums.block_shape.Statement.{statement}
 use Rattle.layout.proofs.sums.block_shape.Tie as tie
 
 returns : tie.Need-returns
-returns c = shape-zero _ _ (search needs)
+returns c = shape-first _ _ (search needs)
 
 returns-2 : tie.Need-returns-2
 returns-2 c = shape-later _ _ (search needs)

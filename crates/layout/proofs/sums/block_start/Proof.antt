@@ -1,41 +1,42 @@
 -- `layout::sums::block_start` meets its contract.
-use Prim.Native.Nat.{_-_}
+use mathlib.Core.Path.{sym, _∙_}
 use native.Mathlib.Omega.{arith}
 use borrow.Author.Needs.{needs}
-use Rattle.layout.proofs.Plans.{product-le, start-first, start-product}
+use Rattle.layout.proofs.Plans.{start-firsts, start-product}
 use Rattle.layout.proofs.sums.block_start.Statement.{statement}
 use Rattle.layout.proofs.sums.block_start.Tie as tie
 
+together-requires : tie.Need-together-requires
+together-requires c κs = search needs
+
 returns : tie.Need-returns
-returns c = (start-first _ _ (search needs), omega arith)
+returns c = (c .together .ensures .0 ∙ sym (start-firsts _ _ (search needs)), omega (arith, c .together .ensures .1))
 
-cast-first : tie.Need-cast-first
-cast-first c = search needs
+together-requires-2 : tie.Need-together-requires-2
+together-requires-2 c κs = search needs
 
-cast-later : tie.Need-cast-later
-cast-later c = search needs
+sub-together : tie.Need-sub-together
+sub-together c = search needs
 
-sub-result : tie.Need-sub-result
-sub-result c = search needs
-
-mul-result : tie.Need-mul-result
-mul-result c =
-    let a = c .before .before .before .args in
-    let step = product-le 65534 4294967295 {a = a .block - 1} {b = a .plan .later .covered} (omega arith) (omega arith) in
-    omega arith
+together-requires-3 : tie.Need-together-requires-3
+together-requires-3 c κs = search needs
 
 add-result : tie.Need-add-result
-add-result c =
-    let a = c .before .before .before .args in
-    let step = product-le 65534 4294967295 {a = a .block - 1} {b = a .plan .later .covered} (omega arith) (omega arith) in
-    omega arith
+add-result c = search needs
 
 returns-2 : tie.Need-returns-2
 returns-2 c =
-    let a = c .before .before .before .args in
-    let step = product-le 65534 4294967295 {a = a .block - 1} {b = a .plan .later .covered} (omega arith) (omega arith) in
-    (start-product _ _ (omega arith), omega arith)
+    let one = c .before in
+    (rw (one .together2 .ensures .0, c .together3 .ensures .0) (start-product _ _ (search needs)), omega (arith, one .together2 .ensures .1, c .together3 .ensures .1))
 
 pub block-start-spec : {M : Type 1} → statement M
 block-start-spec =
-    tie.close (tie.spec returns cast-first cast-later sub-result mul-result add-result returns-2)
+    tie.close
+    (tie.spec
+    together-requires
+    returns
+    together-requires-2
+    sub-together
+    together-requires-3
+    add-result
+    returns-2)

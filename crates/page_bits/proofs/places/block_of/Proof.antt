@@ -1,52 +1,52 @@
 -- `page_bits::places::block_of` meets its contract.
-use Prim.Native.Nat.{_-_}
-use mathlib.Core.Path.{refl}
-use native.Mathlib.Nat.{div-le-self}
 use native.Mathlib.Omega.{arith}
 use borrow.Author.Needs.{needs}
-use Rattle.page_bits.proofs.Placing.{block-first, block-none, block-later, block-beyond}
+use Rattle.page_bits.proofs.Placing.{near-beyond, near-lies, near-pads}
 use Rattle.page_bits.proofs.places.block_of.Statement.{statement}
 use Rattle.page_bits.proofs.places.block_of.Tie as tie
 
 cast-blocks : tie.Need-cast-blocks
 cast-blocks c = search needs
 
-cast-first : tie.Need-cast-first
-cast-first c = search needs
-
-cast-later : tie.Need-cast-later
-cast-later c = search needs
+block-near-requires : tie.Need-block-near-requires
+block-near-requires c κs = search needs
 
 returns : tie.Need-returns
-returns c = block-first _ _ refl refl (search needs)
+returns c = near-beyond _ (c .before .block-near .ensures .0) (c .if1 .taken)
+
+cast-block : tie.Need-cast-block
+cast-block c = search needs
+
+block-start-requires : tie.Need-block-start-requires
+block-start-requires c κs = search needs
+
+block-covered-requires : tie.Need-block-covered-requires
+block-covered-requires c κs = search needs
+
+add-end : tie.Need-add-end
+add-end c = search needs
 
 returns-2 : tie.Need-returns-2
-returns-2 c = block-none _ _ refl refl (search needs) (search needs)
-
-div-block : tie.Need-div-block
-div-block c = search needs
-
-add-block : tie.Need-add-block
-add-block c =
-    let a = c .before .before .before .before .before .args in
-    omega (arith, div-le-self (a .position - a .plan .first .covered) (a .plan .later .covered))
+returns-2 c =
+    let s = c .before .before in
+    near-lies _ (s .before .before .block-near .ensures .0) (omega arith)
+    (rw (s .block-start .ensures .0, c .before .block-covered .ensures .0) at (c .if2 .taken))
 
 returns-3 : tie.Need-returns-3
-returns-3 c = block-later _ _ refl refl (search needs) (search needs) (search needs)
-
-returns-4 : tie.Need-returns-4
-returns-4 c = block-beyond _ _ refl refl (search needs) (search needs) (search needs)
+returns-3 c =
+    let s = c .before .before in
+    near-pads _ (s .before .before .block-near .ensures .0) (omega arith) (omega (arith, s .block-start .ensures .0, c .before .block-covered .ensures .0))
 
 pub block-of-spec : {M : Type 1} → statement M
 block-of-spec =
     tie.close
     (tie.spec
     cast-blocks
-    cast-first
-    cast-later
+    block-near-requires
     returns
+    cast-block
+    block-start-requires
+    block-covered-requires
+    add-end
     returns-2
-    div-block
-    add-block
-    returns-3
-    returns-4)
+    returns-3)

@@ -22,7 +22,7 @@ is-right-requires c κs =
     let e = s .block-shape .ensures in (
       rw e (shape-stored q b (a .pre .0 .plan)),
       shape-fits q (a .pre .0 .plan) b (a .pre .1) e,
-      block-inside q (a .pre .0 .plan) b (a .pre .1) e (a .pre .0 .size) (search needs) (c .block-start .ensures .0),
+      block-inside q (a .pre .0 .plan) b (a .pre .1) e (a .pre .0 .size) (c .block-start .ensures .0),
     )
 
 returns : tie.Need-returns

@@ -46,7 +46,6 @@ copy-out-requires c κs =
     let j = l .inv .1 in
     message-room _ _ (a .pre .0) _ (search needs) (j .metadata ∙ a .pre .1) (j .«data» ∙ a .pre .2)
     (s .block-start .ensures .0) (c .before .before .message-start .ensures .0) (ap (λ (x : Shape). x .message) (s .before .before .block-shape .ensures))
-    (search needs)
 
 add-b : tie.Need-add-b Inv-loop μ-loop
 add-b c = search needs

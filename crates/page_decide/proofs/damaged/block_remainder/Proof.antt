@@ -39,7 +39,7 @@ remainder-in-requires c κs =
     let s = c .before .before .before .before .before in
     let p = s .before .before .before .pre in (
       rw (s .block-shape .ensures) (p .1 .1),
-      rw (c .block-covered .ensures .0) (block-inside _ (p .0 .plan) _ (p .1 .0) refl (p .0 .size) (search needs) (c .before .block-start .ensures .0)),
+      rw (c .block-covered .ensures .0) (block-inside _ (p .0 .plan) _ (p .1 .0) refl (p .0 .size) (c .before .block-start .ensures .0)),
     )
 
 returns-2 : tie.Need-returns-2

@@ -20,7 +20,7 @@ block-remainder-requires : tie.Need-block-remainder-requires Inv-loop μ-loop
 block-remainder-requires c κs =
     let a = c .before .before .before .before in
     let p = a .pre .1 in
-    (a .pre .0, (search needs, table-later _ _ (omega (arith, p .0, c .before .loop .inv .0)) (p .2)))
+    (a .pre .0, (search needs, table-later _ (a .pre .0 .plan) _ (omega (arith, p .0, c .before .loop .inv .0)) (search needs) (p .2)))
 
 is-zero-requires : tie.Need-is-zero-requires Inv-loop μ-loop
 is-zero-requires c κs = search needs

@@ -1,6 +1,6 @@
 -- `page_decide::damaged::scan_page` meets its contract.
 use borrow.Author.Needs.{needs}
-use Rattle.layout.specs.Plan as plan
+use Rattle.page_plan.proofs.Tables.{table-first}
 use Rattle.page_decide.proofs.damaged.scan_page.Statement.{statement}
 use Rattle.page_decide.proofs.damaged.scan_page.Tie as tie
 
@@ -11,11 +11,10 @@ make-table-requires : tie.Need-make-table-requires
 make-table-requires c κs = search needs
 
 block-remainder-requires : tie.Need-block-remainder-requires
-unfolding plan.shape
 block-remainder-requires c κs =
     let m = c .before .before .before in
     let p = m .before .before .before .before .before .before .pre in
-    (p .0, (p .0 .plan .some, m .make-table .ensures))
+    (p .0, (p .0 .plan .some, table-first _ (p .0 .plan) (m .make-table .ensures)))
 
 later-table-requires : tie.Need-later-table-requires
 later-table-requires c κs = search needs

@@ -1,6 +1,5 @@
 -- `page_decide::decide::decide_block` meets its contract.
-use native.Mathlib.Nat.{pos-of-ne-zero}
-use borrow.Author.Tests.{not-true, eqb-false}
+use mathlib.Core.Path.{refl}
 use Rattle.page_decide.proofs.Remainders.{remainderAt-below}
 use Rattle.page_decide.proofs.Deciding.{found-few, block-decided}
 use Rattle.page_decide.proofs.decide.decide_block.Statement.{statement}
@@ -21,11 +20,10 @@ block-count-requires c κs =
 
 returns : tie.Need-returns
 returns c =
-    let o = c .before in
+    let o = c .before .before in
     let p = o .before .before .before .pre in
     let s = p .0 .1 in
-    block-decided _ _ _ (p .0 .0 .plan .valid) (s .inside) (s .is) (o .outcome-after .ensures) (c .block-count .ensures)
-    (λ t. pos-of-ne-zero (eqb-false _ 0 (not-true _ t)))
+    block-decided _ _ _ (p .0 .0 .plan .valid) (s .inside) (s .is) (o .outcome-after .ensures) (c .before .block-count .ensures) refl
 
 pub decide-block-spec : {M : Type 1} → statement M
 decide-block-spec = tie.close (tie.spec outcome-after-requires block-count-requires returns)

@@ -27,7 +27,7 @@ add-zeros-in c = search needs
 zeros-in-requires : tie.Need-zeros-in-requires
 zeros-in-requires c κs =
     let p = c .before .before .before .before .before .before .pre in
-    rw (c .block-covered .ensures .0) (block-inside _ (p .0 .plan) _ (p .1) refl (p .0 .size) (search needs) (c .before .block-start .ensures .0))
+    rw (c .block-covered .ensures .0) (block-inside _ (p .0 .plan) _ (p .1) refl (p .0 .size) (c .before .block-start .ensures .0))
 
 cast-result : tie.Need-cast-result
 cast-result c =

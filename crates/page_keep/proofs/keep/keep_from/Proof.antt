@@ -28,7 +28,7 @@ decide-block-requires c κs =
     let l = c .before .before .loop in
     let p = c .before .before .before .before .before .before .pre in
     let ready = p .0 .ready in
-    ((ready, underway-left _ _ (ready .plan) (l .inv .1) (c .if1 .taken), l .inv .2), one-field-tables _ _ _ (p .1 .0) (l .inv .0) (p .1 .1))
+    ((ready, underway-left _ _ (ready .plan) (l .inv .1) (c .if1 .taken), l .inv .2), one-field-tables _ _ _ (p .1 .0) (l .inv .0) (c .if1 .taken) (p .1 .1))
 
 returns : tie.Need-returns Inv-loop μ-loop
 unfolding PageDecided

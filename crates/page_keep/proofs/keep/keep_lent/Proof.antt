@@ -82,7 +82,7 @@ keep-alike-requires-2 c κs =
         underway = underway-next _ _ plan (p .0 .underway) e (plan .some) (rw e at (d .decide-lent .ensures .0 .at)) (o .if2 .left) refl
             (k .keep-block .ensures) (n .next-damaged .ensures);
       },
-      (later-field _ _ (omega (arith, n .next-damaged .ensures .low)), d .decide-lent .ensures .1 .0, d .decide-lent .ensures .1 .1),
+      (later-field _ _ plan (omega (arith, n .next-damaged .ensures .low)), d .decide-lent .ensures .1 .0, d .decide-lent .ensures .1 .1),
     )
 
 returns-4 : tie.Need-returns-4

@@ -65,7 +65,7 @@ count-alike-requires-2 c κs =
         table = p .0 .table;
         underway = underway-next _ _ plan (p .0 .underway) e (plan .some) (rw e at (d .decide-alone .ensures .at)) (n .next-damaged .ensures);
       },
-      later-field _ _ (omega (arith, n .next-damaged .ensures .low)),
+      later-field _ _ plan (omega (arith, n .next-damaged .ensures .low)),
     )
 
 same-length-3 : tie.Need-same-length-3

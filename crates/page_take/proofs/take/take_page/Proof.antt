@@ -1,36 +1,15 @@
 -- `page_take::take::take_page` meets its contract.
 use mathlib.Core.Path.{sym, _∙_}
 use borrow.Author.Needs.{needs}
-use Rattle.page_theory.specs.Calls.{takeFor, takeOf}
-use Rattle.page_plan.proofs.Plans.{accepted-planned}
-use Rattle.page_take.specs.Answers.{takeNumber, takeBlock}
-use Rattle.page_take.proofs.Ends.{take-layout}
+use Rattle.page_plan.proofs.Plans.{words-sound}
 use Rattle.page_take.proofs.take.take_page.Statement.{statement}
 use Rattle.page_take.proofs.take.take_page.Tie as tie
 
 check-layout-requires : tie.Need-check-layout-requires
 check-layout-requires c κs = search needs
 
-enum-known-layout : tie.Need-enum-known-layout
-enum-known-layout c = search needs
-
-plan-of-requires : tie.Need-plan-of-requires
-plan-of-requires c κs = search needs
-
-take-in-requires : tie.Need-take-in-requires
-take-in-requires c κs =
-    let planned = c .before .before in
-    let known = planned .before .before in
-    let checked = known .before .before in
-    let words = checked .before .before .before .before in
-    rw (planned .plan-of .ensures)
-    (accepted-planned _ _ (λ i. words .shared-slice-known .given i .fits) (sym (checked .check-layout .ensures) ∙ known .layout .given .1))
-
-enum-known-refusal : tie.Need-enum-known-refusal
-enum-known-refusal c = search needs
-
-refusal-of-requires : tie.Need-refusal-of-requires
-refusal-of-requires c κs = search needs
+take-for-requires : tie.Need-take-for-requires
+take-for-requires c κs l e = words-sound _ (λ i. c .before .before .before .before .before .before .shared-slice-known .given i .fits) l (sym (c .before .before .check-layout .ensures) ∙ e)
 
 same-length : tie.Need-same-length
 same-length c = search needs
@@ -39,30 +18,8 @@ same-length-2 : tie.Need-same-length-2
 same-length-2 c = search needs
 
 returns : tie.Need-returns
-unfolding takeOf takeFor
-returns c =
-    let done = c .before .before .before .before in
-    let planned = done .before .before .before in
-    let known = planned .before .before in
-    done .take-in .ensures ∙ simp (planned .plan-of .ensures, sym (known .before .before .check-layout .ensures), known .layout .given .1)
-
-returns-2 : tie.Need-returns-2
-unfolding takeNumber takeBlock takeOf
-returns-2 c =
-    let known = c .before .before in
-    take-layout _ _ _ (c .refusal-of .ensures) (sym (known .before .before .check-layout .ensures) ∙ known .refusal .given .1)
+returns c = c .before .before .before .before .take-for .ensures ∙ rw (c .before .before .before .before .before .before .before .check-layout .ensures)
 
 pub take-page-spec : {M : Type 1} → statement M
 take-page-spec =
-    tie.close
-    (tie.spec
-    check-layout-requires
-    enum-known-layout
-    plan-of-requires
-    take-in-requires
-    enum-known-refusal
-    refusal-of-requires
-    same-length
-    same-length-2
-    returns
-    returns-2)
+    tie.close (tie.spec check-layout-requires take-for-requires same-length same-length-2 returns)

@@ -3,8 +3,7 @@ use mathlib.Core.Path.{refl}
 use native.Mathlib.Omega.{arith}
 use borrow.Author.Needs.{needs}
 use Rattle.layout.specs.Plan.{start, from}
-use Rattle.layout.proofs.Plans.{shape-zero}
-use Rattle.page_plan.proofs.Plans.{block-inside}
+use Rattle.page_plan.proofs.Plans.{shape-zero, pads-inside}
 use Rattle.page_write.proofs.Writing.{message-lent}
 use Rattle.page_write.proofs.write.write_first.Statement.{statement}
 use Rattle.page_write.proofs.write.write_first.Tie as tie
@@ -23,12 +22,12 @@ write-block-requires c κs =
     let q = a .args .plan in
     let h = a .pre .1 in
     let x = a .pre .0 .metadata in
-    let e = shape-zero q 0 refl in (
+    let e = shape-zero q (a .pre .0) in (
       m .make-table .ensures,
       rw e (a .pre .0 .valid .sums 0),
       omega arith,
       message-lent q (a .pre .0 .valid) 0 (a .pre .0 .some) e h x (a .pre .0 .«data») refl,
-      block-inside q (a .pre .0) 0 (a .pre .0 .some) e (h .size) (search needs) refl,
+      pads-inside q (a .pre .0) 0 (a .pre .0 .some) e (h .size) refl,
     )
 
 later-table-requires : tie.Need-later-table-requires

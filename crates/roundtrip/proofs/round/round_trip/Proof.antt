@@ -1,7 +1,7 @@
 -- `roundtrip::round::round_trip` meets its contract.
 use mathlib.Core.Path.{sym, _∙_}
 use Rattle.roundtrip.specs.Round.{roundFor, roundOf}
-use Rattle.roundtrip.proofs.Trips.{accepted-plan}
+use Rattle.page_theory.proofs.Accepted.{words-accepts}
 use borrow.Author.Needs.{needs}
 use Rattle.roundtrip.proofs.round.round_trip.Statement.{statement}
 use Rattle.roundtrip.proofs.round.round_trip.Tie as tie
@@ -19,7 +19,7 @@ round-in-requires : tie.Need-round-in-requires
 round-in-requires c κs =
     let planned = c .before .before .before .before in
     let known = planned .before .before in
-    rw (planned .plan-of .ensures) (accepted-plan _ _ (sym (known .before .before .check-layout .ensures) ∙ known .layout .given .1))
+    rw (planned .plan-of .ensures) (words-accepts _ _ (sym (known .before .before .check-layout .ensures) ∙ known .layout .given .1))
 
 enum-known-refusal : tie.Need-enum-known-refusal
 enum-known-refusal c = search needs

@@ -1,25 +1,25 @@
--- `page_vectors::lines::put_digits` meets its contract.
+-- `sector_vectors::feed_all` meets its contract.
 use mathlib.Core.Path.{_≡_}
 use Prim.Native.Nat.{_-_, _≤_}
 use lib.ListN.{length}
 use borrow.Author.Needs.{needs}
-use Rattle.page_vectors.proofs.lines.put_digits.Statement.{statement}
-use Rattle.page_vectors.proofs.lines.put_digits.Tie as tie
+use Rattle.sector_vectors.proofs.feed_all.Statement.{statement}
+use Rattle.sector_vectors.proofs.feed_all.Tie as tie
 
 abbrev Inv-loop : tie.InvT-loop
-Inv-loop line₀ at bytes n p₀ i₀ line p i = (i ≤ n) × (length line ≡ length line₀)
+Inv-loop input₀ at chunk n p₀ i₀ input p i = (i ≤ n) × (length input ≡ length input₀)
 
 abbrev μ-loop : tie.MeasureT-loop
-μ-loop line₀ at bytes n p₀ i₀ line p i = n - i
+μ-loop input₀ at chunk n p₀ i₀ input p i = n - i
 
 loop-holds : tie.Need-loop-holds Inv-loop μ-loop
 loop-holds c = search needs
 
-shared-slice-read-put-byte : tie.Need-shared-slice-read-put-byte Inv-loop μ-loop
-shared-slice-read-put-byte c = search needs
+shared-slice-read-feed : tie.Need-shared-slice-read-feed Inv-loop μ-loop
+shared-slice-read-feed c = search needs
 
-put-byte-requires : tie.Need-put-byte-requires Inv-loop μ-loop
-put-byte-requires c κs = search needs
+feed-requires : tie.Need-feed-requires Inv-loop μ-loop
+feed-requires c κs = search needs
 
 add-i : tie.Need-add-i Inv-loop μ-loop
 add-i c = search needs
@@ -36,15 +36,15 @@ same-length c = search needs
 returns : tie.Need-returns Inv-loop μ-loop
 returns c = search needs
 
-pub put-digits-spec : {M : Type 1} → statement M
-put-digits-spec =
+pub feed-all-spec : {M : Type 1} → statement M
+feed-all-spec =
     tie.close
     (tie.spec
     Inv-loop
     μ-loop
     loop-holds
-    shared-slice-read-put-byte
-    put-byte-requires
+    shared-slice-read-feed
+    feed-requires
     add-i
     loop-less
     loop-again

@@ -1,16 +1,16 @@
--- `page_vectors::claims::exponents` meets its contract.
+-- `page_vector_io::buffers::exponents` meets its contract.
 use mathlib.Core.Path.{_≡_}
 use Prim.Native.Nat.{_-_, _≤_}
 use lib.ListN.{length}
 use borrow.Author.Needs.{needs}
-use Rattle.page_vectors.proofs.claims.exponents.Statement.{statement}
-use Rattle.page_vectors.proofs.claims.exponents.Tie as tie
+use Rattle.page_vector_io.proofs.buffers.exponents.Statement.{statement}
+use Rattle.page_vector_io.proofs.buffers.exponents.Tie as tie
 
 abbrev Inv-loop : tie.InvT-loop
-Inv-loop bytes claims₀ i₀ claims i = (i ≤ 64) × (length claims ≡ 64)
+Inv-loop bytes claims₀ i₀ claims i = (i ≤ 256) × (length claims ≡ 256)
 
 abbrev μ-loop : tie.MeasureT-loop
-μ-loop bytes claims₀ i₀ claims i = 64 - i
+μ-loop bytes claims₀ i₀ claims i = 256 - i
 
 loop-holds : tie.Need-loop-holds Inv-loop μ-loop
 loop-holds c = search needs

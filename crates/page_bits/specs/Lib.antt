@@ -1,0 +1,2 @@
+-- What the steps that find a bit promise.
+pub mod Places

@@ -1,0 +1,2 @@
+-- What a layout of sectors means.
+pub mod Sectors
