@@ -33,9 +33,9 @@ fn times(powers: &[u16; 16384], logs: &[u16; 16384], n: usize, x: u16, y: u16) -
     powers[e]
 }
 
-// 1 / x
+// 1 / x. The exponent is 2^m - 1 where x is 1, and is wrapped.
 fn inverted(powers: &[u16; 16384], logs: &[u16; 16384], n: usize, x: u16) -> u16 {
-    let e = inverse(n, log_of(logs, x));
+    let e = wrapped(n, inverse(n, log_of(logs, x)));
     powers[e]
 }
 
