@@ -1,13 +1,13 @@
 -- Laws of the steps by the table.
-use mathlib.Core.Path.{_≡_, refl, sym, ap, ap₂, _∙_}
+use mathlib.Core.Path.{_≡_, refl, sym, ap, ap₂, subst, _∙_}
 use mathlib.Core.List.{List}
-use Prim.Native.Nat.{ℕ, _+_, _-_, _*_, _/_, _%_, _^_, _<_, _≤_}
+use Prim.Native.Nat.{ℕ, zero, suc, _+_, _-_, _*_, _/_, _%_, _^_, _<_, _≤_}
 use native.Mathlib.Omega.{arith}
 use native.Mathlib.Decide.{decLt}
-use native.Mathlib.Nat.{add-zero, mul-one, mod-lt, mod-le, mod-eq-of-lt}
+use native.Mathlib.Nat.{add-zero, mul-one, suc-mul, mod-lt, mod-le, mod-eq-of-lt}
 use lib.ListN.{length, getD, drop}
 use lib.Pow.{pow-pos, pow-mono, shr-lt, shr-shr, shl-shr, high, mod-pow-add}
-use lib.Bits.{bitXor, xor-lt, xor-zero-l, xor-shifted}
+use lib.Bits.{bitXor, xor-lt, xor-zero-l, xor-self, xor-shifted}
 use Rattle.bits.specs.Bits.{bitOf, run, number, digits}
 use Rattle.bits.proofs.Numbers.{number-append, digits-number}
 use Rattle.bits.proofs.Pages.{number-run-lt}
@@ -38,6 +38,17 @@ unfolding digitBits rowsOf
 digit-inside four k hv h el = last-five k hv h el
 digit-inside nine k hv h el = last-five k hv h el
 digit-inside fourteen k hv h el = omega arith
+
+-- a digit below another begins within the 64 binary digits, where the other begins there or at their end
+pub digit-before : (b k to : ℕ) → 0 < b → k < to → b * to ≤ 64 → b * k < 64
+digit-before b k to hb l h = before (to - k - 1) (omega arith)
+  where
+    before : (d : ℕ) → to ≡ k + 1 + d → b * k < 64
+    before d e = let m : b * (k + 1 + d) ≤ 64 = subst (λ n. b * n ≤ 64) e h in omega arith
+
+pub digit-small : (b k : ℕ) → 0 < b → b * k < 64 → k < 64
+digit-small zero k hb h = absurd (omega arith)
+digit-small (suc b) k hb h = let e : suc b * k ≡ b * k + k = suc-mul b k in omega arith
 
 -- The digits of a number v, of b binary digits each, the lowest first: k of them are done, and `left` has the others.
 module _ (u : ℕ) (words : List ℕ) (table : Rests u words) {b : ℕ} (eb : b ≡ digitBits u) (v : ℕ) (hv : v < 18446744073709551616) where
@@ -95,6 +106,14 @@ module _ (u : ℕ) (words : List ℕ) (table : Rests u words) {b : ℕ} (eb : b 
         let m : 2 ^ 64 ≤ 2 ^ (b * k) = pow-mono h in
         let e : v % 2 ^ (b * k) ≡ v = mod-eq-of-lt (omega arith) in
         ex ∙ ap (λ n. bitXor (rest (64 * u) (divisorOf u words) n) r) e
+
+  -- a register to which the rows of some digits after others are added, whatever it is the sum with of those others
+  pub part-below : (from k : ℕ) {r x : ℕ} → r < 2 ^ (64 * u)
+      → ((s : ℕ) → r ≡ bitXor (rest (64 * u) (divisorOf u words) (v % 2 ^ (b * from))) s → x ≡ bitXor (rest (64 * u) (divisorOf u words) (v % 2 ^ (b * k))) s) → x < 2 ^ (64 * u)
+  part-below from k {r} h f =
+      let y : ℕ = rest (64 * u) (divisorOf u words) (v % 2 ^ (b * from)) in
+      let e : bitXor y (bitXor y r) ≡ r = sym (xor-assoc y y r) ∙ ap (λ n. bitXor n r) (xor-self y) ∙ xor-zero-l r in
+      rows-below (bitXor y r) k (rows-below r from h refl) (f (bitXor y r) (sym e))
 
 -- From the parity r, with the k coefficients b: h has the k highest digits of r, and the rows of v are added.
 -- One step by the table is as many single steps as it takes coefficients.

@@ -1,12 +1,12 @@
 // Coefficients of a message 64 at a time, by the table of a divisor. A register has the parity so far in its first words, which it
 // fills: the divisor has the degree 64 used. Odd bits at the end go in one step.
 ghost use mathlib.Core.Path.{_≡_};
-ghost use Prim.Native.Nat.{_+_, _-_, _*_, _/_, _%_, _^_, _≤_, _<_};
+ghost use Prim.Native.Nat.{ℕ, _+_, _-_, _*_, _/_, _%_, _^_, _≤_, _<_};
 ghost use lib.Bits.{bitXor};
 ghost use Rattle.bits.specs.Bits.{bitOf, run, digits};
 ghost use Rattle.code.specs.Register.{register};
 ghost use Rattle.remainder.specs.Parity.{parityFrom, rest};
-ghost use Rattle.division_table.specs.Table.{divisorOf, Rests};
+ghost use Rattle.division_table.specs.Table.{digitBits, divisorOf, Rests};
 use bits::read::word_at;
 use division_table::digits::digit_bits;
 use division_table::digits::digit_row;
@@ -40,6 +40,44 @@ fn rows_added(state: Register, table: &[u64], used: usize, v: u64) -> Register
         k += 1;
     }
     r
+}
+
+// The rows of the digits of v from `from` on and below `to`, added to a register that has those of the digits before.
+fn rows_between(
+    state: Register,
+    table: &[u64],
+    used: usize,
+    v: u64,
+    from: usize,
+    to: usize,
+) -> Register
+    requires { ⌜ (Rests used (now table)) × (register (state .words) < 2 ^ (64 * used)) × (from < to) × (digitBits used * to ≤ 64) ⌝ }
+    ensures { λ r. ⌜ ((s : ℕ) → register (state .words) ≡ bitXor (rest (64 * used) (divisorOf used (now (table .entry))) (v % 2 ^ (digitBits used * from))) s
+        → register (r .words) ≡ bitXor (rest (64 * used) (divisorOf used (now (table .entry))) (v % 2 ^ (digitBits used * to))) s) ⌝ }
+{
+    let bits = digit_bits(used);
+    let mut r = state;
+    let mut left = v >> (bits * from);
+    let mut k = from;
+    while k < to {
+        let row = digit_row(bits, k, left);
+        r = row_added(r, table, row * used, used);
+        left = left >> bits;
+        k += 1;
+    }
+    r
+}
+
+// The sum as above for rows of fourteen words, four digits at a time: the compiler unrolls loops over four such rows, not over 16.
+fn long_rows_added(state: Register, table: &[u64], v: u64) -> Register
+    requires { ⌜ (Rests 14 (now table)) × (register (state .words) < 2 ^ (64 * 14)) ⌝ }
+    ensures { λ r. ⌜ register (r .words)
+        ≡ bitXor (rest (64 * 14) (divisorOf 14 (now (table .entry))) v) (register (state .words)) ⌝ }
+{
+    let four = rows_between(state, table, 14, v, 0, 4);
+    let eight = rows_between(four, table, 14, v, 4, 8);
+    let twelve = rows_between(eight, table, 14, v, 8, 12);
+    rows_between(twelve, table, 14, v, 12, 16)
 }
 
 // Up to 63 more coefficients of the message at once: the k digits of b.
@@ -81,6 +119,18 @@ fn step_word(state: Register, table: &[u64], used: usize, w: u64) -> Register
     rows_added(next, table, used, v)
 }
 
+// The same for rows of fourteen words.
+fn long_step(state: Register, table: &[u64], w: u64) -> Register
+    requires { ⌜ (Rests 14 (now table)) × (register (state .words) < 2 ^ (64 * 14)) ⌝ }
+    ensures { λ r. ⌜ register (r .words)
+        ≡ parityFrom (64 * 14) (divisorOf 14 (now (table .entry))) (register (state .words)) (digits w 64) ⌝ }
+{
+    let words = state.words;
+    let v = words[13] ^ w;
+    let next = word_up(state, 14);
+    long_rows_added(next, table, v)
+}
+
 // A run of bits word by word: `count` words from position `at` on, wherever that lies in a byte.
 fn feed_words(
     state: Register,
@@ -104,7 +154,29 @@ fn feed_words(
     r
 }
 
-// The same with the number of words in use written out: the loops over words and digits are then unrolled.
+// The same for rows of fourteen words.
+fn feed_long_words(
+    state: Register,
+    table: &[u64],
+    bytes: &[u8],
+    at: usize,
+    count: usize,
+) -> Register
+    requires { ⌜ (Rests 14 (now table)) × (register (state .words) < 2 ^ (64 * 14)) × (at + 64 * count < 18446744073709551616) ⌝ }
+    ensures { λ r. ⌜ register (r .words)
+        ≡ parityFrom (64 * 14) (divisorOf 14 (now (table .entry))) (register (state .words)) (run (bitOf (now (bytes .entry))) at (64 * count)) ⌝ }
+{
+    let mut r = state;
+    let mut fed = 0;
+    while fed < count {
+        let w = word_at(bytes, at + 64 * fed);
+        r = long_step(r, table, w);
+        fed += 1;
+    }
+    r
+}
+
+// Both with the number of words in use written out: the loops over words and digits are then unrolled.
 fn feed_words_fixed(
     state: Register,
     table: &[u64],
@@ -123,7 +195,7 @@ fn feed_words_fixed(
     if used == 9 {
         return feed_words(state, table, 9, bytes, at, count);
     }
-    feed_words(state, table, 14, bytes, at, count)
+    feed_long_words(state, table, bytes, at, count)
 }
 
 // A run of bits of which there are fewer than 64.

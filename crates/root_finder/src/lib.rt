@@ -3,7 +3,8 @@
 //
 //   find_roots    the exponents p, the highest first, for which a^p is a root
 //
-// 1. A factor of degree 1 is read off, one of degree 2 solved by stored solutions of y^2 + y = v (quadratic.rt).
+// 1. A factor of degree 1 is read off, one of degree 2 solved by stored solutions of y^2 + y = v (quadratic.rt), one of degree 3 or 4
+//    by a linear system (affine.rt).
 // 2. A larger polynomial has all its roots in the field, and distinct, only if x^(2^m) modulo f is x; else there is nothing to
 //    propose (trace.rt, by the remainders of crate `packed_remainder`).
 // 3. The trace of a^i x is 0 at some of the roots and 1 at the others, so it splits factors (crate `splitting`). The traces for i < m
@@ -11,6 +12,7 @@
 ghost use mathlib.Core.Path.{_≡_};
 ghost use Prim.Native.Nat.{_+_, _≤_, _<_};
 ghost use lib.ListN.{length};
+use affine::affine_roots;
 use coefficient_rows::log_of;
 use field::Field;
 use quadratic::root;
@@ -19,6 +21,7 @@ use splitting::split_all;
 use trace::conjugates;
 use trace::trace;
 
+mod affine;
 mod quadratic;
 mod trace;
 
@@ -37,7 +40,7 @@ fn reversed(c: &[u16; 128], len: usize) -> [u16; 64]
 
 // m: so many conjugates has an element, and so many traces tell every two elements apart.
 fn degree_of(f: Field) -> usize
-    ensures { λ r. ⌜ (9 ≤ r) × (r ≤ 16) ⌝ }
+    ensures { λ r. ⌜ (9 ≤ r) × (r ≤ 15) ⌝ }
 {
     match f {
         Field::Thirteen => 13,
@@ -45,7 +48,7 @@ fn degree_of(f: Field) -> usize
     }
 }
 
-// Splits a polynomial of degree d, in `factors`, until no degree is above 2; whether it came to that.
+// Splits a polynomial of degree d, in `factors`, until no degree is above 4; whether it came to that.
 fn split_fully(
     f: Field,
     powers: &[u16; 16384],
@@ -67,7 +70,7 @@ fn split_fully(
     while i < m {
         let mut t = [0u16; 64];
         trace(powers, n, m, i, &rows, d, &mut t);
-        if split_all(powers, logs, n, &t, d, factors, degrees) < 3 {
+        if split_all(powers, logs, n, &t, d, factors, degrees) < 5 {
             return true;
         }
         i += 1;
@@ -93,7 +96,42 @@ fn insert(places: &mut [u16], count: usize, p: u16)
     places[0] = p;
 }
 
-// Puts the logarithms of the roots of the factor at `at` into the list of places.
+// Puts the logarithm of root k of a factor of degree g at `at` into the list of places, where there is such a root.
+fn put_root(logs: &[u16; 16384], at: usize, g: usize, k: usize, z: u16, places: &mut [u16])
+    requires { ⌜ (at ≤ 59) × (k < 4) × (length (now places) ≡ 64) ⌝ }
+    ensures { λ r. ⌜ length (now (places .exit)) ≡ length (now (places .entry)) ⌝ }
+{
+    if g <= k {
+        return;
+    }
+    insert(places, at + k, log_of(logs, z) as u16);
+}
+
+// Puts the logarithms of the roots of the factor at `at`, which has the degree 3 or 4, into the list of places.
+fn put_affine_roots(
+    f: Field,
+    powers: &[u16; 16384],
+    logs: &[u16; 16384],
+    factors: &[u16; 64],
+    at: usize,
+    g: usize,
+    places: &mut [u16],
+)
+    requires { ⌜ (at ≤ 59) × (length (now places) ≡ 64) ⌝ }
+    ensures { λ r. ⌜ length (now (places .exit)) ≡ length (now (places .entry)) ⌝ }
+{
+    let n = f.longest() as usize;
+    let m = degree_of(f);
+    let roots = affine_roots(powers, logs, n, m, factors, at, g);
+    let mut k: usize = 0;
+    while k < 4 {
+        let z = roots[3 - k];
+        put_root(logs, at, g, k, z, places);
+        k += 1;
+    }
+}
+
+// Puts the logarithms of the roots of the factor at `at`, which has the degree g, into the list of places.
 fn put_roots(
     f: Field,
     powers: &[u16; 16384],
@@ -106,6 +144,10 @@ fn put_roots(
     requires { ⌜ (0 < g) × (at + g ≤ 62) × (length (now places) ≡ 64) ⌝ }
     ensures { λ r. ⌜ length (now (places .exit)) ≡ length (now (places .entry)) ⌝ }
 {
+    if 2 < g {
+        put_affine_roots(f, powers, logs, factors, at, g, places);
+        return;
+    }
     let n = f.longest() as usize;
     let c = factors[at];
     let b = factors[at + 1];
@@ -116,7 +158,7 @@ fn put_roots(
     }
 }
 
-// The places of the roots of factors whose degrees are 1 and 2.
+// The places of the roots of factors whose degrees are at most 4.
 fn read_off(
     f: Field,
     powers: &[u16; 16384],
@@ -156,7 +198,7 @@ pub fn find_roots(
     let mut factors = reversed(c, len);
     let mut degrees = [0u16; 64];
     degrees[0] = len as u16;
-    if 2 < len {
+    if 4 < len {
         if !split_fully(f, powers, logs, len, &mut factors, &mut degrees) {
             return nothing;
         }

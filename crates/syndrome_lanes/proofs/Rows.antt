@@ -2,7 +2,7 @@
 --
 -- Filling powers p s i e v     row p of s is begun in v: its i first lanes are there, and e is the next exponent
 -- Adding s r p i v        row p of r is added to the i first lanes of s
--- Scanning r x s y v      what v lacks of s with the terms of x is the terms of y
+-- Scanning w r x s y v    what v lacks in its w first lanes of s with the terms of x is the terms of y
 -- Raising f t s i e v     the i first lanes of s are multiplied
 use mathlib.Core.Path.{_≡_, refl, sym, ap, ap₂, _∙_, subst}
 use mathlib.Core.Bool.{cond}
@@ -284,6 +284,10 @@ module _ (t : ℕ) where
   pub filled-next : {powers s v : List ℕ} (n : ℕ) → t ≤ 62 → n < 32 → Filled powers t n s → Rowed powers t n s v → Filled powers t (n + 1) v
   filled-next n b c h g = record { full = g .full; made = λ f q. rows-next f t n b c q (h .made f q) g }
 
+-- fewer lanes
+pub filled-fewer : {powers rows : List ℕ} {t u n : ℕ} → t ≤ u → Filled powers u n rows → Filled powers t n rows
+filled-fewer l h = record { full = h .full; made = λ f q. record { full = h .full; at = λ p i m b. h .made f q .at p i m (omega arith) } }
+
 -- ---- a row added
 
 pub record Adding (rows : List ℕ) (p : ℕ) (s : List ℕ) (i : ℕ) (v : List ℕ) : Type 0 where
@@ -308,23 +312,23 @@ adding-next {rows} {s} {v} {p} i l h = record {
     go k n (yes q) = getD-set-other v i k x 0 (omega arith) ∙ h .done k q
     go k n (no q) = let w : k ≡ i = omega arith in rw (w, getD-set-same v i x 0 (omega (arith, h .full))) (ap (λ z. bitXor z (getD rows (64 * p + i) 0)) (h .rest i (omega arith)))
 
-pub adding-end : {rows s v : List ℕ} {p i : ℕ} → 64 ≤ i → Adding rows p s i v → Added rows p s v
+pub adding-end : {rows s v : List ℕ} {w p i : ℕ} → w ≤ i → Adding rows p s i v → Added w rows p s v
 adding-end m h = record { full = h .full; lane = λ k l. h .done k (omega arith) }
 
 -- ---- the ones of a word
 
-pub record Scanning (rows : List ℕ) (x : ℕ) (s : List ℕ) (y : ℕ) (v : List ℕ) : Type 0 where
+pub record Scanning (w : ℕ) (rows : List ℕ) (x : ℕ) (s : List ℕ) (y : ℕ) (v : List ℕ) : Type 0 where
   pub full : length v ≡ 64
-  pub lane : (f : Field) (t i : ℕ) → Rows f t 32 rows → t < 64 → i < t
+  pub lane : (f : Field) (t i : ℕ) → Rows f t 32 rows → t ≤ w → i < t
       → bitXor (getD v i 0) (terms f y 32 (suc (i + i))) ≡ bitXor (getD s i 0) (terms f x 32 (suc (i + i)))
 
-pub scanning-start : {rows s : List ℕ} {x : ℕ} → length s ≡ 64 → Scanning rows x s x s
+pub scanning-start : {rows s : List ℕ} {w x : ℕ} → length s ≡ 64 → Scanning w rows x s x s
 scanning-start h = record { full = h; lane = λ f t i r l m. refl }
 
-pub scanning-next : {rows s v u : List ℕ} {x y p : ℕ} → Lowest y p 32 → Scanning rows x s y v → Added rows p v u → Scanning rows x s (y - 2 ^ p) u
-scanning-next {rows} {s} {v} {u} {x} {y} {p} low h g = record { full = g .full; lane = lane }
+pub scanning-next : {rows s v u : List ℕ} {w x y p : ℕ} → Lowest y p 32 → Scanning w rows x s y v → Added w rows p v u → Scanning w rows x s (y - 2 ^ p) u
+scanning-next {rows} {s} {v} {u} {w} {x} {y} {p} low h g = record { full = g .full; lane = lane }
   where
-    lane : (f : Field) (t i : ℕ) → Rows f t 32 rows → t < 64 → i < t
+    lane : (f : Field) (t i : ℕ) → Rows f t 32 rows → t ≤ w → i < t
         → bitXor (getD u i 0) (terms f (y - 2 ^ p) 32 (suc (i + i))) ≡ bitXor (getD s i 0) (terms f x 32 (suc (i + i)))
     lane f t i r l m =
         ap (λ z. bitXor z (terms f (y - 2 ^ p) 32 (suc (i + i)))) (g .lane i (omega arith) ∙ ap (bitXor (getD v i 0)) (r .at p i (low .less) m))
@@ -332,11 +336,15 @@ scanning-next {rows} {s} {v} {u} {x} {y} {p} low h g = record { full = g .full; 
         ∙ ap (bitXor (getD v i 0)) (xor-comm (a^ f (suc (i + i) * p)) (terms f (y - 2 ^ p) 32 (suc (i + i))) ∙ sym (terms-lowest f (suc (i + i)) low))
         ∙ h .lane f t i r l m
 
-pub scanning-end : {rows s v : List ℕ} {x y : ℕ} → y ≡ 0 → Scanning rows x s y v → Scanned rows x s v
-scanning-end {rows} {s} {v} {x} {y} e h = record {
+pub scanning-end : {rows s v : List ℕ} {w x y : ℕ} → y ≡ 0 → Scanning w rows x s y v → Scanned w rows x s v
+scanning-end {rows} {s} {v} {w} {x} {y} e h = record {
   full = h .full;
   lane = λ f t i r l m. sym (xor-zero-r _) ∙ ap (bitXor (getD v i 0)) (sym (terms-of-zero f (suc (i + i)) 32) ∙ ap (λ z. terms f z 32 (suc (i + i))) (sym e)) ∙ h .lane f t i r l m;
 }
+
+-- fewer lanes
+pub scanned-fewer : {rows s v : List ℕ} {t w x : ℕ} → t ≤ w → Scanned w rows x s v → Scanned t rows x s v
+scanned-fewer l h = record { full = h .full; lane = λ f u i r m b. h .lane f u i r (omega arith) b }
 
 -- ---- lanes multiplied
 
@@ -377,12 +385,12 @@ module _ (f : Field) where
     pub lanes-below : {x n : ℕ} {v : List ℕ} → Lanes f t x n v → (i : ℕ) → i < t → getD v i 0 < 2 ^ degree f
     lanes-below {x} {n} h i l = rw (h .lane i l) (terms-below f (suc (i + i)) x n)
 
-    pub lanes-next : {rows v u z : List ℕ} {x y n w : ℕ} → Rows f t 32 rows → t < 64 → w < 2 ^ 32 → y ≡ x * 2 ^ 32 + w
-        → Lanes f t x n v → Raised f t v u → Scanned rows w u z → Lanes f t y (n + 32) z
-    lanes-next {rows} {v} {u} {z} {x} {y} {n} {w} r l m e h g k = record {
+    pub lanes-next : {rows v u z : List ℕ} {x y n w : ℕ} → Rows f t 32 rows → w < 2 ^ 32 → y ≡ x * 2 ^ 32 + w
+        → Lanes f t x n v → Raised f t v u → Scanned t rows w u z → Lanes f t y (n + 32) z
+    lanes-next {rows} {v} {u} {z} {x} {y} {n} {w} r m e h g k = record {
       full = k .full;
       lane = λ i b.
-          k .lane f t i r l b
+          k .lane f t i r (omega arith) b
           ∙ ap (λ c. bitXor c (terms f w 32 (suc (i + i)))) (g .lane i b ∙ ap (λ c. mul (degree f) (modulus f) c (a^ f (32 * suc (i + i)))) (h .lane i b))
           ∙ sym (terms-up f (suc (i + i)) x w 32 n m)
           ∙ ap (λ c. terms f c (n + 32) (suc (i + i))) (sym e);
@@ -394,15 +402,15 @@ module _ (f : Field) where
       lane = λ i b. h .lane i b ∙ (let e : n ≡ n - d + d = omega arith in ap (λ c. terms f x c (suc (i + i))) e) ∙ terms-more f (suc (i + i)) x d (n - d) l;
     }
 
-    pub lanes-digit : {rows v u z : List ℕ} (ws : List ℕ) (n i : ℕ) → Words ws → i < n → n ≤ 2 * length ws → Rows f t 32 rows → t < 64
+    pub lanes-digit : {rows v u z : List ℕ} (ws : List ℕ) (n i : ℕ) → Words ws → i < n → n ≤ 2 * length ws → Rows f t 32 rows
         → Lanes f t (register ws / 2 ^ (32 * (n - i))) (32 * i) v → Raised f t v u
-        → Scanned rows (getD ws ((n - 1 - i) / 2) 0 / 2 ^ (32 * ((n - 1 - i) % 2)) % 2 ^ 32) u z
+        → Scanned t rows (getD ws ((n - 1 - i) / 2) 0 / 2 ^ (32 * ((n - 1 - i) % 2)) % 2 ^ 32) u z
         → Lanes f t (register ws / 2 ^ (32 * (n - (i + 1)))) (32 * (i + 1)) z
-    lanes-digit ws n i h l m r b lanes raised scanned =
+    lanes-digit ws n i h l m r lanes raised scanned =
         let p : n - (i + 1) ≡ n - 1 - i = omega arith in
         let q : n - i ≡ n - 1 - i + 1 = omega arith in
         let w : 32 * (i + 1) ≡ 32 * i + 32 = omega arith in
-        rw (p, w) (lanes-next r b (mod-lt _ (pow-pos 32)) (register-digit ws h (n - 1 - i) (omega arith)) (rw q at lanes) raised scanned)
+        rw (p, w) (lanes-next r (mod-lt _ (pow-pos 32)) (register-digit ws h (n - 1 - i) (omega arith)) (rw q at lanes) raised scanned)
 
     pub lanes-done : {v : List ℕ} (ws : List ℕ) (n i d : ℕ) → i ≡ n → register ws < 2 ^ d → d ≤ 32 * n
         → Lanes f t (register ws / 2 ^ (32 * (n - i))) (32 * i) v → Lanes f t (register ws) d v

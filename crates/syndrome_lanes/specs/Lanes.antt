@@ -4,13 +4,13 @@
 -- Rows f t n rows      the n first rows, of 64 lanes each, are the powers: lane i of row p is the value of x^p
 -- Rowed powers t p s v v is s with row p in place, from a table of powers; the rows before it stay
 -- Lanes f t x n v      the lanes of v are the values of the n lowest terms of x
--- Scanned rows x s v   v is s with the values of the 32 terms of x added, whatever the field of the rows
+-- Scanned w rows x s v  v is s with the values of the 32 terms of x added in the w first lanes, whatever the field of the rows
 -- Raised f t s v       v is s times x^32 in each lane
 -- Filled powers t n rows   the n first rows are those of the field of the powers
--- Added rows p s v      v is s with row p added
+-- Added w rows p s v    v is s with row p added in the w first lanes
 use mathlib.Core.Path.{_≡_}
 use mathlib.Core.List.{List}
-use Prim.Native.Nat.{ℕ, suc, _+_, _*_, _<_}
+use Prim.Native.Nat.{ℕ, suc, _+_, _*_, _≤_, _<_}
 use lib.ListN.{length, getD}
 use lib.Bits.{bitXor}
 use Rattle.bits.specs.Bits.{digits}
@@ -45,10 +45,10 @@ pub record Filled (powers : List ℕ) (t n : ℕ) (rows : List ℕ) : Type 0 whe
   pub full : length rows ≡ 2048
   pub made : (f : Field) → Powers f powers → Rows f t n rows
 
-pub record Added (rows : List ℕ) (p : ℕ) (s v : List ℕ) : Type 0 where
+pub record Added (w : ℕ) (rows : List ℕ) (p : ℕ) (s v : List ℕ) : Type 0 where
   pub full : length v ≡ 64
-  pub lane : (i : ℕ) → i < 64 → getD v i 0 ≡ bitXor (getD s i 0) (getD rows (64 * p + i) 0)
+  pub lane : (i : ℕ) → i < w → getD v i 0 ≡ bitXor (getD s i 0) (getD rows (64 * p + i) 0)
 
-pub record Scanned (rows : List ℕ) (x : ℕ) (s v : List ℕ) : Type 0 where
+pub record Scanned (w : ℕ) (rows : List ℕ) (x : ℕ) (s v : List ℕ) : Type 0 where
   pub full : length v ≡ 64
-  pub lane : (f : Field) (t i : ℕ) → Rows f t 32 rows → t < 64 → i < t → getD v i 0 ≡ bitXor (getD s i 0) (terms f x 32 (suc (i + i)))
+  pub lane : (f : Field) (t i : ℕ) → Rows f t 32 rows → t ≤ w → i < t → getD v i 0 ≡ bitXor (getD s i 0) (terms f x 32 (suc (i + i)))

@@ -36,7 +36,7 @@ fn fill_row(powers: &[u16; 16384], rows: &mut [u16; 2048], t: usize, p: usize)
 }
 
 // The rows of 32 terms, for lanes below t.
-pub fn fill_rows(powers: &[u16; 16384], rows: &mut [u16; 2048], t: usize)
+fn fill_lanes(powers: &[u16; 16384], rows: &mut [u16; 2048], t: usize)
     requires { ⌜ (t ≤ 62) × (length (now rows) ≡ 2048) ⌝ }
     ensures { λ r. ⌜ Filled (now (powers .entry)) t 32 (now (rows .exit)) ⌝ }
 {
@@ -47,14 +47,26 @@ pub fn fill_rows(powers: &[u16; 16384], rows: &mut [u16; 2048], t: usize)
     }
 }
 
-// Adds row p to the lanes.
-fn add_row(rows: &[u16; 2048], lanes: &mut [u16; 64], p: usize)
-    requires { ⌜ (p < 32) × (length (now lanes) ≡ 64) ⌝ }
-    ensures { λ r. ⌜ Added (now (rows .entry)) p (now (lanes .entry)) (now (lanes .exit)) ⌝ }
+// The same. Up to 16 lanes are filled as 16, a number that the compiler knows: it unrolls the loop over them.
+pub fn fill_rows(powers: &[u16; 16384], rows: &mut [u16; 2048], t: usize)
+    requires { ⌜ (t ≤ 62) × (length (now rows) ≡ 2048) ⌝ }
+    ensures { λ r. ⌜ Filled (now (powers .entry)) t 32 (now (rows .exit)) ⌝ }
+{
+    if t <= 16 {
+        fill_lanes(powers, rows, 16);
+        return;
+    }
+    fill_lanes(powers, rows, t);
+}
+
+// Adds row p to the first `width` lanes.
+fn add_row(rows: &[u16; 2048], lanes: &mut [u16; 64], p: usize, width: usize)
+    requires { ⌜ (p < 32) × (length (now lanes) ≡ 64) × (width ≤ 64) ⌝ }
+    ensures { λ r. ⌜ Added width (now (rows .entry)) p (now (lanes .entry)) (now (lanes .exit)) ⌝ }
 {
     let at = 64 * p;
     let mut i: usize = 0;
-    while i < 64 {
+    while i < width {
         let k = at + i;
         let old = lanes[i];
         let power = rows[k];
@@ -63,19 +75,31 @@ fn add_row(rows: &[u16; 2048], lanes: &mut [u16; 64], p: usize)
     }
 }
 
-// Adds the rows of the ones of a digit.
-fn add_digit(rows: &[u16; 2048], lanes: &mut [u16; 64], word: u32)
-    requires { ⌜ length (now lanes) ≡ 64 ⌝ }
-    ensures { λ r. ⌜ Scanned (now (rows .entry)) word (now (lanes .entry)) (now (lanes .exit)) ⌝ }
+// Adds the rows of the ones of a digit to the first `width` lanes.
+fn add_digit(rows: &[u16; 2048], lanes: &mut [u16; 64], word: u32, width: usize)
+    requires { ⌜ (length (now lanes) ≡ 64) × (width ≤ 64) ⌝ }
+    ensures { λ r. ⌜ Scanned width (now (rows .entry)) word (now (lanes .entry)) (now (lanes .exit)) ⌝ }
 {
     let mut left = word;
     while left != 0 {
         let zeros = u32::trailing_zeros(left);
         let p = zeros as usize;
-        add_row(rows, lanes, p);
+        add_row(rows, lanes, p, width);
         let one = 1u32 << zeros;
         left = left - one;
     }
+}
+
+// The same for lanes below t, with the number of lanes written out, so that the compiler keeps them in registers.
+fn add_digit_fixed(rows: &[u16; 2048], lanes: &mut [u16; 64], word: u32, t: usize)
+    requires { ⌜ (length (now lanes) ≡ 64) × (t ≤ 62) ⌝ }
+    ensures { λ r. ⌜ Scanned t (now (rows .entry)) word (now (lanes .entry)) (now (lanes .exit)) ⌝ }
+{
+    if t <= 16 {
+        add_digit(rows, lanes, word, 16);
+        return;
+    }
+    add_digit(rows, lanes, word, 64);
 }
 
 // Multiplies lane i by a^(32 (2i + 1)).
@@ -117,7 +141,7 @@ pub fn lane_values(
         let at = n - 1 - i;
         let word = ((words[at / 2] >> (32 * (at % 2))) % 4294967296) as u32;
         raise(f, powers, logs, &mut lanes, t);
-        add_digit(rows, &mut lanes, word);
+        add_digit_fixed(rows, &mut lanes, word, t);
         i += 1;
     }
     lanes

@@ -9,13 +9,13 @@ use Rattle.syndrome_lanes.proofs.add_digit.Statement.{statement}
 use Rattle.syndrome_lanes.proofs.add_digit.Tie as tie
 
 abbrev Inv-loop : tie.InvT-loop
-Inv-loop rows lanes₀ word left₀ lanes left = (left < 4294967296) × (Scanning rows word lanes₀ left lanes)
+Inv-loop rows lanes₀ word width left₀ lanes left = (left < 4294967296) × (Scanning width rows word lanes₀ left lanes)
 
 abbrev μ-loop : tie.MeasureT-loop
-μ-loop rows lanes₀ word left₀ lanes left = left
+μ-loop rows lanes₀ word width left₀ lanes left = left
 
 loop-holds : tie.Need-loop-holds Inv-loop μ-loop
-loop-holds c = (search needs, scanning-start (c .pre))
+loop-holds c = (search needs, scanning-start (c .pre .0))
 
 cast-p : tie.Need-cast-p Inv-loop μ-loop
 cast-p c = omega (arith, trailing-le 32 (c .before .loop .left))
@@ -26,7 +26,7 @@ add-row-requires c κs =
     let z : 0 < l .loop .left = search needs in
     let m : l .loop .left < 4294967296 = l .loop .inv .0 in
     let low = lowest 32 (l .loop .left) z m in
-    (low .less, l .loop .inv .1 .full)
+    (low .less, l .loop .inv .1 .full, l .before .pre .1)
 
 shl-one : tie.Need-shl-one Inv-loop μ-loop
 shl-one c =

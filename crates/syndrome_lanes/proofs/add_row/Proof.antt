@@ -7,10 +7,10 @@ use Rattle.syndrome_lanes.proofs.add_row.Statement.{statement}
 use Rattle.syndrome_lanes.proofs.add_row.Tie as tie
 
 abbrev Inv-loop : tie.InvT-loop
-Inv-loop rows lanes₀ p at i₀ lanes i = (i ≤ 64) × (Adding rows p lanes₀ i lanes)
+Inv-loop rows lanes₀ p width at i₀ lanes i = (i ≤ width) × (Adding rows p lanes₀ i lanes)
 
 abbrev μ-loop : tie.MeasureT-loop
-μ-loop rows lanes₀ p at i₀ lanes i = 64 - i
+μ-loop rows lanes₀ p width at i₀ lanes i = width - i
 
 mul-at : tie.Need-mul-at Inv-loop μ-loop
 mul-at c = search needs

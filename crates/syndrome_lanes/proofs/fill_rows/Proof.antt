@@ -1,46 +1,21 @@
 -- `syndrome_lanes::fill_rows` meets its contract.
-use mathlib.Core.Path.{_≡_}
-use Prim.Native.Nat.{_-_, _≤_}
 use native.Mathlib.Omega.{arith}
 use borrow.Author.Needs.{needs}
-use Rattle.syndrome_lanes.specs.Lanes.{Filled}
-use Rattle.syndrome_lanes.proofs.Rows.{filled-start, filled-next}
+use Rattle.syndrome_lanes.proofs.Rows.{filled-fewer}
 use Rattle.syndrome_lanes.proofs.fill_rows.Statement.{statement}
 use Rattle.syndrome_lanes.proofs.fill_rows.Tie as tie
 
-abbrev Inv-loop : tie.InvT-loop
-Inv-loop powers rows₀ t p₀ rows p = (p ≤ 32) × (Filled powers t p rows)
+fill-lanes-requires : tie.Need-fill-lanes-requires
+fill-lanes-requires c κs = search needs
 
-abbrev μ-loop : tie.MeasureT-loop
-μ-loop powers rows₀ t p₀ rows p = 32 - p
+returns : tie.Need-returns
+returns c = filled-fewer (omega arith) (c .fill-lanes .ensures)
 
-loop-holds : tie.Need-loop-holds Inv-loop μ-loop
-loop-holds c = (omega arith, filled-start _ (c .pre .1))
+fill-lanes-requires-2 : tie.Need-fill-lanes-requires-2
+fill-lanes-requires-2 c κs = search needs
 
-fill-row-requires : tie.Need-fill-row-requires Inv-loop μ-loop
-fill-row-requires c κs = let l = c .before .before in (l .before .pre .0, omega arith, l .loop .inv .1 .full)
-
-add-p : tie.Need-add-p Inv-loop μ-loop
-add-p c = search needs
-
-loop-less : tie.Need-loop-less Inv-loop μ-loop
-loop-less c = search needs
-
-loop-again : tie.Need-loop-again Inv-loop μ-loop
-loop-again c = let l = c .before .before .before in (omega arith, filled-next _ _ (l .before .pre .0) (omega arith) (l .loop .inv .1) (c .fill-row .ensures))
-
-returns : tie.Need-returns Inv-loop μ-loop
-returns c = let l = c .before in let e : l .loop .p ≡ 32 = omega arith in rw e at (l .loop .inv .1)
+returns-2 : tie.Need-returns-2
+returns-2 c = filled-fewer (omega arith) (c .fill-lanes2 .ensures)
 
 pub fill-rows-spec : {M : Type 1} → statement M
-fill-rows-spec =
-    tie.close
-    (tie.spec
-    Inv-loop
-    μ-loop
-    loop-holds
-    fill-row-requires
-    add-p
-    loop-less
-    loop-again
-    returns)
+fill-rows-spec = tie.close (tie.spec fill-lanes-requires returns fill-lanes-requires-2 returns-2)

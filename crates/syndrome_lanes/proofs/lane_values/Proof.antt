@@ -61,8 +61,8 @@ cast-word c = search needs
 raise-requires : tie.Need-raise-requires Inv-loop μ-loop
 raise-requires c κs = let l = c .before .before in let s = l .before .before .before in (s .pre .0 .0, (s .pre .1 .0, l .loop .inv .3 .full, lanes-below _ _ (l .loop .inv .3)))
 
-add-digit-requires : tie.Need-add-digit-requires Inv-loop μ-loop
-add-digit-requires c κs = c .before .raise .ensures .full
+add-digit-fixed-requires : tie.Need-add-digit-fixed-requires Inv-loop μ-loop
+add-digit-fixed-requires c κs = (c .before .raise .ensures .full, c .before .before .before .before .before .before .before .pre .1 .0)
 
 add-i : tie.Need-add-i Inv-loop μ-loop
 add-i c = search needs
@@ -76,7 +76,7 @@ loop-again c =
     let s = l .before .before .before in
     let d = l .before .before .parity-bits .ensures in
     let most = parity-bits-below (s .args .f) (s .args .t) (s .pre .1 .0) in
-    (omega arith, l .loop .inv .1, l .loop .inv .2, lanes-digit _ _ _ _ (l .loop .i) (l .loop .inv .2) (omega arith) (omega (arith, d, most, l .loop .inv .1)) (s .pre .0 .1) (omega (arith, s .pre .1 .0)) (l .loop .inv .3) (c .before .before .raise .ensures) (c .add-digit .ensures))
+    (omega arith, l .loop .inv .1, l .loop .inv .2, lanes-digit _ _ _ _ (l .loop .i) (l .loop .inv .2) (omega arith) (omega (arith, d, most, l .loop .inv .1)) (s .pre .0 .1) (l .loop .inv .3) (c .before .before .raise .ensures) (c .add-digit-fixed .ensures))
 
 returns : tie.Need-returns Inv-loop μ-loop
 returns c =
@@ -103,7 +103,7 @@ lane-values-spec =
     shr-word
     cast-word
     raise-requires
-    add-digit-requires
+    add-digit-fixed-requires
     add-i
     loop-less
     loop-again

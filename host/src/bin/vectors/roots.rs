@@ -26,6 +26,20 @@ pub fn vectors() -> Vectors {
             }
         }
     }
+    // Small locators, which have their own ways; the last one divides 1 by 1 on its way.
+    for choice in FieldChoice::ALL {
+        for count in [3, 4] {
+            for _ in 0..400 {
+                let places = random.distinct(count, choice.field().order());
+                add(&mut vectors, choice, places);
+            }
+        }
+    }
+    add(
+        &mut vectors,
+        FieldChoice::Fourteen,
+        vec![3581, 3453, 3322, 855],
+    );
     vectors
 }
 

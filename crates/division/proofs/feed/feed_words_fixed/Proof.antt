@@ -21,8 +21,8 @@ feed-words-requires-2 c κs =
 returns-2 : tie.Need-returns-2
 returns-2 c = c .feed-words2 .ensures ∙ rw (c .before .if2 .taken)
 
-feed-words-requires-3 : tie.Need-feed-words-requires-3
-feed-words-requires-3 c κs =
+feed-long-words-requires : tie.Need-feed-long-words-requires
+feed-long-words-requires c κs =
     let p = c .before .before .before .before .pre in
     let e = wide-last (p .0 .wide) (c .before .if1 .left) (c .if2 .left) in
     (rw e at (p .0), rw e at (p .1), p .2)
@@ -31,7 +31,7 @@ returns-3 : tie.Need-returns-3
 returns-3 c =
     let b = c .before in
     let e = wide-last (b .before .before .before .before .pre .0 .wide) (b .before .if1 .left) (b .if2 .left) in
-    c .feed-words3 .ensures ∙ rw e
+    c .feed-long-words .ensures ∙ rw e
 
 pub feed-words-fixed-spec : {M : Type 1} → statement M
 feed-words-fixed-spec =
@@ -41,5 +41,5 @@ feed-words-fixed-spec =
     returns
     feed-words-requires-2
     returns-2
-    feed-words-requires-3
+    feed-long-words-requires
     returns-3)
