@@ -1,0 +1,3 @@
+-- Sequences of calls on a store.
+pub mod Runs
+pub mod Reached
