@@ -5,3 +5,4 @@ pub mod Lists
 pub mod Reached
 pub mod Numbers
 pub mod OnFlash
+pub mod Demands
