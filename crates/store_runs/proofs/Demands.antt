@@ -36,7 +36,7 @@ use Rattle.store_runs.specs.Runs.{lookupAnswer, versionOf, Call, afterAl
 use Rattle.store_runs.specs.Reached as reached
 use Rattle.store_runs.specs.Reached.{Reached}
 use Rattle.store_runs.specs.Versions.{Names}
-use Rattle.store_runs.proofs.Lists.{accepted-found}
+use Rattle.store_runs.proofs.Lists.{every-found}
 use Rattle.store_runs.proofs.Reached.{reached-all}
 use Rattle.store_runs.proofs.Numbers.{one-layout, same-version}
 
@@ -55,7 +55,7 @@ accepted-plan e a =
 
 pub held-names : (s : Listed) → Reached s → (v : ℕ) (e : Numbered) → find (s .layouts) v ≡ Found e → (w : Words) × Names s v w (e .plan)
 held-names s r v e h =
-    let a = accepted-found v e (r .accepted) h in
+    let a = every-found v e (r .accepted) h in
     (a .words, record { entry = e; found = h; plan = refl; edition = a .edition; accepts = accepted-plan e a; answer = found-answer s v e h a })
 
 module _ (s : Listed) (r : Reached s) (v : ℕ) (w : Words) (q : Plan) (n : Names s v w q) where

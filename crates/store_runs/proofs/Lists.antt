@@ -2,7 +2,7 @@
 --
 -- fresh-wider, fresh-holds, fresh-append, fresh-without      numbers below a bound
 -- once-append, once-without                                               numbers that stand once
--- accepted-append, accepted-without, accepted-found                       accepted layouts
+-- every-append, every-without, every-found                                what holds of every layout
 -- known-append, all-append, all-without, all-set, all-small               versions that are known
 -- find-append, find-other, find-without, find-removed, find-small         what is found
 use mathlib.Core.Path.{_≡_, refl, sym, ap, _∙_}
@@ -20,7 +20,7 @@ use Rattle.store.specs.declared.Lookup.the-variants.{Found, Unknown}
 use Rattle.store.specs.Plain.{find, holds, known, without}
 use Rattle.store.specs.Saved.{allKnown}
 use Rattle.store_runs.specs.Reached as reached
-use Rattle.store_runs.specs.Reached.{Fresh, Once, Accepted, AllAccepted}
+use Rattle.store_runs.specs.Reached.{Fresh, Once, Every}
 
 apart : {A : Type 0} → true ≡ false → A
 apart e = let z : _≡_ {A = ℕ} 0 1 = cc in absurd (omega arith)
@@ -107,29 +107,30 @@ once-without v (reached.next {e} {l} h o) = go (eqb (e .number) v) (once-without
     go true i = o
     go false i = reached.next (holds-less l v (e .number) h) i
 
--- ---- accepted layouts
+-- ---- what holds of every layout
 
-pub accepted-append : {l : List Numbered} {e : Numbered} → Accepted e → AllAccepted l → AllAccepted (l ++ (e ∷ []))
-accepted-append a reached.none = reached.next a reached.none
-accepted-append a (reached.next b i) = reached.next b (accepted-append a i)
+module _ {P : Numbered → Type 0} where
+  pub every-append : {l : List Numbered} (e : Numbered) → P e → Every P l → Every P (l ++ (e ∷ []))
+  every-append e a reached.none = reached.next a reached.none
+  every-append e a (reached.next b i) = reached.next b (every-append e a i)
 
-pub accepted-without : {l : List Numbered} (v : ℕ) → AllAccepted l → AllAccepted (without l v)
-unfolding without
-accepted-without v reached.none = reached.none
-accepted-without v (reached.next {e} {l} a i) = go (eqb (e .number) v) (accepted-without v i)
-  where
-    go : (t : Bool) → AllAccepted (without l v) → AllAccepted (cond t l (e ∷ without l v))
-    go true k = i
-    go false k = reached.next a k
+  pub every-without : {l : List Numbered} (v : ℕ) → Every P l → Every P (without l v)
+  unfolding without
+  every-without v reached.none = reached.none
+  every-without v (reached.next {e} {l} a i) = go (eqb (e .number) v) (every-without v i)
+    where
+      go : (t : Bool) → Every P (without l v) → Every P (cond t l (e ∷ without l v))
+      go true k = i
+      go false k = reached.next a k
 
-pub accepted-found : {l : List Numbered} (v : ℕ) (x : Numbered) → AllAccepted l → find l v ≡ Found x → Accepted x
-unfolding find
-accepted-found v x reached.none h = let z : _≡_ {A = ℕ} 0 1 = cc in absurd (omega arith)
-accepted-found v x (reached.next {e} {l} a i) h = go (eqb (e .number) v) h (accepted-found v x i)
-  where
-    go : (t : Bool) → cond t (Found e) (find l v) ≡ Found x → (find l v ≡ Found x → Accepted x) → Accepted x
-    go true k j = let y : e ≡ x = cc in rw y at a
-    go false k j = j k
+  pub every-found : {l : List Numbered} (v : ℕ) (x : Numbered) → Every P l → find l v ≡ Found x → P x
+  unfolding find
+  every-found v x reached.none h = let z : _≡_ {A = ℕ} 0 1 = cc in absurd (omega arith)
+  every-found v x (reached.next {e} {l} a i) h = go (eqb (e .number) v) h (every-found v x i)
+    where
+      go : (t : Bool) → cond t (Found e) (find l v) ≡ Found x → (find l v ≡ Found x → P x) → P x
+      go true k j = let y : e ≡ x = cc in rw y at a
+      go false k j = j k
 
 -- ---- versions that are known
 

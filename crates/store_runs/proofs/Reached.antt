@@ -20,7 +20,7 @@ use Rattle.store_runs.specs.Runs.{Call, store, remove, set, inUse, save,
 use Rattle.store_runs.specs.Reached as reached
 use Rattle.store_runs.specs.Reached.{Reached}
 use Rattle.store_runs.proofs.Changes.{Refuses, Added, Removed, Set, Loaded, store-cases, remove-cases, set-cases, load-cases}
-use Rattle.store_runs.proofs.Lists.{fresh-wider, fresh-append, fresh-without, once-append, once-without, accepted-append, accepted-without}
+use Rattle.store_runs.proofs.Lists.{fresh-wider, fresh-append, fresh-without, once-append, once-without, every-append, every-without}
 use Rattle.store_runs.proofs.Lists.{all-append, all-without, all-set}
 
 pub reached-empty : Reached empty
@@ -57,7 +57,7 @@ module _ (s : Listed) (r : Reached s) where
     bound = omega (arith, a .number);
     fresh = fresh-append _ (r .some) (omega arith) (fresh-wider (s .next + 1) (omega arith) (r .fresh));
     once = once-append _ (r .fresh) (r .once);
-    accepted = accepted-append (record { words = w; layout = a .layout; accepted = a .accepted; plan = refl; edition = refl }) (r .accepted);
+    accepted = every-append _ (record { words = w; layout = a .layout; accepted = a .accepted; plan = refl; edition = refl }) (r .accepted);
     chips = r .chips;
     uses = all-append (s .layouts) _ (s .uses) (r .uses);
   })
@@ -70,7 +70,7 @@ module _ (s : Listed) (r : Reached s) where
     bound = r .bound;
     fresh = fresh-without v (r .fresh);
     once = once-without v (r .once);
-    accepted = accepted-without v (r .accepted);
+    accepted = every-without v (r .accepted);
     chips = r .chips;
     uses = all-without (s .layouts) v (s .uses) (a .unused) (r .uses);
   })

@@ -3,7 +3,7 @@
 -- Fresh l n            every number in the list is from 1 up and below n
 -- Once l               no number stands in the list twice
 -- Accepted e           the numbered layout e is the accepted layout of an edition and a record, and has its edition
--- AllAccepted l        so is every layout of the list
+-- Every P l            P holds of every layout of the list
 -- Reached s            what a state has: at most 32 layouts, numbers up to 65,535, each once and below the next, accepted layouts, 16 numbers,
 --                      and every version in use is 0 or in the store
 use mathlib.Core.Path.{_≡_}
@@ -35,9 +35,9 @@ pub record Accepted (e : Numbered) : Type 0 where
   pub plan : e .plan ≡ planOf layout
   pub edition : e .edition ≡ words .edition
 
-pub data AllAccepted : List Numbered → Type 0 where
-  none : AllAccepted []
-  next : {e : Numbered} {l : List Numbered} → Accepted e → AllAccepted l → AllAccepted (e ∷ l)
+pub data Every (P : Numbered → Type 0) : List Numbered → Type 0 where
+  none : Every P []
+  next : {e : Numbered} {l : List Numbered} → P e → Every P l → Every P (e ∷ l)
 
 pub record Reached (s : Listed) : Type 0 where
   pub few : length (s .layouts) ≤ 32
@@ -45,6 +45,6 @@ pub record Reached (s : Listed) : Type 0 where
   pub bound : s .next ≤ 65536
   pub fresh : Fresh (s .layouts) (s .next)
   pub once : Once (s .layouts)
-  pub accepted : AllAccepted (s .layouts)
+  pub accepted : Every Accepted (s .layouts)
   pub chips : length (s .uses) ≡ 16
   pub uses : allKnown (s .layouts) (s .uses) ≡ true
