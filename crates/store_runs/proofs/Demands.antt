@@ -5,6 +5,7 @@
 -- names-on                       where a later state of the sequence holds it, it is the layout of the same words
 -- names-sums                     the sums kept with it are document 01's (document 02, E8)
 -- write-named, look-named, take-named, judge-named, claim-named    a page call by version is the call with the edition and the record
+-- unknown-write, unknown-look, unknown-take, unknown-judge, unknown-claim    an unknown version is 7, and what was lent is left
 -- version-writes, version-writes-only, version-looks, version-takes    demand 2
 -- version-look-refused-.., version-take-refused-..                demand 3, the refusal clause: naming, when, only
 -- version-reads-back, version-told-apart                          the rest of demand 3
@@ -17,20 +18,21 @@ use Rattle.bits.specs.Bits.{run}
 use Rattle.layout.specs.declared.Plan.{Plan}
 use Rattle.layout.specs.Record.{Words, fieldsIn, layoutOf}
 use Rattle.layout.specs.Plan.{Sums, planOf}
-use Rattle.layout.specs.Acceptance.{acceptance}
+use Rattle.replies.specs.Replies.{number}
+use Rattle.layout.specs.Acceptance.{acceptance, refusalOf, refusalReply}
 use Rattle.layout.proofs.Accepting.{accepted-sums}
 use Rattle.page_theory.specs.Page.{pageOf}
 use Rattle.page_theory.specs.Reading.{RefusedAt, Lowest, counts}
 use Rattle.page_theory.specs.Damage.{Accepts, Payload, Outputs, flips, Damaged, WrittenAndDamaged}
 use Rattle.page_theory.specs.Demands.{Stands, Looks, Takes}
 use Rattle.page_theory.specs.Calls.{writeEnded, writeFor, writeOf, Looked, lookEnded, lookFor, lookOf, Taken, takeEnded, takeFor, takeOf}
-use Rattle.page_theory.specs.Calls.{judgeFor, judgeOf, claimFor, claimOf}
+use Rattle.page_theory.specs.Calls.{judgeEnded, judgeFor, judgeOf, claimEnded, claimFor, claimOf}
 use Rattle.page_theory.proofs.Accepted.{accepted-accepts, accepts-layout}
 use Rattle.page_theory.proofs.Demand2.{write-done, write-only, take-blocks, look-blocks}
 use Rattle.page_theory.proofs.Demand3.{looks-back, takes-back, told-apart, look-refused-naming, look-refused-when, look-refused-only}
 use Rattle.page_theory.proofs.Demand3.{take-refused-naming, take-refused-when, take-refused-only}
 use Rattle.store.specs.declared.Numbered.{Numbered}
-use Rattle.store.specs.declared.Lookup.the-variants.{Found}
+use Rattle.store.specs.declared.Lookup.the-variants.{Found, Unknown}
 use Rattle.store.specs.Plain.{Listed, find}
 use Rattle.store_runs.specs.Runs.{lookupAnswer, versionOf, Call, afterAll}
 use Rattle.store_runs.specs.Reached as reached
@@ -57,6 +59,31 @@ pub held-names : (s : Listed) → Reached s → (v : ℕ) (e : Numbered) → fin
 held-names s r v e h =
     let a = every-found v e (r .accepted) h in
     (a .words, record { entry = e; found = h; plan = refl; edition = a .edition; accepts = accepted-plan e a; answer = found-answer s v e h a })
+
+-- ---- a version that is not held
+
+module _ (s : Listed) (v : ℕ) (h : find (s .layouts) v ≡ Unknown) where
+  pub unknown-write : (m d page : List ℕ) → writeFor (versionOf s v) m d page ≡ writeEnded 7 0 page
+  unfolding versionOf lookupAnswer writeFor refusalReply refusalOf number
+  unknown-write m d page = rw h
+
+  pub unknown-look : (page c : List ℕ) → lookFor (versionOf s v) page c ≡ lookEnded 7 0 c
+  unfolding versionOf lookupAnswer lookFor refusalReply refusalOf number
+  unknown-look page c = rw h
+
+  pub unknown-take : (page m d : List ℕ) → takeFor (versionOf s v) page m d ≡ takeEnded 7 0 m d
+  unfolding versionOf lookupAnswer takeFor refusalReply refusalOf number
+  unknown-take page m d = rw h
+
+  pub unknown-judge : (page : List ℕ) (b : ℕ) → judgeFor (versionOf s v) page b ≡ judgeEnded 7 0 0
+  unfolding versionOf lookupAnswer judgeFor refusalReply refusalOf number
+  unknown-judge page b = rw h
+
+  pub unknown-claim : (page : List ℕ) (b : ℕ) (claims : List ℕ) → claimFor (versionOf s v) page b claims ≡ claimEnded 7
+  unfolding versionOf lookupAnswer claimFor refusalReply refusalOf number
+  unknown-claim page b claims = rw h
+
+-- ---- a version that is held at two states
 
 module _ (s : Listed) (r : Reached s) (v : ℕ) (w : Words) (q : Plan) (n : Names s v w q) where
   pub names-on : (cs : List Call) (x : Numbered) → find (afterAll s cs .layouts) v ≡ Found x → Names (afterAll s cs) v w q
