@@ -11,7 +11,7 @@
 //
 // A store goes in by value and comes back by value. No call asks anything of its caller. What each answers, and which store it hands
 // back, is a definition over the plain list that the store stands for (specs/Plain.antt, specs/Saved.antt): a refused call hands back a
-// store that stands for the same list. proofs/ has the laws of any sequence of calls from an empty store.
+// store that stands for the same list. The crate `store_runs` has the laws of any sequence of calls from an empty store.
 //
 // The first `count` of the 32 places hold the layouts, oldest first (places.rt). A layout is kept as its plan, with its sums, and not
 // as its record.

@@ -45,7 +45,7 @@ cast-low : tie.Need-cast-low Inv-loop μ-loop
 cast-low c = omega (arith, c .shared-slice-known2 .given (31 - 2 * c .before .before .before .loop .chip))
 
 mul-numbers : tie.Need-mul-numbers Inv-loop μ-loop
-mul-numbers c = omega (arith, c .before .shared-slice-known .given (30 - 2 * c .before .before .before .loop .chip))
+mul-numbers c = omega (arith, c .before .shared-slice-known .given (30 - 2 * c .before .before .before .loop .chip), c .shared-slice-known2 .given (31 - 2 * c .before .before .before .loop .chip))
 
 add-numbers : tie.Need-add-numbers Inv-loop μ-loop
 add-numbers c = omega (arith, c .before .shared-slice-known .given (30 - 2 * c .before .before .before .loop .chip), c .shared-slice-known2 .given (31 - 2 * c .before .before .before .loop .chip))
