@@ -19,7 +19,7 @@
 //! and those of document 02
 //!
 //! - [`export_fragments`], [`import_fragments`]: a remainder to a hardware locator's fragments, and back;
-//! - those of [`sectors`]: the calls on layouts and pages, for pages of sectors (E12).
+//! - those of [`sectors`]: the calls on layouts and pages, for pages of sectors (E12);
 //! - [`store::Store`]: layouts with version numbers, and the version in use at each chip select (E11).
 //!
 //! Each that takes a layout or a level field is handed the edition before it (document 02, E13), but for those

@@ -16,7 +16,7 @@ use Prim.Native.Nat.{ℕ, _<_}
 use lib.ListN.{length}
 use Rattle.bits.specs.Bits.{run}
 use Rattle.layout.specs.declared.Plan.{Plan}
-use Rattle.layout.specs.Record.{Words, fieldsIn, layoutOf}
+use Rattle.layout.specs.Record.{Words, fieldsIn}
 use Rattle.layout.specs.Plan.{Sums, planOf}
 use Rattle.replies.specs.Replies.{number}
 use Rattle.layout.specs.Acceptance.{acceptance, refusalOf, refusalReply}
@@ -27,7 +27,7 @@ use Rattle.page_theory.specs.Damage.{Accepts, Payload, Outputs, flips, Damaged,
 use Rattle.page_theory.specs.Demands.{Stands, Looks, Takes}
 use Rattle.page_theory.specs.Calls.{writeEnded, writeFor, writeOf, Looked, lookEnded, lookFor, lookOf, Taken, takeEnded, takeFor, takeOf}
 use Rattle.page_theory.specs.Calls.{judgeEnded, judgeFor, judgeOf, claimEnded, claimFor, claimOf}
-use Rattle.page_theory.proofs.Accepted.{accepted-accepts, accepts-layout}
+use Rattle.page_theory.proofs.Accepted.{words-accepts}
 use Rattle.page_theory.proofs.Demand2.{write-done, write-only, take-blocks, look-blocks}
 use Rattle.page_theory.proofs.Demand3.{looks-back, takes-back, told-apart, look-refused-naming, look-refused-when, look-refused-only}
 use Rattle.page_theory.proofs.Demand3.{take-refused-naming, take-refused-when, take-refused-only}
@@ -49,11 +49,8 @@ found-answer : (s : Listed) (v : ℕ) (e : Numbered) → find (s .layouts) v ≡
 unfolding versionOf lookupAnswer planOf
 found-answer s v e h a = rw (h, a .plan) (sym (a .accepted))
 
-accepted-plan : (e : Numbered) (a : reached.Accepted e) → Accepts (a .words) (e .plan)
-accepted-plan e a =
-    let x = accepted-accepts (a .words) (a .layout) (a .accepted) in
-    let l : a .layout ≡ layoutOf (a .words) = cc (a .accepted, accepts-layout (a .words) _ x) in
-    rw (a .plan, l) x
+accepted-plan : (e : Numbered) (a : reached.Accepted e) → Accepts (acceptance (a .words)) (e .plan)
+accepted-plan e a = rw (a .plan) (words-accepts (a .words) (a .layout) (a .accepted))
 
 pub held-names : (s : Listed) → Reached s → (v : ℕ) (e : Numbered) → find (s .layouts) v ≡ Found e → (w : Words) × Names s v w (e .plan)
 held-names s r v e h =
@@ -98,76 +95,71 @@ module _ (s : Listed) (r : Reached s) (v : ℕ) (w : Words) (q : Plan) (n : Name
 
 module _ (s : Listed) (v : ℕ) (w : Words) (q : Plan) (n : Names s v w q) where
   pub names-sums : Sums (fieldsIn w) q
-  names-sums = rw (n .accepts .plan) (accepted-sums w _ (accepts-layout w q (n .accepts)))
+  names-sums = rw (n .accepts .plan) (accepted-sums w (n .accepts .layout) (n .accepts .accepted))
 
   -- ---- a page call by version is the call with the edition and the record
 
   pub write-named : (m d page : List ℕ) → writeFor (versionOf s v) m d page ≡ writeOf w m d page
-  unfolding writeOf
   write-named m d page = rw (n .answer)
 
   pub look-named : (page c : List ℕ) → lookFor (versionOf s v) page c ≡ lookOf w page c
-  unfolding lookOf
   look-named page c = rw (n .answer)
 
   pub take-named : (page m d : List ℕ) → takeFor (versionOf s v) page m d ≡ takeOf w page m d
-  unfolding takeOf
   take-named page m d = rw (n .answer)
 
   pub judge-named : (page : List ℕ) (b : ℕ) → judgeFor (versionOf s v) page b ≡ judgeOf w page b
-  unfolding judgeOf
   judge-named page b = rw (n .answer)
 
   pub claim-named : (page : List ℕ) (b : ℕ) (claims : List ℕ) → claimFor (versionOf s v) page b claims ≡ claimOf w page b claims
-  unfolding claimOf
   claim-named page b claims = rw (n .answer)
 
   -- ---- demand 2
 
   pub version-looks : (page c : List ℕ) → length page ≡ q .size → length c ≡ q .blocks → Looks q page (lookFor (versionOf s v) page c)
-  version-looks page c size lent = rw (look-named page c) (look-blocks w q (n .accepts) page c size lent)
+  version-looks page c size lent = rw (look-named page c) (look-blocks (acceptance w) q (n .accepts) page c size lent)
 
   pub version-takes : (page m d : List ℕ) → takeFor (versionOf s v) page m d .reply ≡ 0 → Takes q page (takeFor (versionOf s v) page m d)
-  version-takes page m d h = rw (take-named page m d) (take-blocks w q (n .accepts) page m d (ap (λ (x : Taken). x .reply) (sym (take-named page m d)) ∙ h))
+  version-takes page m d h = rw (take-named page m d) (take-blocks (acceptance w) q (n .accepts) page m d (ap (λ (x : Taken). x .reply) (sym (take-named page m d)) ∙ h))
 
   -- ---- demand 3, the refusal clause
 
   module _ (page : List ℕ) (size : length page ≡ q .size) where
     module _ (c : List ℕ) (lent : length c ≡ q .blocks) where
       pub version-look-refused-naming : (b : ℕ) → Lowest q page b → lookFor (versionOf s v) page c ≡ lookEnded 9 b (counts q page)
-      version-look-refused-naming b h = look-named page c ∙ look-refused-naming w q (n .accepts) page size c lent b h
+      version-look-refused-naming b h = look-named page c ∙ look-refused-naming (acceptance w) q (n .accepts) page size c lent b h
 
       pub version-look-refused-when : (b : ℕ) → b < q .blocks → RefusedAt q page b → lookFor (versionOf s v) page c .reply ≡ 9
-      version-look-refused-when b l h = ap (λ (x : Looked). x .reply) (look-named page c) ∙ look-refused-when w q (n .accepts) page size c lent b l h
+      version-look-refused-when b l h = ap (λ (x : Looked). x .reply) (look-named page c) ∙ look-refused-when (acceptance w) q (n .accepts) page size c lent b l h
 
       pub version-look-refused-only : lookFor (versionOf s v) page c .reply ≡ 9 → Lowest q page (lookFor (versionOf s v) page c .block)
       version-look-refused-only h =
-          rw (look-named page c) (look-refused-only w q (n .accepts) page size c lent (ap (λ (x : Looked). x .reply) (sym (look-named page c)) ∙ h))
+          rw (look-named page c) (look-refused-only (acceptance w) q (n .accepts) page size c lent (ap (λ (x : Looked). x .reply) (sym (look-named page c)) ∙ h))
 
     module _ (m d : List ℕ) (lent-m : length m ≡ q .metadata) (lent-d : length d ≡ q .«data») where
       pub version-take-refused-naming : (b : ℕ) → Lowest q page b → takeFor (versionOf s v) page m d ≡ takeEnded 9 b m d
-      version-take-refused-naming b h = take-named page m d ∙ take-refused-naming w q (n .accepts) page size m d lent-m lent-d b h
+      version-take-refused-naming b h = take-named page m d ∙ take-refused-naming (acceptance w) q (n .accepts) page size m d lent-m lent-d b h
 
       pub version-take-refused-when : (b : ℕ) → b < q .blocks → RefusedAt q page b → takeFor (versionOf s v) page m d .reply ≡ 9
-      version-take-refused-when b l h = ap (λ (x : Taken). x .reply) (take-named page m d) ∙ take-refused-when w q (n .accepts) page size m d lent-m lent-d b l h
+      version-take-refused-when b l h = ap (λ (x : Taken). x .reply) (take-named page m d) ∙ take-refused-when (acceptance w) q (n .accepts) page size m d lent-m lent-d b l h
 
       pub version-take-refused-only : takeFor (versionOf s v) page m d .reply ≡ 9 → Lowest q page (takeFor (versionOf s v) page m d .block)
       version-take-refused-only h =
           rw (take-named page m d)
-          (take-refused-only w q (n .accepts) page size m d lent-m lent-d (ap (λ (x : Taken). x .reply) (sym (take-named page m d)) ∙ h))
+          (take-refused-only (acceptance w) q (n .accepts) page size m d lent-m lent-d (ap (λ (x : Taken). x .reply) (sym (take-named page m d)) ∙ h))
 
   -- ---- demand 2, the written page
 
   module _ (m d page : List ℕ) (payload : Payload q m d) (lent : length page ≡ q .size) where
     pub version-writes : writeFor (versionOf s v) m d page ≡ writeEnded 0 0 (pageOf q page (m ++ d))
-    version-writes = write-named m d page ∙ write-done w q (n .accepts) m d page payload lent
+    version-writes = write-named m d page ∙ write-done (acceptance w) q (n .accepts) m d page payload lent
 
     pub version-writes-only : (other : List ℕ) → Stands q page (m ++ d) other → other ≡ writeFor (versionOf s v) m d page .page
-    version-writes-only other h = rw (write-named m d page) (write-only w q (n .accepts) m d page payload lent other h)
+    version-writes-only other h = rw (write-named m d page) (write-only (acceptance w) q (n .accepts) m d page payload lent other h)
 
   -- what was written under the version, and then damaged
   damaged-words : (m d lent page : List ℕ) (f : ℕ → ℕ → Bool) → Payload q m d → length lent ≡ q .size
-      → Damaged q (writeFor (versionOf s v) m d lent .page) page f → WrittenAndDamaged w q m d page f
+      → Damaged q (writeFor (versionOf s v) m d lent .page) page f → WrittenAndDamaged (acceptance w) q m d page f
   damaged-words m d lent page f p l h = record { payload = p; lent = lent; size = l; damaged = rw (write-named m d lent) at h }
 
 -- ---- the rest of demand 3, in one sequence of calls
@@ -185,8 +177,8 @@ module _ (s : Listed) (r : Reached s) (v : ℕ) (w : Words) (q : Plan) (n : Name
       let k = names-on s r v w q n cs x at-look in
       let j = names-on t (reached-all s cs r) v w q k ds y at-take in
       let g = damaged-words s v w q n m d lent page f p l h in (
-        look-named t v w q k page old-c ∙ looks-back w q (n .accepts) m d page f g old-c (o .counts),
-        take-named (afterAll t ds) v w q j page old-m old-d ∙ takes-back w q (n .accepts) m d page f g old-m old-d (o .metadata) (o .«data»),
+        look-named t v w q k page old-c ∙ looks-back (acceptance w) q (n .accepts) m d page f g old-c (o .counts),
+        take-named (afterAll t ds) v w q j page old-m old-d ∙ takes-back (acceptance w) q (n .accepts) m d page f g old-m old-d (o .metadata) (o .«data»),
       )
 
   -- Two payloads are written at two states that hold the version.
@@ -199,5 +191,5 @@ module _ (s : Listed) (r : Reached s) (v : ℕ) (w : Words) (q : Plan) (n : Name
       → page ≡ page' → ⊥
   version-told-apart m d lent page f p l h cs x held m' d' lent' page' f' p' l' h' different same =
       let k = names-on s r v w q n cs x held in
-      told-apart w q (n .accepts) m d page f (damaged-words s v w q n m d lent page f p l h) m' d' page' f'
+      told-apart (acceptance w) q (n .accepts) m d page f (damaged-words s v w q n m d lent page f p l h) m' d' page' f'
       (damaged-words (afterAll s cs) v w q k m' d' lent' page' f' p' l' h') different same

@@ -17,5 +17,5 @@ pub record Names (s : Listed) (v : ℕ) (w : Words) (q : Plan) : Type 0 where
   pub found : find (s .layouts) v ≡ Found entry
   pub plan : entry .plan ≡ q
   pub edition : entry .edition ≡ w .edition
-  pub accepts : Accepts w q
+  pub accepts : Accepts (acceptance w) q
   pub answer : versionOf s v ≡ acceptance w

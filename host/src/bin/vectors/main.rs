@@ -1,7 +1,6 @@
 //! Writes test vectors and the model's answers to them:
 //!
-//!     vectors layout|locate|fragments|pages|sectors|roots INPUT OUTPUT
-//!     vectors layout|locate|fragments|pages|roots|store INPUT OUTPUT
+//!     vectors layout|locate|fragments|pages|sectors|roots|store INPUT OUTPUT
 //!
 //! INPUT is what a program reads on its standard input, OUTPUT what it is to print.
 
@@ -11,10 +10,8 @@ mod locate;
 mod pages;
 mod roots;
 mod sectors;
-
-use model::reply::NUMBERS;
 mod store;
-use model::samples::edges::EDGES;
+
 use model::store::NUMBERS;
 use model::{Refusal, Reply};
 use std::fmt::Display;
@@ -132,17 +129,14 @@ fn main() -> ExitCode {
         }
     }
     let count: usize = vectors.replies.iter().sum();
-    println!("{count} vectors, by reply 0 to 11: {:?}", vectors.replies);
-    for (edge, times) in vectors.edges.iter().filter(|edge| edge.1 > 0) {
     println!("{count} vectors, by reply 0 to 14: {:?}", vectors.replies);
-    for (edge, times) in EDGES.iter().zip(vectors.edges).filter(|edge| edge.1 > 0) {
+    for (edge, times) in vectors.edges.iter().filter(|edge| edge.1 > 0) {
         println!("{times:6} {edge}");
     }
     ExitCode::SUCCESS
 }
 
 fn usage() -> ExitCode {
-    eprintln!("usage: vectors layout|locate|fragments|pages|sectors|roots INPUT OUTPUT");
-    eprintln!("usage: vectors layout|locate|fragments|pages|roots|store INPUT OUTPUT");
+    eprintln!("usage: vectors layout|locate|fragments|pages|sectors|roots|store INPUT OUTPUT");
     ExitCode::FAILURE
 }
