@@ -13,7 +13,7 @@ use Rattle.layout.specs.declared.Shape.{Shape}
 use Rattle.store.specs.declared.Numbered.{Numbered}
 
 abbrev pub noShape : Shape
-noShape = record { message = 0; covered = 0; field = Thirteen; level = 0 }
+noShape = record { message = 0; covered = 0; pads = 0; field = Thirteen; level = 0 }
 
 abbrev pub vacant : Numbered
 vacant = record {
@@ -21,6 +21,7 @@ vacant = record {
   edition = 0;
   plan = record {
     blocks = 0;
+    firsts = 0;
     size = 0;
     metadata = 0;
     «data» = 0;

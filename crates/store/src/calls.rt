@@ -31,11 +31,13 @@ fn vacant() -> Numbered {
     let shape = Shape {
         message: 0,
         covered: 0,
+        pads: 0,
         field: Field::Thirteen,
         level: 0,
     };
     let plan = Plan {
         blocks: 0,
+        firsts: 0,
         size: 0,
         metadata: 0,
         data: 0,
