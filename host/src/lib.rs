@@ -19,7 +19,8 @@
 //! and those of document 02
 //!
 //! - [`export_fragments`], [`import_fragments`]: a remainder to a hardware locator's fragments, and back;
-//! - those of [`sectors`]: the calls on layouts and pages, for pages of sectors (E12).
+//! - those of [`sectors`]: the calls on layouts and pages, for pages of sectors (E12);
+//! - [`store::Store`]: layouts with version numbers, and the version in use at each chip select (E11).
 //!
 //! Each that takes a layout or a level field is handed the edition before it (document 02, E13), but for those
 //! on fragments. Each takes any arguments. `Ok` is reply 0; a [`Refusal`] holds the reply's number and block, and
@@ -51,6 +52,7 @@ pub mod random;
 pub mod reply;
 pub mod samples;
 pub mod sectors;
+pub mod store;
 
 pub use fragments::{export_fragments, import_fragments};
 pub use layout::{BitPlace, Layout, bit_position, check_layout, locate_bit};

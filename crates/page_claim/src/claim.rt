@@ -155,7 +155,7 @@ fn claim_lent(plan: Plan, page: &[u8], block: u16, claims: &[u16]) -> ClaimAnswe
 }
 
 // Answers to a claim under the plan of an accepted layout.
-fn claim_in(plan: Plan, page: &[u8], block: u64, claims: &[u16]) -> ClaimAnswer
+pub fn claim_in(plan: Plan, page: &[u8], block: u64, claims: &[u16]) -> ClaimAnswer
     requires { ⌜ Planned plan ⌝ }
     ensures { λ r. ⌜ claimEnded (claimNumber r) ≡ claimIn plan (now (page .entry)) block (now (claims .entry)) ⌝ }
 {

@@ -13,6 +13,7 @@ mod claim;
 pub use answers::claim_number;
 pub use claim::check_claim;
 pub use claim::claim_for;
+pub use claim::claim_in;
 use replies::Refusal;
 
 // The answer to claimed locations: they are right, or this is why not.

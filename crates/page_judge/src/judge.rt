@@ -69,7 +69,7 @@ fn judge_lent(plan: Plan, page: &[u8], block: u16) -> JudgeAnswer
 }
 
 // Judges a block under the plan of an accepted layout.
-fn judge_in(plan: Plan, page: &[u8], block: u64) -> JudgeAnswer
+pub fn judge_in(plan: Plan, page: &[u8], block: u64) -> JudgeAnswer
     requires { ⌜ Planned plan ⌝ }
     ensures { λ r. ⌜ judgeEnded (judgeNumber r) (judgeBlock r) (judgeFlips r) ≡ judgeIn plan (now (page .entry)) block ⌝ }
 {

@@ -10,6 +10,7 @@ mod judge;
 
 pub use judge::judge_block;
 pub use judge::judge_for;
+pub use judge::judge_in;
 use replies::Refusal;
 
 // The answer to one block: its count, or why there is none. The count is how many of its covered bits are flipped, or 128 plus the

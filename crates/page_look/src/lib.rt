@@ -16,6 +16,7 @@
 mod look;
 
 pub use look::look_for;
+pub use look::look_in;
 pub use look::look_page;
 use replies::Refusal;
 

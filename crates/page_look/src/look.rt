@@ -167,7 +167,7 @@ fn look_lent(plan: Plan, page: &[u8], counts: &mut [u8]) -> LookAnswer
 }
 
 // Looks at a page under the plan of an accepted layout.
-fn look_in(plan: Plan, page: &[u8], counts: &mut [u8]) -> LookAnswer
+pub fn look_in(plan: Plan, page: &[u8], counts: &mut [u8]) -> LookAnswer
     requires { ⌜ Planned plan ⌝ }
     ensures { λ r. ⌜ lookEnded (lookNumber r) (lookBlock r) (now (counts .exit)) ≡ lookIn plan (now (page .entry)) (now (counts .entry)) ⌝ }
 {

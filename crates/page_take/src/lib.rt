@@ -15,6 +15,7 @@ mod take;
 
 use replies::Refusal;
 pub use take::take_for;
+pub use take::take_in;
 pub use take::take_page;
 
 // The answer to a page: it is taken, or what was lent is as it was and this is why. A page with a ruined block names its lowest one.

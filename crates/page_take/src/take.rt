@@ -83,7 +83,7 @@ fn take_lent(plan: Plan, page: &[u8], metadata: &mut [u8], data: &mut [u8]) -> T
 }
 
 // Takes a page under the plan of an accepted layout.
-fn take_in(plan: Plan, page: &[u8], metadata: &mut [u8], data: &mut [u8]) -> TakeAnswer
+pub fn take_in(plan: Plan, page: &[u8], metadata: &mut [u8], data: &mut [u8]) -> TakeAnswer
     requires { ⌜ Planned plan ⌝ }
     ensures { λ r. ⌜ takeEnded (takeNumber r) (takeBlock r) (now (metadata .exit)) (now («data» .exit))
         ≡ takeIn plan (now (page .entry)) (now (metadata .entry)) (now («data» .entry)) ⌝ }

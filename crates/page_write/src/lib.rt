@@ -16,6 +16,7 @@ mod write;
 pub use answers::write_number;
 use replies::Refusal;
 pub use write::write_for;
+pub use write::write_in;
 pub use write::write_page;
 
 // The answer of the writer: the page is written, or it is as it was and this is why.

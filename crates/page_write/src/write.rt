@@ -140,7 +140,7 @@ fn write_blocks(plan: Plan, metadata: &[u8], data: &[u8], page: &mut [u8])
 }
 
 // Writes a page under the plan of an accepted layout.
-fn write_in(plan: Plan, metadata: &[u8], data: &[u8], page: &mut [u8]) -> WriteAnswer
+pub fn write_in(plan: Plan, metadata: &[u8], data: &[u8], page: &mut [u8]) -> WriteAnswer
     requires { ⌜ Planned plan ⌝ }
     ensures { λ r. ⌜ writeEnded (writeNumber r) (writeBlock r) (now (page .exit))
         ≡ writeIn plan (now (metadata .entry)) (now («data» .entry)) (now (page .entry)) ⌝ }

@@ -1,6 +1,6 @@
 //! Writes test vectors and the model's answers to them:
 //!
-//!     vectors layout|locate|fragments|pages|sectors|roots INPUT OUTPUT
+//!     vectors layout|locate|fragments|pages|sectors|roots|store INPUT OUTPUT
 //!
 //! INPUT is what a program reads on its standard input, OUTPUT what it is to print.
 
@@ -10,8 +10,9 @@ mod locate;
 mod pages;
 mod roots;
 mod sectors;
+mod store;
 
-use model::reply::NUMBERS;
+use model::store::NUMBERS;
 use model::{Refusal, Reply};
 use std::fmt::Display;
 use std::process::ExitCode;
@@ -115,6 +116,7 @@ fn main() -> ExitCode {
         "pages" => pages::vectors(),
         "sectors" => sectors::vectors(),
         "roots" => roots::vectors(),
+        "store" => store::vectors(),
         _ => return usage(),
     };
     for (path, bytes) in [
@@ -127,7 +129,7 @@ fn main() -> ExitCode {
         }
     }
     let count: usize = vectors.replies.iter().sum();
-    println!("{count} vectors, by reply 0 to 11: {:?}", vectors.replies);
+    println!("{count} vectors, by reply 0 to 14: {:?}", vectors.replies);
     for (edge, times) in vectors.edges.iter().filter(|edge| edge.1 > 0) {
         println!("{times:6} {edge}");
     }
@@ -135,6 +137,6 @@ fn main() -> ExitCode {
 }
 
 fn usage() -> ExitCode {
-    eprintln!("usage: vectors layout|locate|fragments|pages|sectors|roots INPUT OUTPUT");
+    eprintln!("usage: vectors layout|locate|fragments|pages|sectors|roots|store INPUT OUTPUT");
     ExitCode::FAILURE
 }

@@ -1,0 +1,4 @@
+-- Laws of the store.
+pub mod Lookups
+pub mod Saved
+pub mod Steps

@@ -1,0 +1,3 @@
+-- Laws of page calls by version.
+pub mod Keeping
+pub mod Versions

@@ -1,0 +1,2 @@
+-- What page calls by version ask of a store.
+pub mod Kept
