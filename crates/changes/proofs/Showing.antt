@@ -2,7 +2,7 @@
 --
 -- difference-exact      first plus the change is second
 -- difference-same, difference-up, difference-down    the change at zero and at both ends
--- as-signed, difference-is, difference-fits          the difference of two bytes is one of 16 bits with a sign
+-- as-signed, difference-is, bytes-fit                the difference of two bytes is one of 16 bits with a sign
 -- flips-ruined, flips-written, flips-erased          what is shown by a count, in its three cases
 -- flips-shown           what is shown by the count of a block is what its outcome says
 -- line-shown            the line by the counts of two pages is the line of the block
@@ -15,8 +15,8 @@ use native.Mathlib.Nat.{zero-add}
 use lib.IntN.{ℤ, pos, negsuc, negℤ, _+ℤ_, _-ℤ_, +ℤ-comm, +ℤ-invr, -ℤ-+ℤ-cancel}
 use lib.ListN.{getD}
 use lib.Dec.{ltb}
-use mir.Syntax.{w16}
-use mir.Val.{SFits, toZ}
+use mir.Syntax.{w8, w16}
+use mir.Val.{Fits, SFits, toZ}
 use mir.ValLaws.{toZ-pos}
 use borrow.Author.Tests.{eq-eqb, ne-eqb, lt-ltb, le-ltb}
 use Rattle.bits.proofs.Runs.{run-at}
@@ -53,13 +53,16 @@ pub difference-is : (first second : ℕ) → difference first second ≡ pos sec
 unfolding difference
 difference-is first second = refl
 
-pub difference-fits : (first second : ℕ) → first < 256 → second < 256 → SFits w16 (pos second -ℤ pos first)
+difference-fits : (first second : ℕ) → first < 256 → second < 256 → SFits w16 (pos second -ℤ pos first)
 difference-fits zero second l m = record { sfits = omega arith }
 difference-fits (suc first) second l m = go (ltb second (suc first))
   where
     go : (x : Bool) → SFits w16 (cond x (negsuc (suc first - suc second)) (pos (second - suc first)))
     go true = record { sfits = omega arith }
     go false = record { sfits = omega arith }
+
+pub bytes-fit : {first second : ℕ} → Fits w8 first → Fits w8 second → SFits w16 (toZ w16 second -ℤ toZ w16 first)
+bytes-fit {first} {second} a b = rw (as-signed first (a .fits), as-signed second (b .fits)) (difference-fits first second (a .fits) (b .fits))
 
 pub flips-ruined : (n : ℕ) → n ≡ 255 → Ruined ≡ flipsOf n
 unfolding flipsOf

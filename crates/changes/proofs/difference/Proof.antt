@@ -3,7 +3,7 @@ use mathlib.Core.Path.{sym, _∙_}
 use mir.Syntax.{w16}
 use mir.ValLaws.{toZ-ofZ}
 use borrow.Author.Needs.{needs}
-use Rattle.changes.proofs.Showing.{as-signed, difference-is, difference-fits}
+use Rattle.changes.proofs.Showing.{as-signed, difference-is, bytes-fit}
 use Rattle.changes.proofs.difference.Statement.{statement}
 use Rattle.changes.proofs.difference.Tie as tie
 
@@ -14,7 +14,7 @@ cast-result-2 : tie.Need-cast-result-2
 cast-result-2 c = search needs
 
 sub-result : tie.Need-sub-result
-sub-result c = rw (as-signed _ (c .fits .first .fits), as-signed _ (c .fits .second .fits)) (difference-fits _ _ (c .fits .first .fits) (c .fits .second .fits))
+sub-result c = search bytes-fit
 
 returns : tie.Need-returns
 returns c =
