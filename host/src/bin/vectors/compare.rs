@@ -83,7 +83,7 @@ fn strongest() -> [LayoutWords; 2] {
 /// The change at both ends of its range, -t and t, and on both sides of zero, of written blocks and of erased ones.
 fn ends(vectors: &mut Vectors, words: LayoutWords, random: &mut Random) {
     let written = WrittenPage::new(words, random);
-    let t = written.layout.block0.t();
+    let t = written.layout.block(0).t();
     let worn = |flips: usize, random: &mut Random| {
         let mut page = written.page.clone();
         damage(&mut page, &written.layout, 0, flips, random);

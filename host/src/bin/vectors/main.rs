@@ -1,7 +1,6 @@
 //! Writes test vectors and the model's answers to them:
 //!
-//!     vectors layout|locate|fragments|pages|sectors|roots|store INPUT OUTPUT
-//!     vectors layout|locate|fragments|pages|roots|compare INPUT OUTPUT
+//!     vectors layout|locate|fragments|pages|sectors|roots|store|compare INPUT OUTPUT
 //!
 //! INPUT is what a program reads on its standard input, OUTPUT what it is to print.
 
@@ -146,7 +145,8 @@ fn main() -> ExitCode {
 }
 
 fn usage() -> ExitCode {
-    eprintln!("usage: vectors layout|locate|fragments|pages|sectors|roots|store INPUT OUTPUT");
-    eprintln!("usage: vectors layout|locate|fragments|pages|roots|compare INPUT OUTPUT");
+    eprintln!(
+        "usage: vectors layout|locate|fragments|pages|sectors|roots|store|compare INPUT OUTPUT"
+    );
     ExitCode::FAILURE
 }
