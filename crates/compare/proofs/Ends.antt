@@ -61,7 +61,7 @@ by-counts (refused b) l = refl
 
 pub look-counts : {w : Words} {q : Plan} → Under w q → (page lent : List ℕ) → length page ≡ q .size → length lent ≡ q .blocks
     → lookOf w page lent .counts ≡ counts q page
-unfolding lookOf lookFor
+unfolding lookFor
 look-counts {w} {q} u page lent a b =
     rw (u .accepted, ← u .same, look-right q page lent a b) (by-counts (reading q page) (counts q page))
 

@@ -6,12 +6,13 @@
 -- compare-other, difference-other                                   the reply is not 9
 use mathlib.Core.Path.{_≡_, refl}
 use mathlib.Core.Bool.{Bool, true, false, cond}
-use mathlib.Core.List.{List, [], _∷_}
+use mathlib.Core.List.{List, [], _∷_, _++_}
 use Prim.Native.Nat.{ℕ}
 use native.Mathlib.Omega.{arith}
 use lib.ListN.{length, drop}
 use lib.Dec.{eqb, leb}
 use Rattle.replies.specs.declared.Refusal.the-variants.{PageLength, BufferLength}
+use Rattle.replies.specs.Replies as replies
 use Rattle.replies.specs.Replies.{number, block, verdictNumber, verdictBlock, unequal, rule, verdict, reply, replyBlock}
 use Rattle.replies.specs.Given.{Follows, Exactly, turn, atMost, ascending}
 use Rattle.replies.proofs.Given.{exactly}
@@ -22,11 +23,11 @@ use Rattle.layout.specs.declared.Refusal.{Refusal}
 use Rattle.layout.specs.declared.Refusal.the-variants as refusal
 use Rattle.layout.specs.declared.Acceptance.{Acceptance}
 use Rattle.layout.specs.declared.Acceptance.the-variants.{Accepted, Refused}
-use Rattle.layout.specs.Record.{Words, layoutOf}
+use Rattle.layout.specs.Record.{Words}
 use Rattle.layout.specs.Plan.{planOf}
 use Rattle.layout.specs.Acceptance.{acceptance, ruleRefusal, refusalOf, refusalReply}
-use Rattle.layout.specs.ReplyRules.{fieldRules, layoutRules}
-use Rattle.layout.proofs.ReplyRules.{Accepting, accepts, refuses, accepting, accepted-follows, refused-follows}
+use Rattle.layout.specs.ReplyRules.{Ruled, accepts, refuses, fieldRules, layoutRules}
+use Rattle.layout.proofs.ReplyRules.{words-ruled, accepted-follows, refused-follows}
 use Rattle.page_theory.specs.Reading.{counts}
 use Rattle.differences.specs.declared.Difference.the-variants.{Alike}
 use Rattle.differences.specs.Differences.{next}
@@ -91,15 +92,16 @@ module _ (first second lent other : List ℕ) where
       go true false c x y e = absurd (omega arith)
       go false b c x y e = absurd (omega arith)
 
-  module _ (rec : Words) where
-    compare-for : (a : Acceptance) → Accepting rec a → Follows (compareRules rec first second lent other) (compareFor a first second lent other .reply) 0
-    unfolding compareRules compareFor
-    compare-for a (accepts none) = accepted-follows rec none _ (compare-in (planOf (layoutOf rec)))
-    compare-for a (refuses r e) = refused-follows rec r e _
+  compare-for : {before : List replies.Rule} {q : Plan} {a : Acceptance} → Ruled before q a
+      → Follows (before ++ rules.compareIn q first second lent other) (compareFor a first second lent other .reply) 0
+  unfolding compareFor
+  compare-for (accepts l none) = accepted-follows none (compare-in (planOf l))
+  compare-for {before} (refuses q r e) = refused-follows before r e _
 
+  module _ (rec : Words) where
     pub compare-replies : Follows (compareRules rec first second lent other) (compareOf rec first second lent other .reply) 0
-    unfolding compareOf
-    compare-replies = compare-for (acceptance rec) (accepting rec)
+    unfolding compareRules compareOf
+    compare-replies = compare-for (words-ruled rec)
 
     pub compare-exactly : Exactly (compareRules rec first second lent other) (compareOf rec first second lent other .reply) 0
     compare-exactly = exactly (compareRules rec first second lent other) compare-replies
@@ -144,15 +146,16 @@ module _ (first second : List ℕ) (p : ℕ) where
       go true false c e = absurd (omega arith)
       go false b c e = absurd (omega arith)
 
-  module _ (rec : Words) where
-    difference-for : (a : Acceptance) → Accepting rec a → Follows (differenceRules rec first second) (differenceFor a first second p .reply) 0
-    unfolding differenceRules differenceFor
-    difference-for a (accepts none) = accepted-follows rec none _ (difference-in (planOf (layoutOf rec)))
-    difference-for a (refuses r e) = refused-follows rec r e _
+  difference-for : {before : List replies.Rule} {q : Plan} {a : Acceptance} → Ruled before q a
+      → Follows (before ++ rules.differenceIn q first second) (differenceFor a first second p .reply) 0
+  unfolding differenceFor
+  difference-for (accepts l none) = accepted-follows none (difference-in (planOf l))
+  difference-for {before} (refuses q r e) = refused-follows before r e _
 
+  module _ (rec : Words) where
     pub difference-replies : Follows (differenceRules rec first second) (differenceOf rec first second p .reply) 0
-    unfolding differenceOf
-    difference-replies = difference-for (acceptance rec) (accepting rec)
+    unfolding differenceRules differenceOf
+    difference-replies = difference-for (words-ruled rec)
 
     pub difference-exactly : Exactly (differenceRules rec first second) (differenceOf rec first second p .reply) 0
     difference-exactly = exactly (differenceRules rec first second) difference-replies
