@@ -21,6 +21,7 @@
 //! - [`export_fragments`], [`import_fragments`]: a remainder to a hardware locator's fragments, and back;
 //! - those of [`sectors`]: the calls on layouts and pages, for pages of sectors (E12);
 //! - [`store::Store`]: layouts with version numbers, and the version in use at each chip select (E11).
+//! - [`compare_readings`]: what became of each block between two readings of a page, and where they differ.
 //!
 //! Each that takes a layout or a level field is handed the edition before it (document 02, E13), but for those
 //! on fragments. Each takes any arguments. `Ok` is reply 0; a [`Refusal`] holds the reply's number and block, and
@@ -49,6 +50,7 @@ pub mod outcome;
 pub mod page;
 pub mod pieces;
 pub mod random;
+pub mod readings;
 pub mod reply;
 pub mod samples;
 pub mod sectors;
@@ -58,4 +60,5 @@ pub use fragments::{export_fragments, import_fragments};
 pub use layout::{BitPlace, Layout, bit_position, check_layout, locate_bit};
 pub use locate::locate_errors;
 pub use page::{check_claim, judge_block, look_page, take_page, write_page};
+pub use readings::compare_readings;
 pub use reply::{Refusal, Reply};

@@ -6,20 +6,22 @@ use crate::place;
 use crate::word;
 use text::Number;
 
-// Options that a command may take, as bits of a set: --from and --pages, --page, --quiet, --stdout, --raw, --mark, --edition.
-pub const RANGE: u8 = 3;
+// Options that a command may take, as bits of a set: --from and --pages, --page, --quiet, --stdout, --raw, --mark, --edition, --map.
+pub const RANGE: u16 = 3;
 
-pub const PAGE: u8 = 4;
+pub const PAGE: u16 = 4;
 
-pub const QUIET: u8 = 8;
+pub const QUIET: u16 = 8;
 
-pub const STDOUT: u8 = 16;
+pub const STDOUT: u16 = 16;
 
-pub const RAW: u8 = 32;
+pub const RAW: u16 = 32;
 
-pub const MARK: u8 = 64;
+pub const MARK: u16 = 64;
 
-pub const EDITION: u8 = 128;
+pub const EDITION: u16 = 128;
+
+pub const MAP: u16 = 256;
 
 // What the options say.
 pub struct Options {
@@ -35,12 +37,13 @@ pub struct Options {
     pub quiet: bool,
     pub stdout: bool,
     pub raw: bool,
+    pub map: bool,
     // The third layout word.
     pub mark: u32,
     // The edition, 1 where none is given. The calls refuse all but 1 and 2.
     pub edition: u64,
     // The options that were given, as bits.
-    pub given: u8,
+    pub given: u16,
     // Whether all is right: an error was printed where not.
     pub good: bool,
 }
@@ -54,6 +57,7 @@ enum Choice {
     Raw,
     Mark,
     Edition,
+    Map,
     Unknown,
 }
 
@@ -82,10 +86,13 @@ fn choice_of(name: &[u8]) -> Choice {
     if check::same(name, b"--edition") {
         return Choice::Edition;
     }
+    if check::same(name, b"--map") {
+        return Choice::Map;
+    }
     Choice::Unknown
 }
 
-fn bit_of(choice: Choice) -> u8 {
+fn bit_of(choice: Choice) -> u16 {
     match choice {
         Choice::From => 1,
         Choice::Pages => 2,
@@ -95,6 +102,7 @@ fn bit_of(choice: Choice) -> u8 {
         Choice::Raw => RAW,
         Choice::Mark => MARK,
         Choice::Edition => EDITION,
+        Choice::Map => MAP,
         Choice::Unknown => 0,
     }
 }
@@ -137,6 +145,9 @@ fn with(options: Options, choice: Choice, v: u64) -> Options {
         Choice::Edition => {
             o.edition = v;
         }
+        Choice::Map => {
+            o.map = true;
+        }
         Choice::Unknown => {
             o.good = false;
         }
@@ -176,12 +187,13 @@ fn taken(out: &mut [u8; 32768], options: Options, choice: Choice, name: &[u8]) -
         Choice::Raw => moved(with(options, choice, 0), 1),
         Choice::Mark => with_word(out, options, choice, name),
         Choice::Edition => with_number(out, options, choice, name),
+        Choice::Map => moved(with(options, choice, 0), 1),
         Choice::Unknown => bad(options),
     }
 }
 
 // Takes the option at the next place, which has to be among those allowed and not be given before.
-fn next(out: &mut [u8; 32768], options: Options, allowed: u8) -> Options {
+fn next(out: &mut [u8; 32768], options: Options, allowed: u16) -> Options {
     let mut given = io::buffer();
     let n = os::arg(options.at, &mut given);
     let choice = choice_of(&given[..n]);
@@ -204,7 +216,7 @@ fn is_option(i: usize) -> bool {
 }
 
 // The options between the command and its arguments, of which only those allowed may be given.
-pub fn find_options(out: &mut [u8; 32768], allowed: u8) -> Options {
+pub fn find_options(out: &mut [u8; 32768], allowed: u16) -> Options {
     let mut options = Options {
         at: place(command(), 1),
         ranged: false,
@@ -215,6 +227,7 @@ pub fn find_options(out: &mut [u8; 32768], allowed: u8) -> Options {
         quiet: false,
         stdout: false,
         raw: false,
+        map: false,
         mark: 0,
         edition: 1,
         given: 0,

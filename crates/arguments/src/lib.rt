@@ -11,6 +11,7 @@ mod choices;
 mod numbers;
 
 pub use choices::EDITION;
+pub use choices::MAP;
 pub use choices::MARK;
 pub use choices::Options;
 pub use choices::PAGE;

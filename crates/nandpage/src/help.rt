@@ -3,7 +3,7 @@
 pub fn unknown(out: &mut [u8; 32768]) {
     say::error(
         out,
-        b"the commands are layout, bits, write, read, look, salvage, judge, claim, locate and fragments; nandpage --help says more",
+        b"the commands are layout, bits, write, read, look, salvage, compare, judge, claim, locate and fragments; nandpage --help says more",
     );
 }
 
@@ -41,6 +41,10 @@ fn commands(out: &mut [u8; 32768]) {
 fn other_commands(out: &mut [u8; 32768]) {
     say::put(
         out,
+        b"  nandpage compare WORD0 WORD1 FIRST SECOND       which blocks changed between two readings of a page, or two dumps, and where\n",
+    );
+    say::put(
+        out,
         b"  nandpage judge WORD0 WORD1 PAGE BLOCK           the corrected bits of one block, or the zeros of an erased one\n",
     );
     say::put(
@@ -73,7 +77,7 @@ fn options(out: &mut [u8; 32768]) {
     );
     say::put(
         out,
-        b"locate: --edition N, 1 or 2, with levels up to 20 or 31; 1 where none is given. Of read, look and salvage: --from N and\n",
+        b"locate: --edition N, 1 or 2, with levels up to 20 or 31; 1 where none is given. Of read, look, salvage and compare: --from N and\n",
     );
     say::put(
         out,
@@ -83,7 +87,14 @@ fn options(out: &mut [u8; 32768]) {
         out,
         b"standard output, with a dash for DATA. Of salvage: --raw, a ruined block as it stands in the page, in place of bytes 0xFF. Of\n",
     );
-    say::put(out, b"bits, judge and claim: --page K, page K of a dump.\n");
+    say::put(
+        out,
+        b"bits, judge and claim: --page K, page K of a dump. Of compare: --map, a character a block, which shows how much of its level is\n",
+    );
+    say::put(
+        out,
+        b"used up (. none, 1 to 9 tenths, # all, X ruined, - erased), a line a page, of one dump or of two beside each other.\n",
+    );
 }
 
 fn arguments(out: &mut [u8; 32768]) {

@@ -3,7 +3,7 @@
 //   main.rt   which command is asked for
 //   help.rt   the help
 //
-// The commands are libraries: layout_commands, page_commands, write_command, read_command and locator_commands. They stand on `arguments`
+// The commands are libraries: layout_commands, page_commands, write_command, read_command, compare_command and locator_commands. They stand on `arguments`
 // (what the arguments say), `files` and `streams` (files, read into buffers and written from them), `plans` (the plan of a page under the
 // layout words), `page_lines` (a page's line), `say` (what is printed) and `text`.
 //
@@ -19,6 +19,7 @@ enum Command {
     Read,
     Look,
     Salvage,
+    Compare,
     Judge,
     Locate,
     Fragments,
@@ -45,6 +46,9 @@ fn command_of(name: &[u8]) -> Command {
     }
     if check::same(name, b"salvage") {
         return Command::Salvage;
+    }
+    if check::same(name, b"compare") {
+        return Command::Compare;
     }
     other_command(name)
 }
@@ -82,6 +86,7 @@ fn run(out: &mut [u8; 32768], command: Command) {
         Command::Read => read_command::read(out),
         Command::Look => read_command::look(out),
         Command::Salvage => read_command::salvage(out),
+        Command::Compare => compare_command::compare(out),
         Command::Judge => page_commands::judge(out),
         Command::Locate => locator_commands::locate(out),
         Command::Fragments => locator_commands::fragments(out),

@@ -1,10 +1,9 @@
 // The commands: a page, or a dump of many.
 use crate::finishing;
-use crate::progress::seconds;
 use crate::running;
 use crate::totals::Run;
 use arguments::Options;
-use files::Known;
+use dump_progress::seconds;
 use layout::Plan;
 use plans::Planned;
 
@@ -31,22 +30,6 @@ fn output(out: &mut [u8; 32768], path: &[u8], stdout: bool, before: i32) -> i32 
         return -2;
     }
     fd
-}
-
-// The smaller of the pages that there are and those that are asked for; 0 where it is not known how many there are.
-fn known(left: Known, options: Options) -> u64 {
-    match left {
-        Known::Pages(n) => {
-            if n <= options.from {
-                return 0;
-            }
-            if n - options.from < options.pages {
-                return n - options.from;
-            }
-            options.pages
-        }
-        Known::Unknown => 0,
-    }
 }
 
 fn is_look(command: Command) -> bool {
@@ -82,7 +65,11 @@ fn run_of(
         dump: is_dump(command, options),
         first: options.from,
         most: options.pages,
-        known: known(files::pages_left(input, plan.size), options),
+        known: dump_progress::known(
+            files::pages_left(input, plan.size),
+            options.from,
+            options.pages,
+        ),
         began: seconds(),
         quiet: options.quiet,
         look: is_look(command),

@@ -1,9 +1,10 @@
 //! Writes test vectors and the model's answers to them:
 //!
-//!     vectors layout|locate|fragments|pages|sectors|roots|store INPUT OUTPUT
+//!     vectors layout|locate|fragments|pages|sectors|roots|store|compare INPUT OUTPUT
 //!
 //! INPUT is what a program reads on its standard input, OUTPUT what it is to print.
 
+mod compare;
 mod fragments;
 mod layout;
 mod locate;
@@ -51,6 +52,12 @@ impl Answer {
             reply,
             line: format!("{reply}"),
         }
+    }
+
+    /// An answer of several lines.
+    pub fn text(reply: u8, lines: &str) -> Answer {
+        let line = lines.to_string();
+        Answer { reply, line }
     }
 
     /// Appends one more word to the line.
@@ -117,6 +124,7 @@ fn main() -> ExitCode {
         "sectors" => sectors::vectors(),
         "roots" => roots::vectors(),
         "store" => store::vectors(),
+        "compare" => compare::vectors(),
         _ => return usage(),
     };
     for (path, bytes) in [
@@ -137,6 +145,8 @@ fn main() -> ExitCode {
 }
 
 fn usage() -> ExitCode {
-    eprintln!("usage: vectors layout|locate|fragments|pages|sectors|roots|store INPUT OUTPUT");
+    eprintln!(
+        "usage: vectors layout|locate|fragments|pages|sectors|roots|store|compare INPUT OUTPUT"
+    );
     ExitCode::FAILURE
 }

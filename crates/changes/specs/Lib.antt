@@ -1,0 +1,2 @@
+-- What a comparison shows of a block.
+pub mod Lines

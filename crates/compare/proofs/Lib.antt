@@ -1,0 +1,3 @@
+-- The laws of comparing two pages.
+pub mod Ends
+pub mod ReplyRules

@@ -1,0 +1,4 @@
+-- What comparing two pages answers and leaves.
+pub mod Calls
+pub mod ReplyRules
+pub mod Steps
