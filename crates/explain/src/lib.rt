@@ -6,7 +6,7 @@
 // Each takes the edition and the layout record as bytes of any length, and asks nothing of its caller. reasons.rt puts what `layout` found
 // into one form for all refusals (`Why`), which the crate `page_explain` uses too; parts.rt takes a position apart.
 // specs/Reasons.antt and specs/Parts.antt say what is answered; proofs/Truth.antt that a reason is true and the one that decided,
-// proofs/Parts.antt that the parts of a written page are its metadata, its data and its parities.
+// proofs/Written.antt that the parts of a written page are its metadata, its data and its parities.
 mod parts;
 mod reasons;
 
