@@ -20,8 +20,8 @@
 //!
 //! - [`export_fragments`], [`import_fragments`]: a remainder to a hardware locator's fragments, and back;
 //! - those of [`sectors`]: the calls on layouts and pages, for pages of sectors (E12);
-//! - [`store::Store`]: layouts with version numbers, and the version in use at each chip select (E11).
-//! - [`compare_readings`]: what became of each block between two readings of a page, and where they differ.
+//! - [`store::Store`]: layouts with version numbers, and the version in use at each chip select (E11);
+//! - [`compare_readings`]: what became of each block between two readings of a page, and where they differ (E10);
 //! - [`explain_layout`], [`explain_block`], [`explain_bit`]: why a layout is refused, what became of a block, and
 //!   what a page bit is (document 02, E2).
 //!
