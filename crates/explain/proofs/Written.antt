@@ -90,8 +90,8 @@ module _ (q : Plan) (v : Valid q) (lent payload : List ℕ) (p : ℕ) where
   unfolding partBy pageBit
   stands-holds x (in-mark m) h = rw (← at-injective h) (holds-mark (rw m))
   stands-holds x (in-block k) h = rw (← at-injective h) (covered-holds k)
-  stands-holds x (in-tail m u) h = rw (← at-injective h) (holds-tail (rw m (written-tail q v payload (streamed (q .mark) p) u)))
+  stands-holds x (in-tail m u) h = rw (← at-injective h) (holds-tail (rw m (written-tail q payload (streamed (q .mark) p) u)))
 
   pub part-holds : (x : Place) → p < 8 * q .size → bitPart q p ≡ answer.At x → Holds q lent payload p x
   unfolding bitPart
-  part-holds x l h = stands-holds x (bit-partition q v p l) h
+  part-holds x l h = stands-holds x (bit-partition q p l) h
