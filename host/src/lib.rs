@@ -20,8 +20,10 @@
 //!
 //! - [`export_fragments`], [`import_fragments`]: a remainder to a hardware locator's fragments, and back;
 //! - those of [`sectors`]: the calls on layouts and pages, for pages of sectors (E12);
-//! - [`store::Store`]: layouts with version numbers, and the version in use at each chip select (E11).
-//! - [`compare_readings`]: what became of each block between two readings of a page, and where they differ.
+//! - [`store::Store`]: layouts with version numbers, and the version in use at each chip select (E11);
+//! - [`compare_readings`]: what became of each block between two readings of a page, and where they differ (E10);
+//! - [`explain_layout`], [`explain_block`], [`explain_bit`]: why a layout is refused, what became of a block, and
+//!   what a page bit is (document 02, E2).
 //!
 //! Each that takes a layout or a level field is handed the edition before it (document 02, E13), but for those
 //! on fragments. Each takes any arguments. `Ok` is reply 0; a [`Refusal`] holds the reply's number and block, and
@@ -37,6 +39,7 @@ pub mod code;
 pub mod compare;
 pub mod decoder;
 pub mod edition;
+pub mod explain;
 pub mod field;
 pub mod fragments;
 pub mod guarded;
@@ -56,6 +59,7 @@ pub mod samples;
 pub mod sectors;
 pub mod store;
 
+pub use explain::{explain_bit, explain_block, explain_layout};
 pub use fragments::{export_fragments, import_fragments};
 pub use layout::{BitPlace, Layout, bit_position, check_layout, locate_bit};
 pub use locate::locate_errors;

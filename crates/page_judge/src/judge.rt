@@ -25,7 +25,7 @@ use replies::Refusal;
 use replies::Verdict;
 
 // The remainder of one block, by a table that is made for it alone.
-fn own_remainder(plan: Plan, page: &[u8], block: u16) -> Register
+pub fn own_remainder(plan: Plan, page: &[u8], block: u16) -> Register
     requires { ⌜ (Ready plan (now page)) × (block < plan .blocks) ⌝ }
     ensures { λ r. ⌜ register (r .words) ≡ remainderAt plan (now (page .entry)) block ⌝ }
 {

@@ -1,0 +1,4 @@
+-- The laws behind explaining layouts and bits.
+pub mod Places
+pub mod Truth
+pub mod Written

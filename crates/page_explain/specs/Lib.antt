@@ -1,0 +1,2 @@
+-- Why a block of a page was answered as it was.
+pub mod Explain
