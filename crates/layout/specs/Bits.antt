@@ -1,7 +1,8 @@
 -- Where a page bit belongs, and where a code bit lies (document 01, "Bits and polynomials" and "Bits").
 -- Position p of a page is byte p / 8, bit 7 - (p mod 8). A block of n bits that starts at s has at position s + j the coefficient of x^(n-1-j).
--- The tail is document 01's word for the bits after the last block. Blocks live in the stream, which leaves the mark out (document 02, E7):
--- a position of the page is asked for by the stream position that stands there, unless it is in the mark.
+-- The tail is the bits of no block: those after the last one, which document 01 calls so, and the pads of sectors (document 02, E12). Blocks live in
+-- the stream, which leaves the mark out (document 02, E7): a position of the page is asked for by the stream position that stands there, unless it is
+-- in the mark.
 --
 -- within q b p            stream position p lies in block b
 -- blockBelow q n p        the block in which p lies, one of the first n; the number of blocks where it lies in none of them

@@ -1,14 +1,15 @@
-// Layout words: what a page looks like, and whether it can look so (document 01, "Layout words" and "Replies"; document 02, E7).
+// Layouts: what a page looks like, and whether it can look so (document 01, "Layout words" and "Replies"; document 02, E7 and E12).
 //
 //   check_layout     is this layout acceptable? The layout, or the reason why not
 //   plan_of          the plan of a page under an accepted layout
 //   fields_of        the fields of a record in twelve bytes, accepted or not
+//   sectors_layout   the layout of a page of sectors, accepted or not; the crate `sectors` says whether it is
 //
 // check_layout takes the edition and the layout record as bytes of any length, and asks nothing of its caller. The steps:
 // 1. words.rt takes the eight or twelve bytes apart into the fields of document 01 and the mark of document 02 (`Fields`).
 // 2. sums.rt works the sums out (`Plan`): number of blocks, data length, used bits, lengths of block 0 and of a later block. They
 //    are kept (`Layout`), and nothing adds them up again. Code and definitions above this crate know a plan and no layout words;
-//    block b starts where block b - 1 ends, at any bit.
+//    block b starts where block b - 1 ends with its pads, at any bit. sector_sums.rt does the same for sectors.
 // 3. rules.rt looks for the first rule that the layout breaks (`Finding`), block 0 before the later blocks.
 // 4. answers.rt gives the case of document 01's table that a refusal is, and its number.
 mod answers;

@@ -7,7 +7,7 @@
 // definition, `writeOf` of the crate `page_theory`, specs/Calls.antt. The steps:
 // 1. `layout` answers to the record and works out the plan: how many blocks, what each is made of, where each starts.
 // 2. lengths.rt looks at the lengths. A refusal ends the call before anything is written.
-// 3. write.rt puts block after block, message and parity, and then ones into the tail; the factory's mark is left as it was lent. One
+// 3. write.rt puts block after block, message, parity and ones into the pads, then ones into the tail; the factory's mark stays as lent. One
 //    table of a generator is made after the other in the same place: that of block 0, then that of the later blocks.
 mod answers;
 mod lengths;
