@@ -23,9 +23,9 @@ use Rattle.field.specs.Field.{longest}
 use Rattle.algebra.specs.Word.{flip, differ}
 use Rattle.replies.specs.declared.Refusal.{Refusal}
 use Rattle.replies.specs.Replies.{number}
-use Rattle.layout.specs.declared.Shape.{Shape}
-use Rattle.layout.specs.declared.Plan.{Plan}
-use Rattle.layout.specs.Plan.{shape, field, level, start}
+use Rattle.layout_plan.specs.declared.Shape.{Shape}
+use Rattle.layout_plan.specs.declared.Plan.{Plan}
+use Rattle.layout_plan.specs.Plan.{shape, field, level, start}
 use Rattle.code.specs.Word.{Word, turned, flipped}
 use Rattle.code.specs.Code.{Codeword, Fits}
 use Rattle.code.specs.Generator.{remainder}

@@ -25,9 +25,9 @@ use lib.Dec.{ltb}
 use Rattle.bits.specs.Decides.{Decides}
 use Rattle.field.specs.Field.{degree}
 use Rattle.field.specs.Tables.{Tables}
-use Rattle.layout.specs.declared.Shape.{Shape}
-use Rattle.layout.specs.declared.Plan.{Plan}
-use Rattle.layout.specs.Plan.{shape, field, level, covered, Valid}
+use Rattle.layout_plan.specs.declared.Shape.{Shape}
+use Rattle.layout_plan.specs.declared.Plan.{Plan}
+use Rattle.layout_plan.specs.Plan.{shape, field, level, covered, Valid}
 use Rattle.code.specs.Outcome.{Outcome}
 use Rattle.code.specs.Locations.{nowhere, locate}
 use Rattle.code.proofs.Outcome.{gives-sound}

@@ -11,8 +11,8 @@ use lib.ListN.{length, take, replicate}
 use borrow.Author.Tests.{le-leb, lt-leb}
 use Rattle.field.specs.declared.Field.{Field}
 use Rattle.field.specs.Field.{degree}
-use Rattle.layout.specs.declared.Plan.{Plan}
-use Rattle.layout.specs.Plan.{bits, field, level, covered, Valid}
+use Rattle.layout_plan.specs.declared.Plan.{Plan}
+use Rattle.layout_plan.specs.Plan.{bits, field, level, covered, Valid}
 use Rattle.code.specs.Word.{Word, flipped, ones, zeros, zerosTo, Below}
 use Rattle.code.specs.Outcome.{erasedCount}
 use Rattle.code.specs.Generator.{remainder}

@@ -14,8 +14,8 @@ use mathlib.Core.List.{List}
 use Prim.Native.Nat.{ℕ, _≤_, _<_}
 use lib.ListN.{length, take, replicate}
 use lib.Dec.{leb, ltb}
-use Rattle.layout.specs.declared.Plan.{Plan}
-use Rattle.layout.specs.Plan.{bits, field, level, covered}
+use Rattle.layout_plan.specs.declared.Plan.{Plan}
+use Rattle.layout_plan.specs.Plan.{bits, field, level, covered}
 use Rattle.code.specs.Word.{zeros}
 use Rattle.code.specs.Outcome.{erasedCount}
 use Rattle.code.specs.Register.{register}

@@ -13,10 +13,10 @@ use Rattle.bits.proofs.Runs.{run-at, run-ext, run-append}
 use Rattle.bits.proofs.Pages.{bytes-bytes, bytes-ext, bytes-cong}
 use Rattle.mark.specs.Mark.{marked, streamed, streamBit, putBit, put}
 use Rattle.mark.proofs.Places.{place-streamed, streamed-below}
-use Rattle.layout.specs.declared.Plan.{Plan}
-use Rattle.layout.specs.Plan.{covered, pads, start, used, room, Valid}
+use Rattle.layout_plan.specs.declared.Plan.{Plan}
+use Rattle.layout_plan.specs.Plan.{covered, pads, start, used, room, Valid}
 use Rattle.layout.specs.Bits.{blockOf}
-use Rattle.layout.proofs.Plans.{start-next}
+use Rattle.layout_plan.proofs.Plans.{start-next}
 use Rattle.page_bits.proofs.Placing.{Lies, block-or-tail, block-past, pads-free}
 use Rattle.code.specs.Word.{Word}
 use Rattle.page_theory.specs.Page.{written, writtenBit, pageBit, pageOf, blockWord}

@@ -18,13 +18,13 @@ use Rattle.field.specs.declared.Field.{Field}
 use Rattle.field.specs.Field.{degree}
 use Rattle.replies.specs.declared.Refusal.{Refusal}
 use Rattle.replies.specs.Replies.{number, block}
-use Rattle.layout.specs.declared.Shape.{Shape}
-use Rattle.layout.specs.declared.Plan.{Plan}
+use Rattle.layout_plan.specs.declared.Shape.{Shape}
+use Rattle.layout_plan.specs.declared.Plan.{Plan}
 use Rattle.layout.specs.declared.Refusal as kinds
 use Rattle.layout.specs.declared.Acceptance.{Acceptance}
 use Rattle.layout.specs.declared.Acceptance.the-variants.{Refused}
 use Rattle.layout.specs.Acceptance.{refusalOf, refusalReply}
-use Rattle.layout.specs.Plan.{shape, bits, start, used, room, from, payload, Summed, Valid}
+use Rattle.layout_plan.specs.Plan.{shape, bits, start, used, room, from, payload, Summed, Valid}
 use Rattle.code.specs.Word.{Word}
 use Rattle.code.specs.Generator.{parity}
 use Rattle.page_theory.specs.Page.{message, written, pageBit, pageOf}

@@ -14,7 +14,7 @@ use Rattle.field.specs.Field.{degree, longest}
 use Rattle.replies.specs.Replies.{number}
 use Rattle.replies.specs.Edition.{highest}
 use Rattle.replies.proofs.Editions.{highest-small}
-use Rattle.layout.specs.Plan.{shapeWith}
+use Rattle.layout_plan.specs.Plan.{shapeWith}
 use Rattle.layout.specs.Acceptance.{test, either, levelRule, messageRule, lengthRule, ruleRefusal, ruleNumber}
 use Rattle.code.specs.Register.{register}
 use Rattle.remainder.specs.Remainder.{bytesFor, bytesOf}

@@ -18,9 +18,9 @@ use Rattle.field.specs.declared.Field.{Field}
 use Rattle.field.specs.declared.Field.the-variants.{Thirteen, Fourteen}
 use Rattle.field.specs.declared.Choice.the-variants.{Offered, Unknown}
 use Rattle.field.specs.Field.{degree, longest, chosen}
-use Rattle.layout.specs.Record.{fieldOf}
-use Rattle.layout.specs.Plan.{shapeWith}
-use Rattle.layout.specs.ReplyRules.{tooLong}
+use Rattle.layout_plan.specs.Record.{fieldOf}
+use Rattle.layout_plan.specs.Plan.{shapeWith}
+use Rattle.layout_replies.specs.ReplyRules.{tooLong}
 use Rattle.pieces.specs.declared.State.{State}
 use Rattle.pieces.specs.State.{stateOf, after}
 use Rattle.code.specs.Register.{register}

@@ -2,7 +2,7 @@
 -- Each is a function of everything that is handed in or lent, for every state, whoever made it. Of several replies the first in the
 -- order 7 for the edition, 7, 1, 2, 3, 6 is given. A refusal leaves the state and the parity buffer as they were, and finishing leaves the state.
 --
--- shapeFor f level n        the shape of a block with a message of n bytes (layout/Plan)
+-- shapeFor f level n        the shape of a block with a message of n bytes (layout_plan/Plan)
 -- startReply edition f level n      1, 2 or 3 where a block of a page would get it (layout/Acceptance), else 0
 -- usable f s                a start in the field f under some edition accepts the numbers of the state, no more is fed than the message has, and what is carried is below 2^(mt)
 -- answered reply s          an answer; Finished: a reply, the state and the lent parity buffer afterwards
@@ -22,11 +22,11 @@ use Rattle.field.specs.Field.{degree, chosen}
 use Rattle.replies.specs.declared.Refusal.the-variants as refusal
 use Rattle.replies.specs.Replies.{number, unless}
 use Rattle.replies.specs.Edition.{offered}
-use Rattle.layout.specs.declared.Shape.{Shape}
+use Rattle.layout_plan.specs.declared.Shape.{Shape}
 use Rattle.layout.specs.declared.Finding.{Finding}
 use Rattle.layout.specs.declared.Finding.the-variants.{Kept, Broken}
 use Rattle.layout.specs.declared.Kind.the-variants.{First}
-use Rattle.layout.specs.Plan.{shapeWith}
+use Rattle.layout_plan.specs.Plan.{shapeWith}
 use Rattle.layout.specs.Acceptance.{either, levelRule, messageRule, lengthRule, ruleNumber}
 use Rattle.code.specs.Register.{register}
 use Rattle.remainder.specs.Remainder.{bytesFor, bytesOf}

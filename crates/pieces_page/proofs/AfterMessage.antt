@@ -13,13 +13,13 @@ use Rattle.bits.proofs.Runs.{run-length, run-append}
 use Rattle.mark.specs.Mark.{streamBit}
 use Rattle.replies.specs.Edition.{offered, highest}
 use Rattle.replies.proofs.Editions.{highest-small}
-use Rattle.layout.specs.declared.Fields.{Fields}
-use Rattle.layout.specs.declared.Shape.{Shape}
-use Rattle.layout.specs.declared.Plan.{Plan}
-use Rattle.layout.specs.Record.{Words, fieldsAt, fieldsUnder, fieldsIn}
-use Rattle.layout.specs.Plan.{shapeWith, shapeOf, planFor, shape, bits, field, level, covered, start}
+use Rattle.layout_plan.specs.declared.Fields.{Fields}
+use Rattle.layout_plan.specs.declared.Shape.{Shape}
+use Rattle.layout_plan.specs.declared.Plan.{Plan}
+use Rattle.layout_plan.specs.Record.{Words, fieldsAt, fieldsUnder, fieldsIn}
+use Rattle.layout_plan.specs.Plan.{shapeWith, shapeOf, planFor, shape, bits, field, level, covered, start}
 use Rattle.layout.specs.Acceptance.{acceptance}
-use Rattle.layout.proofs.Plans.{later-some, shape-later}
+use Rattle.layout_plan.proofs.Plans.{later-some, shape-later}
 use Rattle.layout.proofs.Accepting.{Keeps, keeps, accepted-taken, accepted-plan, accepted-kept}
 use Rattle.code.specs.Generator.{parity}
 use Rattle.remainder.specs.Remainder.{bytesFor}

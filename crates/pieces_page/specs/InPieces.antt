@@ -8,8 +8,8 @@ use mathlib.Core.List.{List}
 use Prim.Native.Nat.{ℕ, _*_}
 use lib.ListN.{length}
 use Rattle.field.specs.declared.Field.{Field}
-use Rattle.layout.specs.declared.Plan.{Plan}
-use Rattle.layout.specs.Plan.{level}
+use Rattle.layout_plan.specs.declared.Plan.{Plan}
+use Rattle.layout_plan.specs.Plan.{level}
 use Rattle.page_theory.specs.Page.{message}
 use Rattle.pieces.specs.declared.State.{State}
 use Rattle.piece_parity.specs.Carried.{bitsOf}

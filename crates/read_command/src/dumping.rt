@@ -6,7 +6,7 @@ use crate::totals;
 use crate::totals::Failed;
 use crate::totals::Run;
 use crate::totals::Totals;
-use layout::Plan;
+use layout_plan::Plan;
 use page_lines::Answer;
 use page_lines::Sums;
 use replies::Refusal;

@@ -1,7 +1,7 @@
 // How far a dump is read.
 use crate::totals::Run;
 use crate::totals::Totals;
-use layout::Plan;
+use layout_plan::Plan;
 
 // Shows how far it is where it is time for that.
 pub fn progress(plan: Plan, run: Run, totals: Totals) -> Totals {

@@ -4,7 +4,7 @@ use crate::running;
 use crate::totals::Run;
 use arguments::Options;
 use dump_progress::seconds;
-use layout::Plan;
+use layout_plan::Plan;
 use plans::Planned;
 
 // What is asked for.

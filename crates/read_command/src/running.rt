@@ -5,7 +5,7 @@ use crate::totals::Failed;
 use crate::totals::Run;
 use crate::totals::Totals;
 use files::Passed;
-use layout::Plan;
+use layout_plan::Plan;
 use page_lines::Answer;
 use streams::Filled;
 

@@ -4,7 +4,7 @@ use crate::totals;
 use crate::totals::Failed;
 use crate::totals::Run;
 use crate::totals::Totals;
-use layout::Plan;
+use layout_plan::Plan;
 
 // How far a lies past b.
 fn past(a: u64, b: u64) -> u64 {

@@ -33,7 +33,7 @@ use page_take::TakeAnswer;
 use page_write::WriteAnswer;
 ghost use mathlib.Core.Path.{_≡_};
 ghost use Rattle.bch.specs.Answers.{locateOf};
-ghost use Rattle.layout.specs.Record.{wordsOf};
+ghost use Rattle.layout_plan.specs.Record.{wordsOf};
 ghost use Rattle.layout.specs.Acceptance.{acceptance};
 ghost use Rattle.layout.specs.Bits.{bitAnswer, positionAnswer};
 ghost use Rattle.page_theory.specs.Calls.{writeOf, lookOf, takeOf, judgeOf, claimOf};

@@ -1,5 +1,5 @@
 // Calls about one sector of a page.
-use layout::Sectors;
+use layout_plan::Sectors;
 use text::Number;
 
 fn judge_answer(sectors: Sectors, page: &[u8], block: u64, line: &mut [u8]) -> usize {

@@ -1,5 +1,5 @@
 // The words that every call has.
-use layout::Sectors;
+use layout_plan::Sectors;
 use text::Number;
 
 // The layout and the edition, where all seven are numbers that fit.

@@ -25,7 +25,7 @@ mod pages;
 mod places;
 
 use heads::Head;
-use layout::Sectors;
+use layout_plan::Sectors;
 use libc::STDIN_FILENO;
 use vector_words::is_call;
 

@@ -1,5 +1,5 @@
 // Calls about a whole page: each reads one buffer and may write another.
-use layout::Sectors;
+use layout_plan::Sectors;
 use text::Number;
 use vector_words::is_call;
 

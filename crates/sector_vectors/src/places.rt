@@ -1,7 +1,7 @@
 // Calls about a layout and its bits.
 use layout::BitAnswer;
 use layout::PositionAnswer;
-use layout::Sectors;
+use layout_plan::Sectors;
 use page_vector_io::put_reply;
 use text::Number;
 

@@ -2,7 +2,7 @@
 use mathlib.Core.Path.{refl, ap, _∙_}
 use native.Mathlib.Omega.{arith}
 use borrow.Author.Needs.{needs}
-use Rattle.layout.specs.declared.Shape.{Shape}
+use Rattle.layout_plan.specs.declared.Shape.{Shape}
 use Rattle.page_plan.proofs.Plans.{block-inside}
 use Rattle.page_theory.specs.Page.{blockWord}
 use Rattle.page_decide.proofs.Remainders.{erasedAt-few, erasedAt-many}
