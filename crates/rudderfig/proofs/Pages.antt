@@ -23,7 +23,7 @@ use Rattle.page_theory.specs.Calls.{blockReply, judgeEnded, judgeBy, judgeIn, j
 use Rattle.page_theory.proofs.Reading.{refused-lowest}
 use Rattle.page_theory.proofs.Calls.{Replied, whole, named, look-replied, take-replied}
 use Rattle.page_theory.proofs.Demand1.{write-ends, look-ends, take-ends, judge-ends, claim-ends}
-use Rattle.rudderfig.specs.Answer.{answerWord}
+use Rattle.answer_words.specs.Answer.{answerWord}
 use Rattle.rudderfig.specs.Pages.{judgeWord, claimWord}
 use Rattle.rudderfig.proofs.Words.{Holds, word-holds}
 use Rattle.rudderfig.proofs.Sizes.{blocks-low, accepted-narrow}

@@ -40,17 +40,17 @@ use denote.Triple.Table.{entered, cited}
 use denote.Triple.Walked.{says, Stays, stay-ref, stay-none-slice, walkOf, goes-ref, goes-none-slice, Walks, ends-at, walked, walk-meets}
 use denote.Exit.{yes}
 use denote.Triple.Clauses.{ensured, lasts}
-use Rattle.pieces.specs.Calls.{feedOf}
-use Rattle.pieces.specs.declared.State.{State}
-use Rattle.pieces.specs.declared.Answered.{Answered}
+use Rattle.piece_states.specs.Calls.{feedOf}
+use Rattle.piece_states.specs.declared.State.{State}
+use Rattle.piece_states.specs.declared.Answered.{Answered}
 use Rattle.pieces.proofs.State as T
 use Rattle.pieces.proofs.State.Laws as T′
 use Rattle.pieces.proofs.Answered as F
 use Rattle.pieces.proofs.Answered.Laws as F′
-use Rattle.pieces.proofs.value.feed as value
-use Rattle.pieces.proofs.value.feed.Symbol as value-def
-use Rattle.pieces.proofs.value.feed.Symbol.{name as #pieces·value·feed}
-use Rattle.pieces.proofs.value.feed.Met as value-thm
+use Rattle.piece_states.proofs.value.feed as value
+use Rattle.piece_states.proofs.value.feed.Symbol as value-def
+use Rattle.piece_states.proofs.value.feed.Symbol.{name as #pieces·value·feed}
+use Rattle.piece_states.proofs.value.feed.Met as value-thm
 use Rattle.pieces.proofs.feed.Key.{name as #pieces·feed}
 use Rattle.pieces.proofs.feed as feed
 use Rattle.pieces.proofs.feed.Statement as stated

@@ -40,17 +40,17 @@ use denote.Triple.Spec.{Meets, tripleOf}
 use denote.Triple.Table.{entered, cited}
 use denote.Triple.Walked.{says, Stays, stay-ref, gave-slice, walkOf, goes-ref, goes-gave-slice, Walks, ends-at, walked, walk-meets}
 use denote.Triple.Clauses.{ensured, lasts}
-use Rattle.pieces.specs.Calls.{finished, finishOf}
-use Rattle.pieces.specs.declared.State.{State}
-use Rattle.pieces.specs.declared.Answered.{Answered}
+use Rattle.piece_states.specs.Calls.{finished, finishOf}
+use Rattle.piece_states.specs.declared.State.{State}
+use Rattle.piece_states.specs.declared.Answered.{Answered}
 use Rattle.pieces.proofs.State as T
 use Rattle.pieces.proofs.State.Laws as T′
 use Rattle.pieces.proofs.Answered as F
 use Rattle.pieces.proofs.Answered.Laws as F′
-use Rattle.pieces.proofs.value.finish as value
-use Rattle.pieces.proofs.value.finish.Symbol as value-def
-use Rattle.pieces.proofs.value.finish.Symbol.{name as #pieces·value·finish}
-use Rattle.pieces.proofs.value.finish.Met as value-thm
+use Rattle.piece_states.proofs.value.finish as value
+use Rattle.piece_states.proofs.value.finish.Symbol as value-def
+use Rattle.piece_states.proofs.value.finish.Symbol.{name as #pieces·value·finish}
+use Rattle.piece_states.proofs.value.finish.Met as value-thm
 use Rattle.pieces.proofs.finish.Key.{name as #pieces·finish}
 use Rattle.pieces.proofs.finish as finish
 use Rattle.pieces.proofs.finish.Statement as stated

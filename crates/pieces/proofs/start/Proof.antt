@@ -38,17 +38,17 @@ use denote.Triple.Table.{entered, cited}
 use denote.Triple.Walked.{says, Stays, stay-ref, stay-none, walkOf, AllGo, goes-ref, goes-none, Walks, ends-at, walked, walk-meets}
 use denote.Exit.{yes}
 use denote.Triple.Clauses.{ensured, lasts}
-use Rattle.pieces.specs.Calls.{startOf}
-use Rattle.pieces.specs.declared.State.{State}
-use Rattle.pieces.specs.declared.Answered.{Answered}
+use Rattle.piece_states.specs.Calls.{startOf}
+use Rattle.piece_states.specs.declared.State.{State}
+use Rattle.piece_states.specs.declared.Answered.{Answered}
 use Rattle.pieces.proofs.State as T
 use Rattle.pieces.proofs.State.Laws as T′
 use Rattle.pieces.proofs.Answered as F
 use Rattle.pieces.proofs.Answered.Laws as F′
-use Rattle.pieces.proofs.value.start as value
-use Rattle.pieces.proofs.value.start.Symbol as value-def
-use Rattle.pieces.proofs.value.start.Symbol.{name as #pieces·value·start}
-use Rattle.pieces.proofs.value.start.Met as value-thm
+use Rattle.piece_states.proofs.value.start as value
+use Rattle.piece_states.proofs.value.start.Symbol as value-def
+use Rattle.piece_states.proofs.value.start.Symbol.{name as #pieces·value·start}
+use Rattle.piece_states.proofs.value.start.Met as value-thm
 use Rattle.pieces.proofs.start.Key.{name as #pieces·start}
 use Rattle.pieces.proofs.start as start
 use Rattle.pieces.proofs.start.Statement as stated
