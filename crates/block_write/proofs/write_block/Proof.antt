@@ -1,10 +1,10 @@
--- `page_write::write::write_block` meets its contract.
+-- `block_write::write_block` meets its contract.
 use native.Mathlib.Omega.{arith}
 use borrow.Author.Needs.{needs}
 use Rattle.bits.proofs.Runs.{run-length}
-use Rattle.page_write.proofs.Writing.{padded-put, padded-none}
-use Rattle.page_write.proofs.write.write_block.Statement.{statement}
-use Rattle.page_write.proofs.write.write_block.Tie as tie
+use Rattle.block_write.proofs.Encoding.{padded-put, padded-none}
+use Rattle.block_write.proofs.write_block.Statement.{statement}
+use Rattle.block_write.proofs.write_block.Tie as tie
 
 write-covered-requires : tie.Need-write-covered-requires
 write-covered-requires c κs = search needs

@@ -1,12 +1,12 @@
--- `page_write::write::write_parity` meets its contract.
+-- `block_write::write_parity` meets its contract.
 use mathlib.Core.Path.{refl, _∙_, ap}
 use native.Mathlib.Omega.{arith}
 use Rattle.mark.specs.Mark.{put}
 use Rattle.remainder.proofs.Fold.{parity-bits-below, parity-digits}
-use Rattle.page_write.proofs.Writing.{parity-none}
+use Rattle.block_write.proofs.Encoding.{parity-none}
 use borrow.Author.Needs.{needs}
-use Rattle.page_write.proofs.write.write_parity.Statement.{statement}
-use Rattle.page_write.proofs.write.write_parity.Tie as tie
+use Rattle.block_write.proofs.write_parity.Statement.{statement}
+use Rattle.block_write.proofs.write_parity.Tie as tie
 
 cast-level : tie.Need-cast-level
 cast-level c = search needs

@@ -1,10 +1,10 @@
--- `page_write::write::write_covered` meets its contract.
+-- `block_write::write_covered` meets its contract.
 use native.Mathlib.Omega.{arith}
 use Rattle.bits.proofs.Runs.{run-length}
-use Rattle.page_write.proofs.Writing.{encoded-put}
+use Rattle.block_write.proofs.Encoding.{encoded-put}
 use borrow.Author.Needs.{needs}
-use Rattle.page_write.proofs.write.write_covered.Statement.{statement}
-use Rattle.page_write.proofs.write.write_covered.Tie as tie
+use Rattle.block_write.proofs.write_covered.Statement.{statement}
+use Rattle.block_write.proofs.write_covered.Tie as tie
 
 cast-n : tie.Need-cast-n
 cast-n c = search needs
