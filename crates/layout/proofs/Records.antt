@@ -1,12 +1,9 @@
 -- Records of two words and of three: a third word of zeros is as good as none.
 use mathlib.Core.Path.{_≡_, refl, _∙_}
-use mathlib.Core.Bool.{Bool, true, false, cond, true≢false}
 use mathlib.Core.List.{List, [], _∷_, _++_}
-use Prim.Native.Nat.{ℕ, zero, suc, _≤_}
+use Prim.Native.Nat.{ℕ, zero, suc}
 use native.Mathlib.Omega.{arith}
-use lib.ListN.{length, getD, length-append, List·getD-eq-default}
-use lib.Dec.{eqb}
-use borrow.Author.Tests.{eqb-true, ne-eqb}
+use lib.ListN.{length, getD, length-append}
 use Rattle.layout_plan.specs.Record.{wordsOf, markIn, fieldsUnder, layoutOf, recordLength}
 use Rattle.layout.specs.Acceptance.{acceptance}
 

@@ -10,8 +10,7 @@
 -- ruleRefusal, refusalOf  what a broken rule and a refusal are in document 01's table (replies/Replies)
 -- ruleNumber, refusalReply   its number there
 use Prim.Native.Nat.{ℕ, _+_}
-use mathlib.Core.List.{List}
-use mathlib.Core.Bool.{Bool, true, false, cond}
+use mathlib.Core.Bool.{Bool, false, cond}
 use lib.ListN.{length}
 use lib.Dec.{eqb, ltb}
 use Rattle.field.specs.Field.{longest}

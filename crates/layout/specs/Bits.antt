@@ -13,7 +13,6 @@
 -- bitIn, bitAnswer        the answer to a position, under a plan and for a record
 -- positionIn, positionAnswer   the answer to block and exponent, under a plan and for a record
 use Prim.Native.Nat.{ℕ, zero, suc, _+_, _-_, _*_}
-use mathlib.Core.List.{List}
 use mathlib.Core.Bool.{Bool, false, cond}
 use lib.Dec.{leb, ltb}
 use Rattle.mark.specs.Mark.{place, marked, streamed}

@@ -1,4 +1,7 @@
-// What becomes of one block, by its remainder.
+// What becomes of one block, by its remainder (document 01, "Replies"; document 02, E1).
+//
+//   block_outcome    the exponents that repair a block, or that there are none
+//   block_count      its count: how many exponents, 128 plus the zeros of an erased block, 255 of a ruined one
 ghost use mathlib.Core.Path.{_≡_};
 ghost use Prim.Native.Nat.{_*_, _^_, _≤_, _<_};
 ghost use Rattle.field.specs.Field.{degree};
@@ -7,7 +10,7 @@ ghost use Rattle.layout_plan.specs.Plan.{field, level, covered};
 ghost use Rattle.code.specs.Register.{register};
 ghost use Rattle.decoder.specs.Locating.{Finds};
 ghost use Rattle.page_plan.specs.Plans.{Planned, Ready};
-ghost use Rattle.page_decide.specs.Deciding.{erasedAt, countAt};
+ghost use Rattle.block_outcome.specs.Counts.{erasedAt, countAt};
 use decoder::Found;
 use decoder::find_errors;
 use layout_plan::Plan;

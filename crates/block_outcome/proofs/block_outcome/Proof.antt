@@ -1,8 +1,8 @@
--- `page_decide::outcome::block_outcome` meets its contract.
+-- `block_outcome::block_outcome` meets its contract.
 use borrow.Author.Needs.{needs}
-use Rattle.page_decide.proofs.Remainders.{block-locatable}
-use Rattle.page_decide.proofs.outcome.block_outcome.Statement.{statement}
-use Rattle.page_decide.proofs.outcome.block_outcome.Tie as tie
+use Rattle.block_outcome.proofs.Counts.{block-locatable}
+use Rattle.block_outcome.proofs.block_outcome.Statement.{statement}
+use Rattle.block_outcome.proofs.block_outcome.Tie as tie
 
 block-shape-requires : tie.Need-block-shape-requires
 block-shape-requires c κs = search needs

@@ -1,13 +1,13 @@
--- `page_decide::outcome::erased_count` meets its contract.
+-- `block_outcome::erased_count` meets its contract.
 use mathlib.Core.Path.{refl, ap, _∙_}
 use native.Mathlib.Omega.{arith}
 use borrow.Author.Needs.{needs}
 use Rattle.layout_plan.specs.declared.Shape.{Shape}
 use Rattle.page_plan.proofs.Plans.{block-inside}
 use Rattle.page_theory.specs.Page.{blockWord}
-use Rattle.page_decide.proofs.Remainders.{erasedAt-few, erasedAt-many}
-use Rattle.page_decide.proofs.outcome.erased_count.Statement.{statement}
-use Rattle.page_decide.proofs.outcome.erased_count.Tie as tie
+use Rattle.block_outcome.proofs.Counts.{erasedAt-few, erasedAt-many}
+use Rattle.block_outcome.proofs.erased_count.Statement.{statement}
+use Rattle.block_outcome.proofs.erased_count.Tie as tie
 
 block-shape-requires : tie.Need-block-shape-requires
 block-shape-requires c κs = search needs

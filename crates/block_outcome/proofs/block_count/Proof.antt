@@ -1,9 +1,9 @@
--- `page_decide::outcome::block_count` meets its contract.
+-- `block_outcome::block_count` meets its contract.
 use borrow.Author.Needs.{needs}
 use borrow.Author.Tests.{not-true, not-false}
-use Rattle.page_decide.proofs.Deciding.{countAt-located, countAt-nowhere}
-use Rattle.page_decide.proofs.outcome.block_count.Statement.{statement}
-use Rattle.page_decide.proofs.outcome.block_count.Tie as tie
+use Rattle.block_outcome.proofs.Counts.{countAt-located, countAt-nowhere}
+use Rattle.block_outcome.proofs.block_count.Statement.{statement}
+use Rattle.block_outcome.proofs.block_count.Tie as tie
 
 erased-count-requires : tie.Need-erased-count-requires
 erased-count-requires c κs = search needs
