@@ -1,14 +1,14 @@
--- `page_look::look::count_from` meets its contract. The loop's invariant: the blocks before the one at hand are counted.
+-- `page_counts::count_from` meets its contract. The loop's invariant: the blocks before the one at hand are counted.
 use Prim.Native.Nat.{_-_, _≤_}
 use mathlib.Core.Path.{refl}
 use native.Mathlib.Omega.{arith}
 use borrow.Author.Needs.{needs}
 use Rattle.page_decide.specs.Deciding.{Remembers}
 use Rattle.page_decide.proofs.Deciding.{remembers-nothing, one-field-tables}
-use Rattle.page_look.specs.Looking.{Underway}
-use Rattle.page_look.proofs.Looking.{underway-left, underway-next, underway-end}
-use Rattle.page_look.proofs.look.count_from.Statement.{statement}
-use Rattle.page_look.proofs.look.count_from.Tie as tie
+use Rattle.page_counts.specs.Looking.{Underway}
+use Rattle.page_counts.proofs.Looking.{underway-left, underway-next, underway-end}
+use Rattle.page_counts.proofs.count_from.Statement.{statement}
+use Rattle.page_counts.proofs.count_from.Tie as tie
 
 abbrev Inv-loop : tie.InvT-loop
 Inv-loop plan page table powers logs counts₀ blocks at₀ last₀ counts at last =

@@ -1,12 +1,12 @@
--- `page_look::look::first_ruined` meets its contract. The loop's invariant: no count passed is 255.
+-- `page_counts::first_ruined` meets its contract. The loop's invariant: no count passed is 255.
 use mathlib.Core.Path.{_≡_}
 use Prim.Native.Nat.{ℕ, _-_, _≤_, _<_}
 use native.Mathlib.Omega.{arith}
 use lib.ListN.{getD}
 use borrow.Author.Count.{below-more}
 use borrow.Author.Needs.{needs}
-use Rattle.page_look.proofs.look.first_ruined.Statement.{statement}
-use Rattle.page_look.proofs.look.first_ruined.Tie as tie
+use Rattle.page_counts.proofs.first_ruined.Statement.{statement}
+use Rattle.page_counts.proofs.first_ruined.Tie as tie
 
 abbrev Inv-loop : tie.InvT-loop
 Inv-loop counts n b₀ b = (b ≤ n) × ((k : ℕ) → k < b → getD counts k 0 ≡ 255 → ⊥)

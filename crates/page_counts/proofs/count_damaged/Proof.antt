@@ -1,4 +1,4 @@
--- `page_look::look::count_damaged` meets its contract.
+-- `page_counts::count_damaged` meets its contract.
 use mathlib.Core.Path.{sym, ap, _∙_}
 use native.Mathlib.Omega.{arith}
 use lib.ListN.{length}
@@ -6,9 +6,9 @@ use borrow.Author.Needs.{needs}
 use borrow.Author.Tests.{not-true, not-false}
 use Rattle.page_theory.proofs.Reading.{counts-length}
 use Rattle.page_decide.proofs.Deciding.{later-field}
-use Rattle.page_look.proofs.Looking.{underway-left, underway-next, underway-end}
-use Rattle.page_look.proofs.look.count_damaged.Statement.{statement}
-use Rattle.page_look.proofs.look.count_damaged.Tie as tie
+use Rattle.page_counts.proofs.Looking.{underway-left, underway-next, underway-end}
+use Rattle.page_counts.proofs.count_damaged.Statement.{statement}
+use Rattle.page_counts.proofs.count_damaged.Tie as tie
 
 apart-requires : tie.Need-apart-requires
 apart-requires c κs = search needs

@@ -15,7 +15,6 @@ use native.Mathlib.Omega.{arith}
 use lib.ListN.{length, getD, set, replicate, length-set, length-replicate}
 use lib.Seq.{getD-set-same, getD-set-other, ext-getD}
 use Rattle.layout_plan.specs.declared.Plan.{Plan}
-use Rattle.layout_plan.specs.Plan.{Valid}
 use Rattle.code.specs.Outcome.{Outcome, good, erased, ruined, erasedCount}
 use Rattle.code.proofs.Outcome.{gives-count}
 use Rattle.page_theory.specs.Reading.{RefusedAt, Lowest, outcome, countOf, counts}
@@ -25,7 +24,7 @@ use Rattle.page_decide.specs.declared.Scan.{Scan}
 use Rattle.page_decide.specs.Scanning.{Scanned, Left}
 use Rattle.page_decide.specs.Deciding.{DecidedAt}
 use Rattle.page_decide.proofs.Deciding.{clean-decided, decided-sound, decided-count}
-use Rattle.page_look.specs.Looking.{Underway, FirstRuined}
+use Rattle.page_counts.specs.Looking.{Underway, FirstRuined}
 
 -- counts of 0
 

@@ -1,12 +1,12 @@
--- `page_look::look::clear` meets its contract. The loop's invariant: the counts passed are 0.
+-- `page_counts::clear` meets its contract. The loop's invariant: the counts passed are 0.
 use mathlib.Core.Path.{_≡_}
 use Prim.Native.Nat.{ℕ, _-_, _≤_, _<_}
 use native.Mathlib.Omega.{arith}
 use lib.ListN.{length, getD}
 use borrow.Author.Needs.{needs}
-use Rattle.page_look.proofs.Looking.{clear-next, clear-end}
-use Rattle.page_look.proofs.look.clear.Statement.{statement}
-use Rattle.page_look.proofs.look.clear.Tie as tie
+use Rattle.page_counts.proofs.Looking.{clear-next, clear-end}
+use Rattle.page_counts.proofs.clear.Statement.{statement}
+use Rattle.page_counts.proofs.clear.Tie as tie
 
 abbrev Inv-loop : tie.InvT-loop
 Inv-loop counts₀ n i₀ counts i = (i ≤ n) × (length counts ≡ n) × ((k : ℕ) → k < i → getD counts k 0 ≡ 0)
