@@ -1,4 +1,4 @@
--- `page_claim::claim::distinct` meets its contract. Every pair passed differs; the loops are left at the first pair that does not.
+-- `block_claim::distinct` meets its contract. Every pair passed differs; the loops are left at the first pair that does not.
 use Prim.Native.Nat.{ℕ, _≤_, _<_, _-_, _+_}
 use mathlib.Core.Path.{_≡_, refl, sym, _∙_}
 use mathlib.Core.Bool.{true, false}
@@ -6,9 +6,9 @@ use lib.ListN.{length, getD}
 use native.Mathlib.Omega.{arith}
 use borrow.Author.Needs.{needs}
 use Rattle.bits.proofs.Decides.{decides-true, decides-false}
-use Rattle.page_claim.proofs.Claims.{Row, Rows, row-start, row-next, rows-start, rows-next, rows-end}
-use Rattle.page_claim.proofs.claim.distinct.Statement.{statement}
-use Rattle.page_claim.proofs.claim.distinct.Tie as tie
+use Rattle.block_claim.proofs.Claims.{Row, Rows, row-start, row-next, rows-start, rows-next, rows-end}
+use Rattle.block_claim.proofs.distinct.Statement.{statement}
+use Rattle.block_claim.proofs.distinct.Tie as tie
 
 abbrev Inv-loop : tie.InvT-loop
 Inv-loop claims ok₀ i j₀ ok j = (i < j) × (j ≤ length claims) × (ok ≡ true) × Row claims i j

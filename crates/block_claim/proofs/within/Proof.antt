@@ -1,13 +1,13 @@
--- `page_claim::claim::within` meets its contract.
+-- `block_claim::within` meets its contract.
 use Prim.Native.Nat.{ℕ, _≤_, _<_, _-_}
 use mathlib.Core.Path.{_≡_}
 use native.Mathlib.Omega.{arith}
 use borrow.Author.Needs.{needs}
 use lib.ListN.{length, getD}
 use Rattle.bits.proofs.Decides.{decides-true, decides-false}
-use Rattle.page_claim.proofs.Claims.{within-next}
-use Rattle.page_claim.proofs.claim.within.Statement.{statement}
-use Rattle.page_claim.proofs.claim.within.Tie as tie
+use Rattle.block_claim.proofs.Claims.{within-next}
+use Rattle.block_claim.proofs.within.Statement.{statement}
+use Rattle.block_claim.proofs.within.Tie as tie
 
 abbrev Inv-loop : tie.InvT-loop
 Inv-loop claims n i₀ i = (i ≤ length claims) × ((k : ℕ) → k < i → getD claims k 0 < n)

@@ -1,8 +1,8 @@
 -- Laws behind the claim check: pairs of exponents, exponents flipped one after the other, codewords by their remainder.
 use mathlib.Core.Path.{_≡_, refl, sym, ap, _∙_}
-use mathlib.Core.Bool.{Bool, true, false, not, cond}
+use mathlib.Core.Bool.{Bool, true, false, not}
 use mathlib.Core.List.{List, [], _∷_, _++_}
-use Prim.Native.Nat.{ℕ, zero, suc, _+_, _-_, _*_, _≤_, _<_}
+use Prim.Native.Nat.{ℕ, suc, _+_, _-_, _*_, _≤_, _<_}
 use native.Mathlib.Omega.{arith}
 use native.Mathlib.Decide.{ℕ-discrete}
 use native.Mathlib.Numerals.{add-one}
@@ -21,23 +21,13 @@ use Rattle.field.specs.declared.Field.{Field}
 use Rattle.field.specs.declared.Field.the-variants.{Thirteen, Fourteen}
 use Rattle.field.specs.Field.{longest}
 use Rattle.algebra.specs.Word.{flip, differ}
-use Rattle.replies.specs.declared.Refusal.{Refusal}
-use Rattle.replies.specs.Replies.{number}
-use Rattle.layout_plan.specs.declared.Shape.{Shape}
-use Rattle.layout_plan.specs.declared.Plan.{Plan}
-use Rattle.layout_plan.specs.Plan.{shape, field, level, start}
 use Rattle.code.specs.Word.{Word, turned, flipped}
 use Rattle.code.specs.Code.{Codeword, Fits}
 use Rattle.code.specs.Generator.{remainder}
 use Rattle.code.proofs.Distance.{coefficient, coefficient-ext}
 use Rattle.code.proofs.Flips.{turned-length, turned-coefficient}
 use Rattle.code.proofs.Remainder.{codeword-remainder, remainder-codeword}
-use Rattle.page_theory.specs.Page.{blockWord}
-use Rattle.page_theory.specs.Claim.{Right}
-use Rattle.page_theory.specs.Calls.{blockReply, claimEnded, claimIn}
-use Rattle.page_theory.proofs.Claims.{claim-right, claim-wrong}
-use Rattle.page_claim.specs.Claims.{Distinct, Within}
-use Rattle.page_plan.proofs.Asking.{number-some}
+use Rattle.block_claim.specs.Claims.{Distinct}
 
 -- ---- pairs
 
@@ -157,22 +147,3 @@ pub longest-room : (f : Field) (t n : ℕ) → Fits f t n → (t ≡ 0 → ⊥) 
 unfolding longest
 longest-room Thirteen t n h z = let l = h .short (omega arith) in omega arith
 longest-room Fourteen t n h z = let l = h .short (omega arith) in omega arith
-
--- ---- the claim
-
-pub claim-refused : (q : Plan) (page : List ℕ) (b : ℕ) (claims : List ℕ) (r : Refusal) → number r ≡ blockReply q (length page) b
-    → claimEnded (number r) ≡ claimIn q page b claims
-unfolding claimIn
-claim-refused q page b claims r e = rw (← e, ne-eqb _ 0 (number-some r))
-
-module _ (q : Plan) (page : List ℕ) (b : ℕ) (size : length page ≡ q .size) (inside : b < q .blocks) (claims : List ℕ) {s : Shape} {position : ℕ} (es : s ≡ shape q b)
-    (ep : position ≡ start q b) {r : Bool} (h : Decides r (Right (s .field) (s .level) (run (streamBit (q .mark) page) position (s .covered)) claims)) where
-  block-decided : Decides r (Right (field q b) (level q b) (blockWord q page b) claims)
-  unfolding blockWord
-  block-decided = rw (es, ep) at h
-
-  pub claim-accepted : r ≡ true → claimEnded 0 ≡ claimIn q page b claims
-  claim-accepted e = sym (claim-right q page b size inside claims (block-decided .holds e))
-
-  pub claim-rejected : r ≡ false → claimEnded 10 ≡ claimIn q page b claims
-  claim-rejected e = sym (claim-wrong q page b size inside claims (block-decided .fails e))

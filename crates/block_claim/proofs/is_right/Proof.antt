@@ -1,4 +1,4 @@
--- `page_claim::claim::is_right` meets its contract.
+-- `block_claim::is_right` meets its contract.
 use Prim.Native.Nat.{_≤_, _<_}
 use mathlib.Core.Path.{_≡_, sym}
 use native.Mathlib.Omega.{arith}
@@ -7,8 +7,8 @@ use Rattle.mark.specs.Mark.{streamBit}
 use Rattle.bits.proofs.Decides.{decides-false}
 use Rattle.bits.proofs.Runs.{run-length}
 use borrow.Author.Needs.{needs}
-use Rattle.page_claim.proofs.claim.is_right.Statement.{statement}
-use Rattle.page_claim.proofs.claim.is_right.Tie as tie
+use Rattle.block_claim.proofs.is_right.Statement.{statement}
+use Rattle.block_claim.proofs.is_right.Tie as tie
 
 cast-level : tie.Need-cast-level
 cast-level c = search needs

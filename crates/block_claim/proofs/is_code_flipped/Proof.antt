@@ -1,12 +1,12 @@
--- `page_claim::claim::is_code_flipped` meets its contract.
+-- `block_claim::is_code_flipped` meets its contract.
 use Prim.Native.Nat.{_≤_}
 use mathlib.Core.Path.{_≡_, refl, _∙_, ap}
 use native.Mathlib.Omega.{arith}
 use Rattle.code.specs.Generator.{remainder}
-use Rattle.page_claim.proofs.Claims.{zero-decides, copied-flipped}
+use Rattle.block_claim.proofs.Claims.{zero-decides, copied-flipped}
 use borrow.Author.Needs.{needs}
-use Rattle.page_claim.proofs.claim.is_code_flipped.Statement.{statement}
-use Rattle.page_claim.proofs.claim.is_code_flipped.Tie as tie
+use Rattle.block_claim.proofs.is_code_flipped.Statement.{statement}
+use Rattle.block_claim.proofs.is_code_flipped.Tie as tie
 
 cast-level : tie.Need-cast-level
 cast-level c = search needs

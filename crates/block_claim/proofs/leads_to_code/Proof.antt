@@ -1,11 +1,11 @@
--- `page_claim::claim::leads_to_code` meets its contract.
+-- `block_claim::leads_to_code` meets its contract.
 use Prim.Native.Nat.{_≤_}
 use native.Mathlib.Omega.{arith}
 use Rattle.bits.proofs.Decides.{decides-true}
-use Rattle.page_claim.proofs.Claims.{code-every, longest-room}
+use Rattle.block_claim.proofs.Claims.{code-every, longest-room}
 use borrow.Author.Needs.{needs}
-use Rattle.page_claim.proofs.claim.leads_to_code.Statement.{statement}
-use Rattle.page_claim.proofs.claim.leads_to_code.Tie as tie
+use Rattle.block_claim.proofs.leads_to_code.Statement.{statement}
+use Rattle.block_claim.proofs.leads_to_code.Tie as tie
 
 returns : tie.Need-returns
 returns c = decides-true (code-every _ _ _ (c .if1 .taken))

@@ -1,4 +1,4 @@
--- `page_claim::claim::flip_claims` meets its contract.
+-- `block_claim::flip_claims` meets its contract.
 use Prim.Native.Nat.{ℕ, _≤_, _<_, _-_}
 use mathlib.Core.Path.{_≡_, refl, ap, _∙_}
 use native.Mathlib.Omega.{arith}
@@ -7,9 +7,9 @@ use lib.ListN.{length, getD, take}
 use lib.Seq.{take-all}
 use Rattle.bits.specs.Bits.{bitOf, run}
 use Rattle.code.specs.Word.{flipped}
-use Rattle.page_claim.proofs.Claims.{flip-turned, flipped-start, flipped-next}
-use Rattle.page_claim.proofs.claim.flip_claims.Statement.{statement}
-use Rattle.page_claim.proofs.claim.flip_claims.Tie as tie
+use Rattle.block_claim.proofs.Claims.{flip-turned, flipped-start, flipped-next}
+use Rattle.block_claim.proofs.flip_claims.Statement.{statement}
+use Rattle.block_claim.proofs.flip_claims.Tie as tie
 
 abbrev Inv-loop : tie.InvT-loop
 Inv-loop claims bytes₀ n i₀ bytes i =
