@@ -1,8 +1,7 @@
 // The end of a run: its outputs take their place, or are dropped.
-use crate::dumping;
-use crate::totals::Failed;
-use crate::totals::Run;
-use crate::totals::Totals;
+use read_totals::Failed;
+use read_totals::Run;
+use read_totals::Totals;
 
 // Whether a dump was read, and not one page.
 fn is_dump(run: Run, totals: Totals) -> bool {
@@ -125,6 +124,6 @@ pub fn finish(
         return;
     }
     if is_dump(run, totals) {
-        dumping::summary(out, run, totals);
+        read_totals::summary(out, run, totals);
     }
 }

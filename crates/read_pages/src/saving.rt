@@ -1,10 +1,9 @@
 // A page with ruined blocks of which the others are saved. What stands in the place of a ruined block is listed.
 use crate::dumping;
-use crate::totals;
-use crate::totals::Failed;
-use crate::totals::Run;
-use crate::totals::Totals;
 use layout_plan::Plan;
+use read_totals::Failed;
+use read_totals::Run;
+use read_totals::Totals;
 
 // How far a lies past b.
 fn past(a: u64, b: u64) -> u64 {
@@ -40,19 +39,18 @@ fn places(line: &mut [u8; 32768], plan: Plan, before: u64, b: u16) {
 }
 
 // The line of block b, where it is ruined.
-fn listed(
-    line: &mut [u8; 32768],
-    plan: Plan,
-    run: Run,
-    totals: Totals,
-    counts: &[u8; 256],
-    b: u16,
-) {
+fn listed(line: &mut [u8; 32768], run: Run, totals: Totals, counts: &[u8; 256], b: u16) {
+    let plan = run.plan;
     if !salvage::is_ruined(plan, counts, b) {
         return;
     }
-    say::fact(line, b"page ", text::plus(run.first, totals.pages), b"");
-    say::fact(line, b" block ", b as u64, b" ruined:");
+    say::fact(
+        line,
+        b"page ",
+        text::plus(run.first, totals.pages),
+        b" block ",
+    );
+    say::fact(line, b"", b as u64, b" ruined:");
     places(line, plan, totals.pages, b);
     if run.raw {
         say::put(line, b" are as they stand in the page\n");
@@ -62,74 +60,66 @@ fn listed(
 }
 
 // The lines of all ruined blocks of a page.
-fn list(line: &mut [u8; 32768], plan: Plan, run: Run, totals: Totals, counts: &[u8; 256]) {
+fn list(line: &mut [u8; 32768], run: Run, totals: Totals, counts: &[u8; 256]) {
     let mut b: u16 = 0;
     while b < 256 {
-        listed(line, plan, run, totals, counts, b);
+        listed(line, run, totals, counts, b);
         b += 1;
     }
 }
 
 // Puts the lines of a page to the list, and says whether that is done.
-fn put_list(plan: Plan, run: Run, totals: Totals, counts: &[u8; 256]) -> bool {
+fn put_list(run: Run, totals: Totals, counts: &[u8; 256]) -> bool {
     let mut line = say::new();
-    list(&mut line, plan, run, totals, counts);
+    list(&mut line, run, totals, counts);
     streams::put(run.list, say::text(&line))
 }
 
+// The line of a page that was stored, of so many blocks.
+fn salvaged(out: &mut [u8; 32768], run: Run, totals: Totals, ruined: u64) {
+    let blocks = run.plan.blocks as u64;
+    dumping::page_number(out, run, totals);
+    say::fact(out, b"salvaged ", past(blocks, ruined), b" blocks of ");
+    say::fact(out, b"", blocks, b"\n");
+    say::flush(out);
+}
+
 // A page that was stored, and is listed: its line.
-fn stored(
-    out: &mut [u8; 32768],
-    plan: Plan,
-    run: Run,
-    totals: Totals,
-    counts: &[u8; 256],
-) -> Totals {
+fn stored(out: &mut [u8; 32768], run: Run, totals: Totals, counts: &[u8; 256]) -> Totals {
     if !totals.more {
         return totals;
     }
-    if !put_list(plan, run, totals, counts) {
-        return totals::broken(totals, Failed::List);
+    if !put_list(run, totals, counts) {
+        return read_totals::broken(totals, Failed::List);
     }
-    let sums = page_lines::sums_of(plan, counts);
-    dumping::page_number(out, run, totals);
-    say::fact(
-        out,
-        b"salvaged ",
-        past(plan.blocks as u64, sums.ruined),
-        b" blocks",
-    );
-    say::fact(out, b" of ", plan.blocks as u64, b"\n");
-    say::flush(out);
-    totals::was_salvaged(totals, sums.ruined)
+    let sums = page_lines::sums_of(run.plan, counts);
+    salvaged(out, run, totals, sums.ruined);
+    read_totals::was_salvaged(totals, sums.ruined)
 }
 
-// Saves what can be saved of a page, of which the first n bytes of the buffer are there.
+// Saves what can be saved of a page.
 pub fn save(
     out: &mut [u8; 32768],
-    edition: u64,
-    record: &[u8],
-    plan: Plan,
     run: Run,
     totals: Totals,
-    page: &[u8; 65536],
-    n: usize,
+    page: &[u8],
     counts: &[u8; 256],
 ) -> Totals {
+    let record = run.record;
     let mut metadata = [255u8; 256];
     let mut data = [255u8; 65536];
     if salvage::salvage(
-        edition,
-        record,
-        plan,
+        run.edition,
+        &record,
+        run.plan,
         run.raw,
-        text::front(page, n),
+        page,
         &mut metadata,
         &mut data,
         counts,
     ) {
-        let t = dumping::put_page(run, plan, totals, &metadata, &data);
-        return stored(out, plan, run, t, counts);
+        let t = dumping::put_page(run, totals, &metadata, &data);
+        return stored(out, run, t, counts);
     }
-    dumping::fill_place(run, plan, totals, counts)
+    dumping::fill_place(run, totals, counts)
 }

@@ -1,11 +1,21 @@
-// What a run has to do, and what it came to so far.
+// What a run of the commands read, look and salvage has to do, and what it came to so far.
+//
+//   Run, wants                                       what it has to do
+//   Totals, start                                    what it came to
+//   was_read, was_not_read, was_salvaged, carrying   one page more; a byte of the next one
+//   ended, broken, dropped, some                     its end
+//   progress, summary                                how far a dump is read, on standard error; the last line of a dump
+use layout_plan::Plan;
 use page_lines::Sums;
 
-// The descriptors of input, metadata, data and the list of ruined blocks, the last three below 0 where they are not wanted; whether the
-// file is read as a dump however long it is; the number of the first page; how many pages to read at most, and how many there are, 0 where
-// that is not known; when the run began; whether only refused pages have a line; whether pages are looked at only; and whether a ruined
-// block that goes to the list is stored as it stands in the page.
+// The edition, the layout record and its plan; the descriptors of input, metadata, data and the list of ruined blocks, the last three below
+// 0 where they are not wanted; whether the file is read as a dump however long it is; the number of the first page; how many pages to read at
+// most, and how many there are, 0 where that is not known; when the run began; whether only refused pages have a line; whether pages are
+// looked at only; and whether a ruined block that goes to the list is stored as it stands in the page.
 pub struct Run {
+    pub edition: u64,
+    pub record: [u8; 12],
+    pub plan: Plan,
     pub input: i32,
     pub metadata: i32,
     pub data: i32,
@@ -149,4 +159,44 @@ pub fn some(totals: Totals) -> Totals {
         return t;
     }
     totals
+}
+
+// Shows how far a dump is read where it is time for that.
+pub fn progress(run: Run, totals: Totals) -> Totals {
+    if run.quiet {
+        return totals;
+    }
+    let mut t = totals;
+    t.shown = dump_progress::tell(
+        totals.pages,
+        run.known,
+        run.plan.size,
+        run.began,
+        totals.shown,
+    );
+    t
+}
+
+// The pages that were refused.
+fn refused_pages(totals: Totals) -> u64 {
+    let good = text::plus(totals.read, totals.erased);
+    if totals.pages < good {
+        return 0;
+    }
+    totals.pages - good
+}
+
+// The last line of a dump.
+pub fn summary(out: &mut [u8; 32768], run: Run, totals: Totals) {
+    say::fact(out, b"pages ", totals.pages, b", read ");
+    say::number(out, totals.read);
+    say::fact(out, b", erased ", totals.erased, b", refused ");
+    say::number(out, refused_pages(totals));
+    say::fact(out, b"; corrected bits ", totals.corrected, b", at most ");
+    say::number(out, totals.most as u64);
+    say::fact(out, b" in a block; ruined blocks ", totals.ruined, b"");
+    if run.list >= 0 {
+        say::fact(out, b"; salvaged pages ", totals.salvaged, b"");
+    }
+    say::put(out, b"\n");
 }

@@ -1,15 +1,15 @@
--- `read_command::dumping::pages` meets its contract.
+-- `read_pages::dumping::pages` meets its contract.
 use Prim.Native.Nat.{_≤_}
 use borrow.Author.Needs.{needs}
-use Rattle.read_command.proofs.dumping.pages.Statement.{statement}
-use Rattle.read_command.proofs.dumping.pages.Tie as tie
+use Rattle.read_pages.proofs.dumping.pages.Statement.{statement}
+use Rattle.read_pages.proofs.dumping.pages.Tie as tie
 
 abbrev Inv-loop : tie.InvT-loop
-Inv-loop out₀ edition «record» plan run page₀ metadata₀ data₀ counts₀ totals₀ turns₀ out page metadata «data» counts totals turns =
+Inv-loop out₀ run page₀ data₀ totals₀ turns₀ out page «data» totals turns =
     turns ≤ turns₀
 
 abbrev μ-loop : tie.MeasureT-loop
-μ-loop out₀ edition «record» plan run page₀ metadata₀ data₀ counts₀ totals₀ turns₀ out page metadata «data» counts totals turns =
+μ-loop out₀ run page₀ data₀ totals₀ turns₀ out page «data» totals turns =
     turns
 
 left-requires : tie.Need-left-requires Inv-loop μ-loop

@@ -1,14 +1,14 @@
--- `read_command::saving::list` meets its contract.
+-- `read_pages::saving::list` meets its contract.
 use Prim.Native.Nat.{_≤_, _-_}
 use borrow.Author.Needs.{needs}
-use Rattle.read_command.proofs.saving.list.Statement.{statement}
-use Rattle.read_command.proofs.saving.list.Tie as tie
+use Rattle.read_pages.proofs.saving.list.Statement.{statement}
+use Rattle.read_pages.proofs.saving.list.Tie as tie
 
 abbrev Inv-loop : tie.InvT-loop
-Inv-loop line₀ plan run totals counts b₀ line b = b ≤ 256
+Inv-loop line₀ run totals counts b₀ line b = b ≤ 256
 
 abbrev μ-loop : tie.MeasureT-loop
-μ-loop line₀ plan run totals counts b₀ line b = 256 - b
+μ-loop line₀ run totals counts b₀ line b = 256 - b
 
 loop-holds : tie.Need-loop-holds Inv-loop μ-loop
 loop-holds c = search needs
