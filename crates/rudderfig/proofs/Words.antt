@@ -21,10 +21,6 @@ module _ {reply block kind : ℕ} (value : ℕ) (r : reply < 0x100) (b : block <
   unfolding answerWord valueIn
   word-value = omega arith
 
-  pub word-fits : value < 0x100000000 → answerWord reply block kind value < 0x10000000000000000
-  unfolding answerWord
-  word-fits v = omega arith
-
 -- every word is the answer word of its numbers
 pub word-back : (w : ℕ) → answerWord (replyIn w) (blockIn w) (kindIn w) (valueIn w) ≡ w
 unfolding answerWord replyIn blockIn kindIn valueIn
