@@ -20,8 +20,8 @@ use mir.Val.{Fits, SFits, toZ}
 use mir.ValLaws.{toZ-pos}
 use borrow.Author.Tests.{eq-eqb, ne-eqb, lt-ltb, le-ltb}
 use Rattle.bits.proofs.Runs.{run-at}
-use Rattle.layout.specs.declared.Plan.{Plan}
-use Rattle.layout.specs.Plan.{bits, Valid}
+use Rattle.layout_plan.specs.declared.Plan.{Plan}
+use Rattle.layout_plan.specs.Plan.{bits, Valid}
 use Rattle.code.specs.Outcome.{Outcome, good, erased, ruined, erasedCount}
 use Rattle.code.proofs.Outcome.{repaired-judge, erased-judge}
 use Rattle.page_theory.specs.Reading.{outcome, countOf, counts}

@@ -12,7 +12,7 @@ use mathlib.Core.List.{List}
 use Prim.Native.Nat.{ℕ, _-_}
 use lib.IntN.{ℤ, pos, _-ℤ_}
 use lib.Dec.{eqb, ltb}
-use Rattle.layout.specs.declared.Plan.{Plan}
+use Rattle.layout_plan.specs.declared.Plan.{Plan}
 use Rattle.code.specs.Outcome.{Outcome, good, erased, ruined}
 use Rattle.page_theory.specs.Reading.{outcome}
 use Rattle.changes.specs.declared.Flips.{Flips}

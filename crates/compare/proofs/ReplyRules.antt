@@ -16,18 +16,18 @@ use Rattle.replies.specs.Replies as replies
 use Rattle.replies.specs.Replies.{number, block, verdictNumber, verdictBlock, unequal, rule, verdict, reply, replyBlock}
 use Rattle.replies.specs.Given.{Follows, Exactly, turn, atMost, ascending}
 use Rattle.replies.proofs.Given.{exactly}
-use Rattle.layout.specs.declared.Plan.{Plan}
+use Rattle.layout_plan.specs.declared.Plan.{Plan}
 use Rattle.layout.specs.declared.Rule.{Rule}
 use Rattle.layout.specs.declared.Rule.the-variants as rule
 use Rattle.layout.specs.declared.Refusal.{Refusal}
 use Rattle.layout.specs.declared.Refusal.the-variants as refusal
 use Rattle.layout.specs.declared.Acceptance.{Acceptance}
 use Rattle.layout.specs.declared.Acceptance.the-variants.{Accepted, Refused}
-use Rattle.layout.specs.Record.{Words}
-use Rattle.layout.specs.Plan.{planOf}
+use Rattle.layout_plan.specs.Record.{Words}
+use Rattle.layout_plan.specs.Plan.{planOf}
 use Rattle.layout.specs.Acceptance.{acceptance, ruleRefusal, refusalOf, refusalReply}
-use Rattle.layout.specs.ReplyRules.{Ruled, accepts, refuses, fieldRules, layoutRules}
-use Rattle.layout.proofs.ReplyRules.{words-ruled, accepted-follows, refused-follows}
+use Rattle.layout_replies.specs.ReplyRules.{Ruled, accepts, refuses, fieldRules, layoutRules}
+use Rattle.layout_replies.proofs.ReplyRules.{words-ruled, accepted-follows, refused-follows}
 use Rattle.page_theory.specs.Reading.{counts}
 use Rattle.differences.specs.declared.Difference.the-variants.{Alike}
 use Rattle.differences.specs.Differences.{next}

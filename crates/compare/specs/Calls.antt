@@ -17,11 +17,11 @@ use Prim.Native.Nat.{ℕ}
 use lib.ListN.{length}
 use lib.Dec.{eqb, leb}
 use Rattle.replies.specs.Replies.{number, unless}
-use Rattle.layout.specs.Record.{Words}
-use Rattle.layout.specs.declared.Plan.{Plan}
+use Rattle.layout_plan.specs.Record.{Words}
+use Rattle.layout_plan.specs.declared.Plan.{Plan}
 use Rattle.layout.specs.declared.Acceptance.{Acceptance}
 use Rattle.layout.specs.declared.Acceptance.the-variants as acceptance
-use Rattle.layout.specs.Plan.{planOf}
+use Rattle.layout_plan.specs.Plan.{planOf}
 use Rattle.layout.specs.Acceptance.{acceptance, refusalReply}
 use Rattle.page_theory.specs.Reading.{counts}
 use Rattle.differences.specs.declared.Difference.{Difference}

@@ -1,5 +1,5 @@
 -- The replies of the two calls on two pages, each as one list of rules in the order in which they are looked at (document 02, E10; replies/Given).
--- What an edition and a layout record are refused for comes first (layout/ReplyRules `layoutRules`); q is the plan of the record.
+-- What an edition and a layout record are refused for comes first (layout_replies/ReplyRules `layoutRules`); q is the plan of the record.
 --
 -- tooLarge q                            PAGE_SIZE is above 16,384
 -- compareIn, compareRules               comparing two pages
@@ -11,10 +11,10 @@ use lib.ListN.{length}
 use lib.Dec.{leb}
 use Rattle.replies.specs.declared.Refusal.the-variants.{BufferLength}
 use Rattle.replies.specs.Replies.{unequal, Rule, rule}
-use Rattle.layout.specs.declared.Plan.{Plan}
-use Rattle.layout.specs.Record.{Words, layoutOf}
-use Rattle.layout.specs.Plan.{planOf}
-use Rattle.layout.specs.ReplyRules.{layoutRules}
+use Rattle.layout_plan.specs.declared.Plan.{Plan}
+use Rattle.layout_plan.specs.Record.{Words, layoutOf}
+use Rattle.layout_plan.specs.Plan.{planOf}
+use Rattle.layout_replies.specs.ReplyRules.{layoutRules}
 use Rattle.page_theory.specs.ReplyRules.{pageRule}
 
 unfoldable pub tooLarge : Plan → Bool

@@ -5,7 +5,7 @@ use crate::totals::Run;
 use arguments::Options;
 use arguments::Words;
 use layout::Acceptance;
-use layout::Plan;
+use layout_plan::Plan;
 
 fn run_of(options: Options, plan: Plan, first: i32, second: i32) -> Run {
     Run {
@@ -151,7 +151,13 @@ pub fn compare(out: &mut [u8; 32768]) {
     };
     let record = arguments::record_of(words);
     match layout::check_layout(words.edition, &record) {
-        Acceptance::Accepted(l) => compare_under(out, options, &record, layout::plan_of(l), one),
+        Acceptance::Accepted(l) => compare_under(
+            out,
+            options,
+            &record,
+            layout_plan::plan_of(l),
+            one,
+        ),
         Acceptance::Refused(refusal) => {
             compare_lines::refused(out, layout::refusal_reply(refusal))
         }

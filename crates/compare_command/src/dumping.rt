@@ -4,7 +4,7 @@ use crate::totals;
 use crate::totals::Failed;
 use crate::totals::Run;
 use crate::totals::Totals;
-use layout::Plan;
+use layout_plan::Plan;
 use streams::Filled;
 
 // Fills the first bytes of a buffer; none where there is no file.

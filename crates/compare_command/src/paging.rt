@@ -4,7 +4,7 @@ use crate::totals::Run;
 use crate::totals::Totals;
 use compare::CompareAnswer;
 use compare::DifferenceAnswer;
-use layout::Plan;
+use layout_plan::Plan;
 use page_look::LookAnswer;
 use replies::Refusal;
 use replies::refusal_number;

@@ -6,7 +6,7 @@ use crate::totals::Failed;
 use crate::totals::Run;
 use crate::totals::Totals;
 use files::Passed;
-use layout::Plan;
+use layout_plan::Plan;
 use streams::Filled;
 
 // How much of a file is read before it is known whether it is a dump, which has at least two pages. One whose pages are too large to be compared

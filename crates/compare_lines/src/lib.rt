@@ -9,7 +9,7 @@ mod mapping;
 mod reporting;
 
 use compare::CompareAnswer;
-use layout::Plan;
+use layout_plan::Plan;
 pub use mapping::map;
 use replies::refusal_number;
 pub use reporting::report;

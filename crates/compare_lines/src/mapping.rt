@@ -1,5 +1,5 @@
 // A map of a page: a character a block.
-use layout::Plan;
+use layout_plan::Plan;
 
 // The character of a block with so many flips: `.` for none, `#` where they are its level, else the tenths of the level that they are, at
 // least 1.
@@ -32,7 +32,7 @@ fn character(count: u8, level: u16) -> u8 {
 }
 
 fn level(plan: Plan, b: usize) -> u16 {
-    let shape = layout::block_shape(plan, (b % 65536) as u16);
+    let shape = layout_plan::block_shape(plan, (b % 65536) as u16);
     shape.level
 }
 

@@ -2,7 +2,7 @@
 use changes::Change;
 use changes::Flips;
 use compare::DifferenceAnswer;
-use layout::Plan;
+use layout_plan::Plan;
 
 fn flips(out: &mut [u8; 32768], flips: Flips) {
     match flips {

@@ -8,7 +8,7 @@ use layout::Acceptance;
 fn compare(out: &mut [u8; 32768], edition: u64, words: &[u8], first: &[u8], second: &[u8]) {
     match layout::check_layout(edition, words) {
         Acceptance::Accepted(l) => {
-            compare_lines::pages(out, edition, words, layout::plan_of(l), first, second)
+            compare_lines::pages(out, edition, words, layout_plan::plan_of(l), first, second)
         }
         Acceptance::Refused(refusal) => {
             compare_lines::refused(out, layout::refusal_reply(refusal))

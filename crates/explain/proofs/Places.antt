@@ -7,14 +7,14 @@
 use mathlib.Core.Path.{_≡_, sym, ap, _∙_}
 use Prim.Native.Nat.{ℕ, _+_, _-_, _≤_, _<_}
 use borrow.Author.Tests.{lt-ltb, le-ltb}
-use Rattle.layout.specs.declared.Shape.{Shape}
-use Rattle.layout.specs.declared.Plan.{Plan}
-use Rattle.layout.specs.declared.Layout.{Layout}
+use Rattle.layout_plan.specs.declared.Shape.{Shape}
+use Rattle.layout_plan.specs.declared.Plan.{Plan}
+use Rattle.layout_plan.specs.declared.Layout.{Layout}
 use Rattle.layout.specs.declared.Acceptance.the-variants.{Accepted}
 use Rattle.layout.specs.declared.BitAnswer.{BitAnswer}
 use Rattle.layout.specs.declared.BitAnswer.the-variants as bit
-use Rattle.layout.specs.Record.{Words}
-use Rattle.layout.specs.Plan.{planOf, shape, bits, covered, from}
+use Rattle.layout_plan.specs.Record.{Words}
+use Rattle.layout_plan.specs.Plan.{planOf, shape, bits, covered, from}
 use Rattle.layout.specs.Acceptance.{acceptance}
 use Rattle.layout.specs.Bits.{bitIn, bitFor, bitAnswer}
 use Rattle.page_bits.proofs.Inverse.{bit-belongs, exponent-low}

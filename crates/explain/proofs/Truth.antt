@@ -17,10 +17,10 @@ use Rattle.layout.specs.declared.Finding.{Finding}
 use Rattle.layout.specs.declared.Finding.the-variants.{Kept, Broken}
 use Rattle.layout.specs.declared.Refusal.the-variants as refusal
 use Rattle.layout.specs.declared.Acceptance.the-variants as acceptance
-use Rattle.layout.specs.Record.{Words, fieldsIn, layoutOf}
-use Rattle.layout.specs.Plan.{planOf}
+use Rattle.layout_plan.specs.Record.{Words, fieldsIn, layoutOf, recordLength}
+use Rattle.layout_plan.specs.Plan.{planOf}
 use Rattle.layout.specs.Acceptance as layout
-use Rattle.layout.specs.Acceptance.{findingOf, judged, recordLength}
+use Rattle.layout.specs.Acceptance.{findingOf, judged}
 use Rattle.layout.proofs.Reasons.{Breaks, rank, reason-true, reason-first, kept-free}
 use Rattle.explain.specs.declared.About.the-variants as about
 use Rattle.explain.specs.declared.Why.{Why}

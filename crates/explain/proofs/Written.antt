@@ -16,10 +16,10 @@ use Rattle.bits.specs.Bits.{bitOf}
 use Rattle.bits.proofs.Runs.{run-at}
 use Rattle.field.specs.Field.{degree}
 use Rattle.mark.specs.Mark.{marked, streamed}
-use Rattle.layout.specs.declared.Plan.{Plan}
+use Rattle.layout_plan.specs.declared.Plan.{Plan}
 use Rattle.layout.specs.declared.BitAnswer.{BitAnswer}
 use Rattle.layout.specs.declared.BitAnswer.the-variants as bit
-use Rattle.layout.specs.Plan.{bits, field, level, covered, start, from, Valid}
+use Rattle.layout_plan.specs.Plan.{bits, field, level, covered, start, from, Valid}
 use Rattle.layout.specs.Bits.{blockOf, exponentAt, bitIn}
 use Rattle.page_bits.proofs.Placing.{Lies, block-lies}
 use Rattle.page_bits.proofs.Inverse.{Belongs, Stands, in-mark, in-block, in-tail, bit-partition}

@@ -12,13 +12,13 @@ use Prim.Native.Nat.{ℕ, _+_, _-_, _*_, _/_, _%_}
 use lib.ListN.{length}
 use lib.Dec.{ltb}
 use Rattle.replies.specs.declared.Refusal.the-variants as row
-use Rattle.layout.specs.declared.Plan.{Plan}
+use Rattle.layout_plan.specs.declared.Plan.{Plan}
 use Rattle.layout.specs.declared.BitAnswer.{BitAnswer}
 use Rattle.layout.specs.declared.BitAnswer.the-variants as bit
 use Rattle.layout.specs.declared.Acceptance.{Acceptance}
 use Rattle.layout.specs.declared.Acceptance.the-variants as acceptance
-use Rattle.layout.specs.Plan.{planOf, bits, covered, from}
-use Rattle.layout.specs.Record.{Words}
+use Rattle.layout_plan.specs.Plan.{planOf, bits, covered, from}
+use Rattle.layout_plan.specs.Record.{Words}
 use Rattle.layout.specs.Acceptance as layout
 use Rattle.layout.specs.Bits.{bitIn}
 use Rattle.explain.specs.declared.About.the-variants as about

@@ -18,7 +18,7 @@ use Rattle.layout.specs.declared.Refusal.{Refusal}
 use Rattle.layout.specs.declared.Refusal.the-variants as refusal
 use Rattle.layout.specs.declared.Acceptance.{Acceptance}
 use Rattle.layout.specs.declared.Acceptance.the-variants as acceptance
-use Rattle.layout.specs.Record.{Words}
+use Rattle.layout_plan.specs.Record.{Words}
 use Rattle.layout.specs.Acceptance as layout
 use Rattle.layout.specs.Acceptance.{ruleRefusal}
 use Rattle.explain.specs.declared.About.{About}

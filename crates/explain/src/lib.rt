@@ -12,12 +12,12 @@ mod reasons;
 
 use layout::Acceptance;
 use layout::check_layout;
-use layout::plan_of;
+use layout_plan::plan_of;
 use page_bits::locate_bit;
 pub use reasons::why_refused;
 use replies::Refusal;
 ghost use mathlib.Core.Path.{_≡_};
-ghost use Rattle.layout.specs.Record.{wordsOf};
+ghost use Rattle.layout_plan.specs.Record.{wordsOf};
 ghost use Rattle.explain.specs.Reasons.{explainLayout};
 ghost use Rattle.explain.specs.Parts.{explainBit};
 

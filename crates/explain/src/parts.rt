@@ -5,14 +5,14 @@ use crate::Place;
 use crate::PlaceAnswer;
 use crate::Why;
 use layout::BitAnswer;
-use layout::Plan;
-use layout::block_covered;
-use layout::block_shape;
+use layout_plan::Plan;
+use layout_plan::block_covered;
+use layout_plan::block_shape;
 use page_plan::message_start;
 use replies::Refusal;
 ghost use mathlib.Core.Path.{_≡_};
 ghost use Prim.Native.Nat.{_<_};
-ghost use Rattle.layout.specs.Plan.{covered};
+ghost use Rattle.layout_plan.specs.Plan.{covered};
 ghost use Rattle.layout.specs.Bits.{bitIn};
 ghost use Rattle.explain.specs.Parts.{placeAt, messagePlace, coveredPlace, bitPart};
 

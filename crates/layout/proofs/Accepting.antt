@@ -14,18 +14,18 @@ use Rattle.field.specs.Field.{degree, longest}
 use Rattle.field.specs.declared.Field.the-variants.{Thirteen}
 use Rattle.replies.specs.Edition.{offered, highest}
 use Rattle.replies.proofs.Editions.{highest-small}
-use Rattle.layout.specs.declared.Fields.{Fields}
-use Rattle.layout.specs.declared.Layout.{Layout}
-use Rattle.layout.specs.declared.Shape.{Shape}
-use Rattle.layout.specs.declared.Plan.{Plan}
+use Rattle.layout_plan.specs.declared.Fields.{Fields}
+use Rattle.layout_plan.specs.declared.Layout.{Layout}
+use Rattle.layout_plan.specs.declared.Shape.{Shape}
+use Rattle.layout_plan.specs.declared.Plan.{Plan}
 use Rattle.layout.specs.declared.Finding.{Finding}
 use Rattle.layout.specs.declared.Finding.the-variants.{Kept, Broken}
 use Rattle.layout.specs.declared.Acceptance.the-variants as answer
 use Rattle.layout.specs.declared.Refusal.the-variants as refusal
-use Rattle.layout.specs.Record.{Words, fieldsIn, layoutOf}
-use Rattle.layout.specs.Plan.{shapeWith, shapeOf, laterShape, dataBytes, planFor, layoutFor, planOf, Sums, shape, bits, field, level, covered, start, used, room, from, payload, Summed, Valid}
-use Rattle.layout.specs.Acceptance.{findingOf, judged, recordLength, acceptance}
-use Rattle.layout.proofs.Plans.{later-none, later-some, start-next, start-order, start-up, start-laters, from-laters}
+use Rattle.layout_plan.specs.Record.{Words, fieldsIn, layoutOf, recordLength}
+use Rattle.layout_plan.specs.Plan.{shapeWith, shapeOf, laterShape, dataBytes, planFor, layoutFor, planOf, Sums, shape, bits, field, level, covered, start, used, room, from, payload, Summed, Valid}
+use Rattle.layout.specs.Acceptance.{findingOf, judged, acceptance}
+use Rattle.layout_plan.proofs.Plans.{later-none, later-some, start-next, start-order, start-up, start-laters, from-laters}
 use Rattle.layout.proofs.Reasons.{level-first, level-later, message-first, message-later, length-first, length-later, mark-outside, zeros-set, page-room, kept-free}
 
 -- the rules, of a layout that keeps them

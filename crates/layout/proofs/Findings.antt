@@ -6,15 +6,15 @@ use lib.ListN.{length}
 use lib.Dec.{eqb}
 use borrow.Author.Tests.{eq-eqb, ne-eqb}
 use Rattle.replies.specs.Edition.{offered}
-use Rattle.layout.specs.declared.Layout.{Layout}
+use Rattle.layout_plan.specs.declared.Layout.{Layout}
 use Rattle.layout.specs.declared.Reason.{Reason}
 use Rattle.layout.specs.declared.Finding.{Finding}
 use Rattle.layout.specs.declared.Finding.the-variants.{Kept, Broken}
 use Rattle.layout.specs.declared.Refusal.the-variants as refusal
 use Rattle.layout.specs.declared.Acceptance.the-variants.{Accepted, Refused}
-use Rattle.layout.specs.Record.{Words, fieldsIn, layoutOf}
-use Rattle.layout.specs.Plan.{planOf}
-use Rattle.layout.specs.Acceptance.{either, ofBlocks, findingOf, judged, recordLength, acceptance}
+use Rattle.layout_plan.specs.Record.{Words, fieldsIn, layoutOf, recordLength}
+use Rattle.layout_plan.specs.Plan.{planOf}
+use Rattle.layout.specs.Acceptance.{either, ofBlocks, findingOf, judged, acceptance}
 
 -- of block 0 and of the n later blocks
 module _ (n : ℕ) {x f : Finding} (first : x ≡ f) where

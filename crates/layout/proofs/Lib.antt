@@ -1,11 +1,6 @@
--- Laws of layouts.
-pub mod Plans
-pub mod SectorPlans
+-- Laws of acceptance.
 pub mod Numbers
 mod Findings
 pub mod Records
 pub mod Reasons
 pub mod Accepting
-pub mod Cases
-pub mod ReplyRules
-pub mod Editions

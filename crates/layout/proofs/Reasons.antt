@@ -13,17 +13,17 @@ use Rattle.field.specs.Field.{longest}
 use Rattle.replies.specs.Replies.{number}
 use Rattle.replies.specs.Given.{turn}
 use Rattle.replies.specs.Edition.{highest}
-use Rattle.layout.specs.declared.BlockFields.{BlockFields}
-use Rattle.layout.specs.declared.Fields.{Fields}
-use Rattle.layout.specs.declared.Plan.{Plan}
-use Rattle.layout.specs.declared.Shape.{Shape}
+use Rattle.layout_plan.specs.declared.BlockFields.{BlockFields}
+use Rattle.layout_plan.specs.declared.Fields.{Fields}
+use Rattle.layout_plan.specs.declared.Plan.{Plan}
+use Rattle.layout_plan.specs.declared.Shape.{Shape}
 use Rattle.layout.specs.declared.Rule.the-variants.{Level, Message, Length, Outside, Room}
 use Rattle.layout.specs.declared.Kind.{Kind}
 use Rattle.layout.specs.declared.Kind.the-variants.{First, Later, Page}
 use Rattle.layout.specs.declared.Reason.{Reason}
 use Rattle.layout.specs.declared.Finding.{Finding}
 use Rattle.layout.specs.declared.Finding.the-variants.{Kept, Broken}
-use Rattle.layout.specs.Plan.{used, room}
+use Rattle.layout_plan.specs.Plan.{used, room}
 use Rattle.layout.specs.Acceptance.{test, levelRule, messageRule, lengthRule, markRule, roomRule, either, ofBlocks, findingOf, ruleRefusal, ruleNumber}
 
 -- the reasons, with the two numbers compared

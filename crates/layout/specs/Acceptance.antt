@@ -6,13 +6,11 @@
 -- ofBlocks n f g          the finding f about block 0, then g about the n later blocks
 -- findingOf f q           the first broken rule of a layout of the fields f and the plan q
 -- judged l f              the answer to a layout by the finding f
--- recordLength n          a layout record may have n bytes
 -- acceptance words        the answer to a layout record and the edition beside it
 -- ruleRefusal, refusalOf  what a broken rule and a refusal are in document 01's table (replies/Replies)
 -- ruleNumber, refusalReply   its number there
 use Prim.Native.Nat.{ℕ, _+_}
-use mathlib.Core.List.{List}
-use mathlib.Core.Bool.{Bool, true, false, cond}
+use mathlib.Core.Bool.{Bool, false, cond}
 use lib.ListN.{length}
 use lib.Dec.{eqb, ltb}
 use Rattle.field.specs.Field.{longest}
@@ -20,11 +18,11 @@ use Rattle.replies.specs.declared.Refusal as table
 use Rattle.replies.specs.declared.Refusal.the-variants as row
 use Rattle.replies.specs.Replies.{number}
 use Rattle.replies.specs.Edition.{offered, highest}
-use Rattle.layout.specs.declared.BlockFields.{BlockFields}
-use Rattle.layout.specs.declared.Fields.{Fields}
-use Rattle.layout.specs.declared.Layout.{Layout}
-use Rattle.layout.specs.declared.Shape.{Shape}
-use Rattle.layout.specs.declared.Plan.{Plan}
+use Rattle.layout_plan.specs.declared.BlockFields.{BlockFields}
+use Rattle.layout_plan.specs.declared.Fields.{Fields}
+use Rattle.layout_plan.specs.declared.Layout.{Layout}
+use Rattle.layout_plan.specs.declared.Shape.{Shape}
+use Rattle.layout_plan.specs.declared.Plan.{Plan}
 use Rattle.layout.specs.declared.Rule.{Rule}
 use Rattle.layout.specs.declared.Rule.the-variants.{Level, Message, Length, Outside, Room}
 use Rattle.layout.specs.declared.Kind.{Kind}
@@ -36,8 +34,8 @@ use Rattle.layout.specs.declared.Refusal.{Refusal}
 use Rattle.layout.specs.declared.Refusal.the-variants as refusal
 use Rattle.layout.specs.declared.Acceptance.{Acceptance}
 use Rattle.layout.specs.declared.Acceptance.the-variants.{Accepted, Refused}
-use Rattle.layout.specs.Record.{Words, fieldsIn, layoutOf}
-use Rattle.layout.specs.Plan.{planOf, used, room}
+use Rattle.layout_plan.specs.Record.{Words, recordLength, fieldsIn, layoutOf}
+use Rattle.layout_plan.specs.Plan.{planOf, used, room}
 
 -- A rule that is broken gives its reason.
 unfoldable pub test : Bool → Reason → Finding
@@ -92,10 +90,6 @@ findingOf f q =
 unfoldable pub judged : Layout → Finding → Acceptance
 judged l Kept = Accepted l
 judged l (Broken r) = Refused (refusal.Rule r)
-
--- A record is of two words or of three.
-unfoldable pub recordLength : ℕ → Bool
-recordLength n = cond (eqb n 8) true (eqb n 12)
 
 -- Another edition is refused before anything is looked at, and then a record of another length.
 unfoldable pub acceptance : Words → Acceptance

@@ -13,11 +13,10 @@
 -- bitIn, bitAnswer        the answer to a position, under a plan and for a record
 -- positionIn, positionAnswer   the answer to block and exponent, under a plan and for a record
 use Prim.Native.Nat.{ℕ, zero, suc, _+_, _-_, _*_}
-use mathlib.Core.List.{List}
 use mathlib.Core.Bool.{Bool, false, cond}
 use lib.Dec.{leb, ltb}
 use Rattle.mark.specs.Mark.{place, marked, streamed}
-use Rattle.layout.specs.declared.Plan.{Plan}
+use Rattle.layout_plan.specs.declared.Plan.{Plan}
 use Rattle.layout.specs.declared.Refusal.the-variants.{Range}
 use Rattle.layout.specs.declared.Acceptance.{Acceptance}
 use Rattle.layout.specs.declared.Acceptance.the-variants as acceptance
@@ -25,8 +24,8 @@ use Rattle.layout.specs.declared.BitAnswer.{BitAnswer}
 use Rattle.layout.specs.declared.BitAnswer.the-variants as bit
 use Rattle.layout.specs.declared.PositionAnswer.{PositionAnswer}
 use Rattle.layout.specs.declared.PositionAnswer.the-variants as position
-use Rattle.layout.specs.Plan.{planOf, covered, start}
-use Rattle.layout.specs.Record.{Words}
+use Rattle.layout_plan.specs.Plan.{planOf, covered, start}
+use Rattle.layout_plan.specs.Record.{Words}
 use Rattle.layout.specs.Acceptance.{acceptance}
 
 -- covered bits of a block: from its start on, as many as it has

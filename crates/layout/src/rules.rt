@@ -1,13 +1,13 @@
 // The rules that a layout must keep (document 01, replies 1 to 4; document 02, E7, reply 11), and the first one that it breaks.
-use crate::BlockFields;
-use crate::Fields;
 use crate::Finding;
 use crate::Kind;
-use crate::Plan;
 use crate::Reason;
 use crate::Rule;
-use crate::Shape;
-use crate::sums::page_room;
+use layout_plan::BlockFields;
+use layout_plan::Fields;
+use layout_plan::Plan;
+use layout_plan::Shape;
+use layout_plan::page_room;
 use replies::highest;
 ghost use mathlib.Core.Path.{_≡_};
 ghost use Rattle.layout.specs.Acceptance.{test, ofBlocks, levelRule, messageRule, lengthRule, markRule, roomRule, findingOf};

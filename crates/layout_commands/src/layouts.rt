@@ -1,9 +1,9 @@
 // The command layout.
 use field::Field;
-use layout::BlockFields;
-use layout::Fields;
-use layout::Plan;
-use layout::Shape;
+use layout_plan::BlockFields;
+use layout_plan::Fields;
+use layout_plan::Plan;
+use layout_plan::Shape;
 use mark::Mark;
 use plans::Planned;
 ghost use Prim.Native.Nat.{_+_, _<_};
@@ -74,8 +74,8 @@ fn is_around(mark: Mark, start: usize, covered: usize) -> bool
 
 fn block(out: &mut [u8; 32768], plan: Plan, b: u16) {
     let mark = plan.mark;
-    let start = layout::block_start(plan, b);
-    let covered = layout::block_covered(plan, b);
+    let start = layout_plan::block_start(plan, b);
+    let covered = layout_plan::block_covered(plan, b);
     say::fact(out, b"block ", b as u64, b": ");
     say::fact(
         out,
@@ -87,7 +87,7 @@ fn block(out: &mut [u8; 32768], plan: Plan, b: u16) {
     if is_around(mark, start, covered) {
         say::put(out, b" around the mark");
     }
-    shape(out, layout::block_shape(plan, b), covered as u64);
+    shape(out, layout_plan::block_shape(plan, b), covered as u64);
 }
 
 fn blocks(out: &mut [u8; 32768], plan: Plan) {
@@ -109,7 +109,7 @@ fn left_out(out: &mut [u8; 32768], plan: Plan) {
         say::fact(
             out,
             b", which leaves ",
-            layout::page_room(plan),
+            layout_plan::page_room(plan),
             b" bits to the blocks and the tail\n",
         );
     }
@@ -118,7 +118,7 @@ fn left_out(out: &mut [u8; 32768], plan: Plan) {
 // The bits of the page that no block covers and that are not in the mark.
 fn tail(out: &mut [u8; 32768], plan: Plan) {
     let used = plan.used as u64;
-    let all = layout::page_room(plan);
+    let all = layout_plan::page_room(plan);
     say::fact(out, b"used: ", used, b" bits");
     if used <= all {
         say::fact(out, b", tail: ", all - used, b" bits");
@@ -129,7 +129,7 @@ fn tail(out: &mut [u8; 32768], plan: Plan) {
 fn accepted(out: &mut [u8; 32768], edition: u64, record: &[u8; 12], plan: Plan) {
     say::reply(out, 0);
     say::put(out, b"this layout is accepted\n");
-    all_words(out, layout::fields_of(edition, record));
+    all_words(out, layout_plan::fields_of(edition, record));
     say::fact(out, b"page: ", plan.size as u64, b" bytes");
     say::fact(out, b" in ", plan.blocks as u64, b" blocks");
     say::fact(out, b", of them ", plan.metadata as u64, b" metadata");

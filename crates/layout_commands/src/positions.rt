@@ -1,8 +1,8 @@
 // The command bits.
 use arguments::Options;
 use layout::BitAnswer;
-use layout::Plan;
 use layout::PositionAnswer;
+use layout_plan::Plan;
 use plans::Planned;
 use text::Number;
 

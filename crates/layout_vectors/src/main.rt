@@ -5,13 +5,13 @@
 // its block. An accepted layout shows its fields, sums and mark, one that breaks a rule the block kind and the two numbers compared.
 use layout::Acceptance;
 use layout::BitAnswer;
-use layout::BlockFields;
-use layout::Fields;
 use layout::Kind;
-use layout::Layout;
 use layout::PositionAnswer;
 use layout::Reason;
 use layout::Refusal;
+use layout_plan::BlockFields;
+use layout_plan::Fields;
+use layout_plan::Layout;
 
 fn reply_line(line: &mut [u8], reply: u8) -> usize {
     let at = vector_io::put_number(line, 0, reply as u64);
@@ -30,7 +30,7 @@ fn put_fields(line: &mut [u8], at: usize, fields: BlockFields) -> usize {
 }
 
 fn put_sums(line: &mut [u8], at: usize, layout: Layout) -> usize {
-    let plan = layout::plan_of(layout);
+    let plan = layout_plan::plan_of(layout);
     let first_at = vector_io::put_number(line, at, plan.first.covered as u64);
     let later_at = vector_io::put_number(line, first_at, plan.later.covered as u64);
     let used_at = vector_io::put_number(line, later_at, plan.used as u64);
@@ -38,7 +38,7 @@ fn put_sums(line: &mut [u8], at: usize, layout: Layout) -> usize {
 }
 
 fn put_mark(line: &mut [u8], at: usize, layout: Layout) -> usize {
-    let plan = layout::plan_of(layout);
+    let plan = layout_plan::plan_of(layout);
     let offset_at = vector_io::put_number(line, at, plan.mark.offset as u64);
     vector_io::put_number(line, offset_at, plan.mark.length as u64)
 }
@@ -72,7 +72,11 @@ fn twelve_bytes(words: &[u8]) -> [u8; 12] {
 }
 
 fn put_accepted(line: &mut [u8], at: usize, edition: u64, words: &[u8], layout: Layout) -> usize {
-    let stored_at = put_stored(line, at, layout::fields_of(edition, &twelve_bytes(words)));
+    let stored_at = put_stored(
+        line,
+        at,
+        layout_plan::fields_of(edition, &twelve_bytes(words)),
+    );
     let sums_at = put_sums(line, stored_at, layout);
     put_mark(line, sums_at, layout)
 }

@@ -11,7 +11,7 @@ use borrow.Author.Tests.{le-leb, lt-leb}
 use Rattle.bits.specs.Bits.{bitOf, run, Bytes, placed}
 use Rattle.bits.proofs.Runs.{run-length, run-ext, run-append}
 use Rattle.bits.proofs.Pages.{bitOf-past, bytes-length, bytes-bytes, bytes-bit, bytes-ext}
-use Rattle.bits.proofs.Placed.{placedBit-inside, placed-length, placed-bytes, placed-inside, placed-outside, placed-ext, placed-empty, placed-append}
+use Rattle.bits.proofs.Placed.{placedBit-inside, placed-length, placed-bytes, placed-inside, placed-outside, placed-empty}
 use Rattle.mark.specs.declared.Mark.{Mark}
 use Rattle.mark.specs.Mark.{place, marked, streamed, streamBit, near, putBit, put, InStream}
 use Rattle.mark.proofs.Places.{place-free, place-once, place-streamed, streamed-place, place-below}
@@ -176,17 +176,6 @@ module _ (k : Mark) (page : List ℕ) (s : ℕ) (w : List Bool) where
       let b : Bytes (length (placed page s w)) (placed page s w) = rw c (placed-bytes page s w) in
       sym (placed-empty (placed page s w) (s + length w + 8 * k .length) b)
       ∙ put-split k page s w [] (sym (ap (λ u. near k s (length u)) n ∙ e)) ∙ ap (put k page s) n
-
-  -- a word after it
-  pub put-second : near k s (length w) ≡ 0 → placed page (s + 8 * k .length) w ≡ put k page s w
-  put-second e =
-      let t : ℕ = s + 8 * k .length in
-      let f : t ≡ s + 0 + 8 * k .length = omega arith in
-      let g : t ≡ t + 0 = omega arith in
-      let c = placed-length page s [] in
-      let same : placed page t [] ≡ placed page s [] = placed-ext page t [] (placed page s []) (placed-bytes page s [])
-      (λ j h l. absurd (omega arith)) (λ p o. placed-outside page s [] p (λ a b. omega arith)) in
-      sym (placed-append page t t [] w g) ∙ ap₂ (λ q u. placed q u w) same f ∙ put-split k page s [] w (sym e)
 
 -- a run put in two parts
 pub put-run-split : (k : Mark) (page : List ℕ) (s : ℕ) (f : ℕ → Bool) (r n : ℕ) {a : ℕ} {p q : List ℕ} → a ≡ near k s n → p ≡ placed page s (run f r a)

@@ -9,12 +9,12 @@ use lib.Dec.{ltb}
 use borrow.Author.Tests.{ltb-true, lt-ltb}
 use Rattle.mark.specs.Mark.{place, marked, streamed}
 use Rattle.mark.proofs.Places.{streamed-place, place-free, place-streamed, place-below}
-use Rattle.layout.specs.declared.Plan.{Plan}
+use Rattle.layout_plan.specs.declared.Plan.{Plan}
 use Rattle.layout.specs.declared.BitAnswer.{BitAnswer}
 use Rattle.layout.specs.declared.Acceptance.{Acceptance}
 use Rattle.layout.specs.declared.Refusal.the-variants.{Range}
-use Rattle.layout.specs.Record.{Words}
-use Rattle.layout.specs.Plan.{planOf, covered, room, Valid}
+use Rattle.layout_plan.specs.Record.{Words}
+use Rattle.layout_plan.specs.Plan.{planOf, covered, room, Valid}
 use Rattle.layout.specs.Acceptance.{acceptance}
 use Rattle.layout.specs.Bits.{blockOf, exponentAt, positionAt, located, bitIn, bitFor, bitAnswer, positionIn, positionFor, positionAnswer}
 use Rattle.page_bits.proofs.Placing.{Lies, block-lies, block-holds, block-or-tail, tail-free, located-tail, located-block}

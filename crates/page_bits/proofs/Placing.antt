@@ -8,10 +8,10 @@ use native.Mathlib.Decide.{decLt}
 use native.Mathlib.Nat.{eq-or-lt-of-le, eq-zero-or-pos, div-add-mod', mod-lt, suc-mul, add-suc, div-lt-iff-lt-mul}
 use lib.Dec.{leb, ltb}
 use borrow.Author.Tests.{lt-ltb, le-ltb, le-leb, lt-leb, leb-true, ltb-true}
-use Rattle.layout.specs.declared.Plan.{Plan}
-use Rattle.layout.specs.Plan.{covered, start, used, Valid}
+use Rattle.layout_plan.specs.declared.Plan.{Plan}
+use Rattle.layout_plan.specs.Plan.{covered, start, used, Valid}
 use Rattle.layout.specs.Bits.{within, blockBelow, blockOf, exponentAt, located}
-use Rattle.layout.proofs.Plans.{pitch, start-next, start-firsts, start-laters, start-order, start-up}
+use Rattle.layout_plan.proofs.Plans.{pitch, start-next, start-firsts, start-laters, start-order, start-up}
 use Rattle.page_bits.specs.Places.{Near}
 use Rattle.layout.specs.declared.BitAnswer.the-variants as bit
 

@@ -15,9 +15,9 @@ use layout::Acceptance;
 use layout::BitAnswer;
 use layout::PositionAnswer;
 use layout::check_layout;
-use layout::plan_of;
+use layout_plan::plan_of;
 ghost use mathlib.Core.Path.{_≡_};
-ghost use Rattle.layout.specs.Record.{wordsOf};
+ghost use Rattle.layout_plan.specs.Record.{wordsOf};
 ghost use Rattle.layout.specs.Bits.{bitFor, bitAnswer, positionFor, positionAnswer};
 
 // Where does the page bit at `position` belong, under the answer to a layout, whatever names it?

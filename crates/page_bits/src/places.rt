@@ -1,11 +1,11 @@
 // Where a page bit belongs, and where a code bit lies, under a plan.
 use layout::BitAnswer;
-use layout::Plan;
 use layout::PositionAnswer;
 use layout::Refusal;
-use layout::block_covered;
-use layout::block_start;
-use layout::pitch;
+use layout_plan::Plan;
+use layout_plan::block_covered;
+use layout_plan::block_start;
+use layout_plan::pitch;
 use mark::place;
 ghost use mathlib.Core.Path.{_≡_};
 ghost use Prim.Native.Nat.{_<_};

@@ -1,2 +1,2 @@
--- The laws behind the claim check.
-pub mod Claims
+-- How a claim is answered.
+pub mod Ends

@@ -1,3 +1,2 @@
--- The answer to a claim, and the parts of a right one.
+-- The answer to a claim.
 pub mod Answers
-pub mod Claims

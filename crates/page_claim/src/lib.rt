@@ -5,8 +5,7 @@
 //
 // The call takes the layout record, the page and the list as they are, of any length, and asks nothing of its caller. What it answers
 // is one definition, `claimOf` of the crate `page_theory`, specs/Calls.antt. claim.rt looks at the record, the page's length and the
-// block number, then at the list: few enough, below n, no two alike; then it flips the claimed bits of a copy of the block and divides
-// that by the generator. No decoder is asked.
+// block number; the crate `block_claim` at the claim.
 mod answers;
 mod claim;
 

@@ -1,7 +1,7 @@
 // A page from a file: the whole file, or one page of a dump.
 use arguments::Options;
 use files::Passed;
-use layout::Plan;
+use layout_plan::Plan;
 use streams::Filled;
 
 // What came of loading: so many bytes of the page are in the buffer, or an error was printed.

@@ -6,8 +6,8 @@ use native.Mathlib.Decide.{decLt}
 use native.Mathlib.Omega.{arith}
 use lib.ListN.{length, take, getD, length-append}
 use Rattle.bits.specs.Bits.{placed}
-use Rattle.layout.specs.declared.Plan.{Plan}
-use Rattle.layout.specs.Plan.{bits, payload}
+use Rattle.layout_plan.specs.declared.Plan.{Plan}
+use Rattle.layout_plan.specs.Plan.{bits, payload}
 use Rattle.code.specs.Word.{flipped}
 use Rattle.page_theory.specs.Page.{message, blockWord}
 use Rattle.page_theory.specs.Reading.{GivesAt}

@@ -15,8 +15,8 @@ use Rattle.bits.specs.Bits.{bitOf, run, ones, placed}
 use Rattle.bits.proofs.Numbers.{ones-length}
 use Rattle.bits.proofs.Runs.{run-at, run-ext, run-cong}
 use Rattle.bits.proofs.Placed.{placed-inside, placed-outside, placed-run}
-use Rattle.layout.specs.declared.Plan.{Plan}
-use Rattle.layout.specs.Plan.{shape, bits, covered, from, payload, Valid}
+use Rattle.layout_plan.specs.declared.Plan.{Plan}
+use Rattle.layout_plan.specs.Plan.{shape, bits, covered, from, payload, Valid}
 use Rattle.code.specs.Word.{Word, turned, flipped, Below}
 use Rattle.code.proofs.Distance.{coefficient}
 use Rattle.code.proofs.Flips.{turned-length, turned-coefficient, flipped-length, each-below}

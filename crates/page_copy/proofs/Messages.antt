@@ -13,8 +13,8 @@ use Rattle.bits.specs.Bits.{bitOf, run, placed, Bytes}
 use Rattle.bits.proofs.Runs.{run-length, run-at, run-ext, run-append}
 use Rattle.bits.proofs.Placed.{placed-inside, placed-append, placed-empty}
 use Rattle.mark.specs.Mark.{streamBit, InStream}
-use Rattle.layout.specs.declared.Plan.{Plan}
-use Rattle.layout.specs.Plan.{bits, start, room, from, payload, Valid}
+use Rattle.layout_plan.specs.declared.Plan.{Plan}
+use Rattle.layout_plan.specs.Plan.{bits, start, room, from, payload, Valid}
 use Rattle.page_theory.specs.Page.{message, blockWord}
 use Rattle.page_theory.proofs.Calls.{bytes-append}
 use Rattle.page_theory.proofs.Reading.{from-order}

@@ -14,8 +14,8 @@ use Prim.Native.Nat.{ℕ, zero, suc, _≤_, _<_}
 use lib.ListN.{length, take, getD, replicate}
 use Rattle.bits.specs.Bits.{run}
 use Rattle.mark.specs.Mark.{streamBit}
-use Rattle.layout.specs.declared.Plan.{Plan}
-use Rattle.layout.specs.Plan.{bits, covered, start}
+use Rattle.layout_plan.specs.declared.Plan.{Plan}
+use Rattle.layout_plan.specs.Plan.{bits, covered, start}
 use Rattle.code.specs.Word.{Word, flipped}
 use Rattle.page_theory.specs.Page.{message}
 use Rattle.page_keep.specs.Keeping.{kept}

@@ -18,7 +18,7 @@ ghost use Rattle.page_decide.specs.Scanning.{remainderAt};
 ghost use Rattle.page_keep.specs.Keeping.{AllDecided};
 use copy::copy_messages;
 use copy::restore_blocks;
-use layout::Plan;
+use layout_plan::Plan;
 
 // Copies metadata and data out of a page of which no block is damaged.
 pub fn copy_clean(plan: Plan, page: &[u8], metadata: &mut [u8], data: &mut [u8])

@@ -1,6 +1,5 @@
 -- Deciding blocks by what was found for their remainders.
 --
--- countAt-located, countAt-nowhere    the count of a block by what was found for it
 -- clean-decided                   a block that is not damaged is decided with the count 0
 -- decided-gives                   what a block gives whose count is below 255
 -- decided-few                     a block is repaired by at most 62 exponents
@@ -19,15 +18,15 @@ use mathlib.Core.List.{List, []}
 use Prim.Native.Nat.{ℕ, zero, suc, _≤_, _<_}
 use native.Mathlib.Decide.{decLt}
 use native.Mathlib.Omega.{arith}
-use lib.ListN.{length, take}
+use lib.ListN.{take}
 use lib.Seq.{length-take-le}
 use lib.Dec.{ltb}
 use Rattle.bits.specs.Decides.{Decides}
 use Rattle.field.specs.Field.{degree}
 use Rattle.field.specs.Tables.{Tables}
-use Rattle.layout.specs.declared.Shape.{Shape}
-use Rattle.layout.specs.declared.Plan.{Plan}
-use Rattle.layout.specs.Plan.{shape, field, level, covered, Valid}
+use Rattle.layout_plan.specs.declared.Shape.{Shape}
+use Rattle.layout_plan.specs.declared.Plan.{Plan}
+use Rattle.layout_plan.specs.Plan.{shape, field, level, covered, Valid}
 use Rattle.code.specs.Outcome.{Outcome}
 use Rattle.code.specs.Locations.{nowhere, locate}
 use Rattle.code.proofs.Outcome.{gives-sound}
@@ -41,22 +40,13 @@ use Rattle.page_plan.proofs.Plans.{shape-zero}
 use Rattle.page_plan.proofs.Tables.{degree-field}
 use Rattle.page_decide.specs.declared.Decided.{Decided}
 use Rattle.page_decide.specs.Scanning.{remainderAt}
-use Rattle.page_decide.specs.Deciding.{erasedAt, countAt, DecidedAt, Remembers, Alike, BlockDecided, OneField}
-use Rattle.page_decide.proofs.Remainders.{located-clean, located-gives, nowhere-erased, nowhere-ruined, erasedAt-range, located-few}
+use Rattle.block_outcome.specs.Counts.{erasedAt, countAt}
+use Rattle.block_outcome.proofs.Counts.{erasedAt-range}
+use Rattle.page_decide.specs.Deciding.{DecidedAt, Remembers, Alike, BlockDecided, OneField}
+use Rattle.page_decide.proofs.Remainders.{located-clean, located-gives, nowhere-erased, nowhere-ruined, located-few}
 
 false-true : false ≡ true → ⊥
 false-true e = let z : _≡_ {A = ℕ} 0 1 = cc in omega arith
-
--- the count of a block
-
-module _ (q : Plan) (page : List ℕ) (b : ℕ) (r : Found) {n : ℕ} where
-  pub countAt-located : r .located ≡ true → n ≡ r .count → n ≡ countAt q page b r
-  unfolding countAt
-  countAt-located e k = rw e k
-
-  pub countAt-nowhere : r .located ≡ false → n ≡ erasedAt q page b → n ≡ countAt q page b r
-  unfolding countAt
-  countAt-nowhere e k = rw e k
 
 module _ (q : Plan) (page : List ℕ) (v : Valid q) (b : ℕ) (inside : b < q .blocks) where
   pub clean-decided : remainderAt q page b ≡ 0 → DecidedAt q page b [] 0

@@ -2,32 +2,29 @@
 use mathlib.Core.Path.{_≡_, sym, ap, _∙_, subst₂}
 use mathlib.Core.Bool.{true}
 use mathlib.Core.List.{List, []}
-use Prim.Native.Nat.{ℕ, suc, _+_, _*_, _^_, _≤_, _<_}
+use Prim.Native.Nat.{ℕ, _+_, _*_, _^_, _≤_, _<_}
 use native.Mathlib.Omega.{arith}
 use native.Mathlib.Decide.{decLe}
-use native.Mathlib.Numerals.{add-one}
 use native.Mathlib.Nat.{mul-zero}
 use lib.ListN.{length, take, replicate}
 use borrow.Author.Tests.{le-leb, lt-leb}
 use Rattle.field.specs.declared.Field.{Field}
 use Rattle.field.specs.Field.{degree}
-use Rattle.layout.specs.declared.Plan.{Plan}
-use Rattle.layout.specs.Plan.{bits, field, level, covered, Valid}
-use Rattle.code.specs.Word.{Word, flipped, ones, zeros, zerosTo, Below}
+use Rattle.layout_plan.specs.declared.Plan.{Plan}
+use Rattle.layout_plan.specs.Plan.{bits, field, level, covered, Valid}
+use Rattle.code.specs.Word.{Word, flipped, ones, zeros, Below}
 use Rattle.code.specs.Outcome.{erasedCount}
 use Rattle.code.specs.Generator.{remainder}
-use Rattle.code.proofs.Zeros.{zerosTo-few, zerosTo-many}
 use Rattle.code.specs.Locations.{nowhere, locate}
 use Rattle.code.proofs.Remainder.{remainder-below}
 use Rattle.code.proofs.Locations.{exponents-locate, listed-length, listed-below}
-use Rattle.decoder.specs.Locating.{Locatable}
 use Rattle.decoder.proofs.Locating.{zero-located}
 use Rattle.page_plan.proofs.Plans.{block-fits}
 use Rattle.page_theory.specs.Page.{blockWord}
 use Rattle.page_theory.specs.Reading.{GivesAt, RefusedAt}
 use Rattle.page_theory.proofs.Outcomes.{exponents-gives, zeros-gives, zeros-refuses}
 use Rattle.page_decide.specs.Scanning.{remainderAt, LocatedAt}
-use Rattle.page_decide.specs.Deciding.{erasedAt}
+use Rattle.block_outcome.specs.Counts.{erasedAt}
 
 -- every word is a codeword of the level 0
 pub remainder-none : (f : Field) (t : ℕ) (w : Word) → t ≡ 0 → remainder f t w ≡ 0
@@ -35,11 +32,6 @@ remainder-none f t w e =
     let l : remainder f t w < 2 ^ (degree f * t) = remainder-below f t w (omega arith) in
     let k : 2 ^ (degree f * t) ≡ 1 = rw (e, mul-zero (degree f)) in
     omega arith
-
--- a block has room for its parity
-pub block-locatable : (q : Plan) → Valid q → (b x : ℕ) → b < q .blocks → x < 2 ^ (degree (field q b) * level q b)
-    → Locatable (field q b) (level q b) (covered q b) x
-block-locatable q v b x inside low = record { fits = block-fits q v b inside; room = omega (arith, v .sums b); low = low }
 
 module _ (q : Plan) (page : List ℕ) where
   pub remainderAt-none : (b : ℕ) → level q b ≡ 0 → remainderAt q page b ≡ 0
@@ -75,30 +67,6 @@ module _ (q : Plan) (page : List ℕ) where
             absurd (omega (arith, v .strong b inside)))
         | no l ↦ zeros-refuses q page v b inside e (omega arith)
       ]
-
-    -- such a count is no number of flips, and fits a byte
-    pub erasedAt-range : (128 ≤ erasedAt q page b) × (erasedAt q page b ≤ 255)
-    unfolding erasedAt erasedCount
-    erasedAt-range = elim (decLe (zeros (blockWord q page b)) (level q b)) [
-      | yes l ↦ (let t = v .strong b inside in rw (le-leb (zeros (blockWord q page b)) (level q b) l) (omega arith, omega arith))
-      | no l ↦ rw (lt-leb (zeros (blockWord q page b)) (level q b) (omega arith)) (omega arith, omega arith)
-    ]
-
-  -- the count of an erased block, from its zeros counted up to t + 1
-  pub erasedAt-few : (b : ℕ) {z t : ℕ} → t ≡ level q b → z ≡ zerosTo (t + 1) (blockWord q page b) → z ≤ t → 128 + z ≡ erasedAt q page b
-  unfolding erasedAt erasedCount
-  erasedAt-few b {z} {t} et ez l =
-      let w = blockWord q page b in
-      let k : zerosTo (suc t) w ≤ t = rw (ez, add-one t) at l in
-      let s : z ≡ zeros w = ez ∙ ap (λ n. zerosTo n w) (add-one t) ∙ zerosTo-few t w k in
-      rw (le-leb (zeros w) (level q b) (omega arith)) (ap (λ n. 128 + n) s)
-
-  pub erasedAt-many : (b : ℕ) {z t : ℕ} → t ≡ level q b → z ≡ zerosTo (t + 1) (blockWord q page b) → t < z → 255 ≡ erasedAt q page b
-  unfolding erasedAt
-  erasedAt-many b {z} {t} et ez l =
-      let w = blockWord q page b in
-      let m = zerosTo-many t w (rw (ez, add-one t) at l) in
-      rw (lt-leb (zeros w) (level q b) (omega arith))
 
   module _ (b : ℕ) (ps : List ℕ) (e : LocatedAt q page b ps) where
     pub located-few : length ps ≤ level q b

@@ -1,36 +1,23 @@
--- Inner promises: what deciding a block of a page says of it. Its count is the number of exponents that repair it, or 128 plus its
--- zeros where it is erased, or 255 where it is ruined.
+-- Inner promises: what deciding a block of a page says of it.
 --
--- erasedAt q page b          the count of a block with no codeword near
--- countAt q page b r         the count of block b, for whose remainder r was found
 -- DecidedAt q page b ps n    block b is decided with the count n: the exponents ps repair it, or it is erased, or it is ruined
 -- Remembers q d              what was found for the last decided block d is right for every block with its shape and its remainder
 -- Alike q d b words          block b, whose remainder has these words, and the last decided block d have one shape and one remainder
 -- BlockDecided q page b d    block b was decided as d
 -- OneField q b               from block b on the blocks of the page have the field of the later ones
 use mathlib.Core.Path.{_≡_}
-use mathlib.Core.Bool.{true, cond}
+use mathlib.Core.Bool.{true}
 use mathlib.Core.List.{List}
 use Prim.Native.Nat.{ℕ, _≤_, _<_}
 use lib.ListN.{length, take, replicate}
-use lib.Dec.{leb, ltb}
-use Rattle.layout.specs.declared.Plan.{Plan}
-use Rattle.layout.specs.Plan.{bits, field, level, covered}
-use Rattle.code.specs.Word.{zeros}
-use Rattle.code.specs.Outcome.{erasedCount}
+use lib.Dec.{ltb}
+use Rattle.layout_plan.specs.declared.Plan.{Plan}
+use Rattle.layout_plan.specs.Plan.{bits, field, level, covered}
 use Rattle.code.specs.Register.{register}
-use Rattle.decoder.specs.declared.Found.{Found}
 use Rattle.decoder.specs.Locating.{Finds}
-use Rattle.page_theory.specs.Page.{blockWord}
 use Rattle.page_theory.specs.Reading.{GivesAt, RefusedAt}
 use Rattle.page_decide.specs.declared.Decided.{Decided}
 use Rattle.page_decide.specs.Scanning.{LocatedAt}
-
-unfoldable pub erasedAt : Plan → List ℕ → ℕ → ℕ
-erasedAt q page b = cond (leb (zeros (blockWord q page b)) (level q b)) (erasedCount (zeros (blockWord q page b))) 255
-
-unfoldable pub countAt : Plan → List ℕ → ℕ → Found → ℕ
-countAt q page b r = cond (r .located) (r .count) (erasedAt q page b)
 
 pub record DecidedAt (q : Plan) (page : List ℕ) (b : ℕ) (ps : List ℕ) (n : ℕ) : Type 0 where
   pub repaired : n < 128 → LocatedAt q page b ps

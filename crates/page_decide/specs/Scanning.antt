@@ -7,8 +7,8 @@
 use mathlib.Core.Path.{_≡_}
 use mathlib.Core.List.{List}
 use Prim.Native.Nat.{ℕ, _≤_, _<_}
-use Rattle.layout.specs.declared.Plan.{Plan}
-use Rattle.layout.specs.Plan.{field, level, covered}
+use Rattle.layout_plan.specs.declared.Plan.{Plan}
+use Rattle.layout_plan.specs.Plan.{field, level, covered}
 use Rattle.code.specs.Generator.{remainder}
 use Rattle.code.specs.Locations.{locate, exponents}
 use Rattle.code.specs.Register.{register}

@@ -4,13 +4,11 @@
 //   damaged::block_remainder  the remainder of a block
 //   damaged::scan_page        the first damaged block of a page, whose remainder is not zero
 //   damaged::next_damaged     the next one
-//   outcome::block_outcome    what becomes of a block, by its remainder: the exponents that repair it, or that there are none
-//   outcome::block_count      its count: how many exponents, 128 plus the zeros of an erased block, 255 of a ruined one
 //   decide::decide_block      decides a damaged block, with the tables of its field
 //   decide::decide_lent       the same by itself, with lent tables, which it fills
 //   decide::decide_alone      the same with tables of its own
 //
-// A block's outcome depends on its shape and its remainder. So what was decided last goes on with the calls: a block with the shape and the
+// A block's outcome (crate `block_outcome`) depends on its shape and its remainder. So what was decided last goes on with the calls: a block with the shape and the
 // remainder of the last decided one is not decoded again. Its zeros are counted all the same.
 // Nothing is written to what a caller lent; looking, taking and judging go on from here.
 //
@@ -18,7 +16,6 @@
 // Scanning (looking for the first damaged block), Deciding.
 pub mod damaged;
 pub mod decide;
-pub mod outcome;
 
 use decoder::Found;
 use remainder::Register;

@@ -15,7 +15,7 @@ use lib.ListN.{length, getD, set, take, drop}
 use lib.Seq.{ext-getD, length-take-le, take-suc, drop-cons, append-snoc, set-at, getD-take}
 use Rattle.algebra.specs.Word.{differ}
 use Rattle.field.specs.declared.Field.{Field}
-use Rattle.layout.specs.declared.Plan.{Plan}
+use Rattle.layout_plan.specs.declared.Plan.{Plan}
 use Rattle.code.specs.Word.{Word, Below}
 use Rattle.code.specs.Code.{Near, Fits}
 use Rattle.code.specs.Generator.{remainder}

@@ -6,9 +6,9 @@
 use mathlib.Core.Path.{_≡_, _∙_}
 use Prim.Native.Nat.{ℕ, _+_, _-_, _*_, _<_}
 use Rattle.mark.specs.Mark.{place}
-use Rattle.layout.specs.declared.Plan.{Plan}
+use Rattle.layout_plan.specs.declared.Plan.{Plan}
 use Rattle.layout.specs.declared.PositionAnswer.the-variants as position
-use Rattle.layout.specs.Plan.{start, covered, Valid}
+use Rattle.layout_plan.specs.Plan.{start, covered, Valid}
 use Rattle.layout.specs.Bits.{positionAt, positionIn}
 use Rattle.page_bits.proofs.Inverse.{Belongs, position-in, position-belongs, belongs-page}
 use Rattle.page_explain.specs.Explain.{positionOf}

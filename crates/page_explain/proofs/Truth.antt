@@ -18,8 +18,8 @@ use Rattle.bits.proofs.Runs.{run-at}
 use Rattle.algebra.specs.Word.{differ}
 use Rattle.mark.specs.Mark.{place, streamBit}
 use Rattle.mark.proofs.Places.{place-before, place-after}
-use Rattle.layout.specs.declared.Plan.{Plan}
-use Rattle.layout.specs.Plan.{covered, start, Valid}
+use Rattle.layout_plan.specs.declared.Plan.{Plan}
+use Rattle.layout_plan.specs.Plan.{covered, start, Valid}
 use Rattle.layout.specs.Bits.{positionAt}
 use Rattle.page_bits.proofs.Inverse.{Belongs}
 use Rattle.code.specs.Word.{Word, descending}

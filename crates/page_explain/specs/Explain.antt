@@ -22,11 +22,11 @@ use Rattle.algebra.specs.Word.{differ}
 use Rattle.field.specs.declared.Field.{Field}
 use Rattle.mark.specs.Mark.{place}
 use Rattle.replies.specs.declared.Refusal.the-variants as row
-use Rattle.layout.specs.declared.Plan.{Plan}
+use Rattle.layout_plan.specs.declared.Plan.{Plan}
 use Rattle.layout.specs.declared.Acceptance.{Acceptance}
 use Rattle.layout.specs.declared.Acceptance.the-variants as acceptance
-use Rattle.layout.specs.Plan.{planOf, field, level}
-use Rattle.layout.specs.Record.{Words}
+use Rattle.layout_plan.specs.Plan.{planOf, field, level}
+use Rattle.layout_plan.specs.Record.{Words}
 use Rattle.layout.specs.Acceptance as layout
 use Rattle.layout.specs.Bits.{positionAt}
 use Rattle.code.specs.Word.{Word, zeros}

@@ -3,14 +3,14 @@ ghost use mathlib.Core.Path.{_≡_};
 ghost use mathlib.Core.List.{_++_};
 ghost use Prim.Native.Nat.{_≤_, _<_};
 ghost use lib.ListN.{length, take, drop};
-ghost use Rattle.layout.specs.Plan.{covered};
+ghost use Rattle.layout_plan.specs.Plan.{covered};
 ghost use Rattle.code.specs.Word.{Below};
 ghost use Rattle.page_plan.specs.Plans.{Planned};
 ghost use Rattle.page_explain.specs.Explain.{positionOf, positions};
 use decoder::Found;
-use layout::Plan;
-use layout::block_covered;
-use layout::block_start;
+use layout_plan::Plan;
+use layout_plan::block_covered;
+use layout_plan::block_start;
 use mark::place;
 
 // The page position of an exponent of a block.

@@ -2,7 +2,7 @@
 ghost use mathlib.Core.Path.{_≡_};
 ghost use Prim.Native.Nat.{_<_};
 ghost use Rattle.code.specs.Register.{register};
-ghost use Rattle.layout.specs.Record.{wordsOf};
+ghost use Rattle.layout_plan.specs.Record.{wordsOf};
 ghost use Rattle.page_theory.specs.Calls.{judgeEnded, judgeIn, judgeFor, judgeOf};
 ghost use Rattle.page_plan.specs.Plans.{Planned, Ready, Sound};
 ghost use Rattle.page_decide.specs.Scanning.{remainderAt, Left};
@@ -10,11 +10,11 @@ ghost use Rattle.page_judge.specs.Answers.{judgeNumber, judgeBlock, judg
 use crate::JudgeAnswer;
 use division_table::make_table;
 use layout::Acceptance;
-use layout::Plan;
-use layout::block_shape;
 use layout::check_layout;
-use layout::plan_of;
 use layout::refusal_of;
+use layout_plan::Plan;
+use layout_plan::block_shape;
+use layout_plan::plan_of;
 use page_decide::Scan;
 use page_decide::damaged::block_remainder;
 use page_decide::decide::decide_alone;

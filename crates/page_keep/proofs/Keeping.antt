@@ -19,7 +19,7 @@ use lib.ListN.{length, take, getD, set, replicate, length-set}
 use lib.Seq.{getD-set-same, getD-set-other, getD-take, length-take-le}
 use Rattle.bits.specs.Bits.{run}
 use Rattle.bits.proofs.Runs.{run-length, run-ext, run-cong}
-use Rattle.layout.specs.declared.Plan.{Plan}
+use Rattle.layout_plan.specs.declared.Plan.{Plan}
 use Rattle.page_theory.specs.Reading.{Lowest}
 use Rattle.page_plan.specs.Plans.{Planned}
 use Rattle.page_decide.specs.declared.Scan.{Scan}

@@ -15,8 +15,8 @@ use mathlib.Core.List.{List}
 use Prim.Native.Nat.{ℕ, _+_, _*_, _≤_, _<_}
 use lib.ListN.{length, take, getD}
 use Rattle.bits.specs.Bits.{run}
-use Rattle.layout.specs.declared.Plan.{Plan}
-use Rattle.layout.specs.Plan.{covered}
+use Rattle.layout_plan.specs.declared.Plan.{Plan}
+use Rattle.layout_plan.specs.Plan.{covered}
 use Rattle.code.specs.Word.{Below}
 use Rattle.code.specs.Register.{register}
 use Rattle.division_table.specs.Table.{Table}

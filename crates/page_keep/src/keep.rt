@@ -7,7 +7,7 @@ ghost use Rattle.page_decide.specs.Deciding.{OneField};
 ghost use Rattle.page_keep.specs.Keeping.{KeptFor, BlockKept, Pending, PageDecided};
 use crate::Decision;
 use decoder::Found;
-use layout::Plan;
+use layout_plan::Plan;
 use page_decide::Decided;
 use page_decide::Scan;
 use page_decide::damaged::next_damaged;

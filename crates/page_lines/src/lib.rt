@@ -6,7 +6,7 @@
 mod reading;
 mod sums;
 
-use layout::Plan;
+use layout_plan::Plan;
 pub use reading::Answer;
 pub use reading::read_into;
 use replies::Refusal;

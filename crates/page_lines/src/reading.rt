@@ -1,5 +1,5 @@
 // The calls of the library that read a page: looking at it, and taking it.
-use layout::Plan;
+use layout_plan::Plan;
 use page_look::LookAnswer;
 use page_take::TakeAnswer;
 use replies::Refusal;

@@ -1,5 +1,5 @@
 // What the counts of a page come to.
-use layout::Plan;
+use layout_plan::Plan;
 
 // The count of a ruined block, which is that of no other.
 pub const RUINED: u8 = 255;

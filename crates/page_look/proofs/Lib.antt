@@ -1,3 +1,2 @@
 -- The laws behind looking at a page.
-pub mod Looking
 pub mod Ends

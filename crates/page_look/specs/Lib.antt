@@ -1,3 +1,2 @@
--- The answer to a look, and what its steps promise.
+-- The answer to a look.
 pub mod Answers
-pub mod Looking

@@ -10,9 +10,7 @@
 // 2. Otherwise each damaged block is decided once, and its count written; a ruined one too, and the blocks after it are looked at all
 //    the same.
 // 3. The lowest ruined block, if there is one, is the first with the count 255.
-// look.rt puts the steps together. Nothing is kept but the counts.
-//
-// specs/ has the answer (Answers) and what the steps promise (Looking); proofs/ the laws: Looking (the counts, block after block), Ends.
+// The crate `page_counts` counts, look.rt puts the steps together. Nothing is kept but the counts.
 mod look;
 
 pub use look::look_for;

@@ -21,9 +21,9 @@ use Rattle.replies.specs.declared.Verdict.the-variants.{Passed, Refused}
 use Rattle.replies.specs.Replies.{number, block, verdictNumber}
 use Rattle.replies.proofs.Given.{number-positive}
 use Rattle.layout.specs.declared.Refusal as kinds
-use Rattle.layout.specs.declared.Plan.{Plan}
+use Rattle.layout_plan.specs.declared.Plan.{Plan}
 use Rattle.layout.specs.Acceptance.{refusalOf}
-use Rattle.layout.proofs.ReplyRules.{refusal-block}
+use Rattle.layout_replies.proofs.ReplyRules.{refusal-block}
 use Rattle.page_theory.specs.Calls.{blockReply}
 use Rattle.page_plan.specs.Plans.{Planned, Ready}
 

@@ -19,16 +19,16 @@ use native.Mathlib.Omega.{arith}
 use lib.ListN.{length, getD}
 use Rattle.mark.specs.Mark.{InStream}
 use Rattle.replies.proofs.Editions.{highest-small}
-use Rattle.layout.specs.declared.Fields.{Fields}
-use Rattle.layout.specs.declared.Layout.{Layout}
-use Rattle.layout.specs.declared.Shape.{Shape}
-use Rattle.layout.specs.declared.Plan.{Plan}
+use Rattle.layout_plan.specs.declared.Fields.{Fields}
+use Rattle.layout_plan.specs.declared.Layout.{Layout}
+use Rattle.layout_plan.specs.declared.Shape.{Shape}
+use Rattle.layout_plan.specs.declared.Plan.{Plan}
 use Rattle.layout.specs.declared.Finding.the-variants.{Kept}
 use Rattle.layout.specs.declared.Acceptance.the-variants.{Accepted}
-use Rattle.layout.specs.Record.{Words, blockFields, fieldsAt, fieldsUnder, fieldsIn}
-use Rattle.layout.specs.Plan.{shapeWith, shapeOf, dataBytes, planFor, planOf, shape, field, level, bits, covered, start, room, from, payload, Valid}
+use Rattle.layout_plan.specs.Record.{Words, blockFields, fieldsAt, fieldsUnder, fieldsIn}
+use Rattle.layout_plan.specs.Plan.{shapeWith, shapeOf, dataBytes, planFor, planOf, shape, field, level, bits, covered, start, room, from, payload, Valid}
 use Rattle.layout.specs.Acceptance.{findingOf, acceptance}
-use Rattle.layout.proofs.Plans.{product-le, later-none, later-some, shape-first, shape-later, start-next, start-up, from-firsts, from-laters}
+use Rattle.layout_plan.proofs.Plans.{product-le, later-none, later-some, shape-first, shape-later, start-next, start-up, from-firsts, from-laters}
 use Rattle.layout.proofs.Accepting.{Keeps, keeps, plan-valid, accepted-plan, accepted-kept}
 use Rattle.code.specs.Code.{Fits}
 use Rattle.page_theory.proofs.Reading.{from-order}

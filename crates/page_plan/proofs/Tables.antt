@@ -14,9 +14,9 @@ use borrow.Author.Tests.{eqb-true}
 use Rattle.field.specs.declared.Field.{Field}
 use Rattle.field.specs.declared.Field.the-variants.{Thirteen, Fourteen}
 use Rattle.field.specs.Field.{degree}
-use Rattle.layout.specs.declared.Shape.{Shape}
-use Rattle.layout.specs.declared.Plan.{Plan}
-use Rattle.layout.specs.Plan.{shape, field, level}
+use Rattle.layout_plan.specs.declared.Shape.{Shape}
+use Rattle.layout_plan.specs.declared.Plan.{Plan}
+use Rattle.layout_plan.specs.Plan.{shape, field, level}
 use Rattle.division_table.specs.Table.{Table}
 use Rattle.page_plan.specs.Plans.{Planned}
 use Rattle.page_plan.proofs.Plans.{shape-zero}

@@ -9,12 +9,12 @@ use mathlib.Core.Path.{_≡_}
 use mathlib.Core.List.{List}
 use Prim.Native.Nat.{ℕ, _%_, _≤_, _<_}
 use lib.ListN.{length}
-use Rattle.layout.specs.declared.Shape.{Shape}
-use Rattle.layout.specs.declared.Plan.{Plan}
-use Rattle.layout.specs.declared.Layout.{Layout}
+use Rattle.layout_plan.specs.declared.Shape.{Shape}
+use Rattle.layout_plan.specs.declared.Plan.{Plan}
+use Rattle.layout_plan.specs.declared.Layout.{Layout}
 use Rattle.layout.specs.declared.Acceptance.{Acceptance}
 use Rattle.layout.specs.declared.Acceptance.the-variants.{Accepted}
-use Rattle.layout.specs.Plan.{planOf, field, level, Valid}
+use Rattle.layout_plan.specs.Plan.{planOf, field, level, Valid}
 
 -- The stored generators are those of t = 0, 2, 4, .., 62 (document 01, "Layout words": t is twice the level field).
 pub record Stored (s : Shape) : Type 0 where

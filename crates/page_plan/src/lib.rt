@@ -12,13 +12,13 @@ ghost use lib.ListN.{length};
 ghost use lib.Dec.{eqb};
 ghost use Rattle.replies.specs.Replies.{verdictNumber};
 ghost use Rattle.field.specs.Field.{degree};
-ghost use Rattle.layout.specs.Plan.{from};
+ghost use Rattle.layout_plan.specs.Plan.{from};
 ghost use Rattle.division_table.specs.Table.{Table};
 ghost use Rattle.page_theory.specs.Calls.{blockReply};
 ghost use Rattle.page_plan.specs.Plans.{Planned};
 use division_table::make_table;
-use layout::Plan;
-use layout::Shape;
+use layout_plan::Plan;
+use layout_plan::Shape;
 use replies::Refusal;
 use replies::Verdict;
 

@@ -12,8 +12,8 @@ use Rattle.bits.proofs.Runs.{run-length, run-ext, run-cong}
 use Rattle.bits.proofs.Pages.{bytes-bit}
 use Rattle.mark.specs.Mark.{place, marked, streamBit}
 use Rattle.mark.proofs.Places.{streamed-place, place-free, place-below}
-use Rattle.layout.specs.declared.Plan.{Plan}
-use Rattle.layout.specs.Plan.{bits, field, level, covered, start, room, Valid}
+use Rattle.layout_plan.specs.declared.Plan.{Plan}
+use Rattle.layout_plan.specs.Plan.{bits, field, level, covered, start, room, Valid}
 use Rattle.layout.specs.Bits.{blockOf}
 use Rattle.page_bits.proofs.Placing.{Lies, block-lies}
 use Rattle.code.specs.Code.{Codeword, Fits}

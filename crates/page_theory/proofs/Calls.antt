@@ -12,8 +12,8 @@ use borrow.Author.Tests.{eq-eqb, ne-eqb}
 use Rattle.bits.specs.Bits.{bitAt, bitOf, run, Bytes}
 use Rattle.bits.proofs.Runs.{run-at}
 use Rattle.bits.proofs.Pages.{bytes-bytes, bytes-bit, bytes-ext}
-use Rattle.layout.specs.declared.Plan.{Plan}
-use Rattle.layout.specs.Plan.{payload, Valid}
+use Rattle.layout_plan.specs.declared.Plan.{Plan}
+use Rattle.layout_plan.specs.Plan.{payload, Valid}
 use Rattle.code.specs.Word.{Word}
 use Rattle.code.proofs.Outcome.{gives-sound}
 use Rattle.page_theory.specs.Page.{message, pageOf}

@@ -1,5 +1,5 @@
 -- Cases A to L of document 01, "Both sides of each edge", at edition 1, and those of document 02, E13, in one table, each proved of the
--- definitions. The statements about layouts alone (A, B, C, D, E, I, K, E13's) stand in layout/proofs/Cases; the others stand here.
+-- definitions. The statements about layouts alone (A, B, C, D, E, I, K, E13's) stand in layout_replies/proofs/Cases; the others stand here.
 use mathlib.Core.Path.{_≡_, refl, sym, ap, _∙_}
 use mathlib.Core.Bool.{false}
 use mathlib.Core.List.{List, [], _∷_, _++_}
@@ -14,14 +14,14 @@ use Rattle.field.proofs.Cases.{case-H-thirteen, case-H-fourteen}
 use Rattle.algebra.specs.Word.{flip}
 use Rattle.bits.specs.Bits.{bit, bitAt, bitOf, run, digit, number, digits, bytes}
 use Rattle.mark.specs.Mark.{place, marked, streamed, streamBit}
-use Rattle.layout.specs.declared.BlockFields.{BlockFields}
-use Rattle.layout.specs.declared.Plan.{Plan}
+use Rattle.layout_plan.specs.declared.BlockFields.{BlockFields}
+use Rattle.layout_plan.specs.declared.Plan.{Plan}
 use Rattle.layout.specs.declared.BitAnswer.the-variants.{InBlock}
-use Rattle.layout.specs.Record.{Words}
-use Rattle.layout.specs.Plan.{shapeWith, shapeOf, laterShape, dataBytes, planFor, layoutFor, planOf, shape, field, level, start, from, Valid}
+use Rattle.layout_plan.specs.Record.{Words}
+use Rattle.layout_plan.specs.Plan.{shapeWith, shapeOf, laterShape, dataBytes, planFor, layoutFor, planOf, shape, field, level, start, from, Valid}
 use Rattle.layout.specs.Acceptance.{acceptance}
 use Rattle.layout.specs.Bits.{within, blockBelow, blockOf, bitAnswer}
-use Rattle.layout.proofs.Cases.{word, words, twoBlocks, layoutE, CaseA, CaseB, CaseC, CaseD, CaseE, CaseI, CaseK, CaseEdition, layout-cases}
+use Rattle.layout_replies.proofs.Cases.{word, words, twoBlocks, layoutE, CaseA, CaseB, CaseC, CaseD, CaseE, CaseI, CaseK, CaseEdition, layout-cases}
 use Rattle.code.specs.Word.{Word, apart, distance, ones, turned, flipped}
 use Rattle.code.specs.Code.{Codeword}
 use Rattle.code.specs.Outcome.{by-codeword}

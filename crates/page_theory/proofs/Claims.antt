@@ -7,8 +7,8 @@ use native.Mathlib.Omega.{arith}
 use lib.ListN.{length}
 use Rattle.field.specs.declared.Field.{Field}
 use Rattle.layout.specs.declared.Acceptance.{Acceptance}
-use Rattle.layout.specs.declared.Plan.{Plan}
-use Rattle.layout.specs.Plan.{field, level}
+use Rattle.layout_plan.specs.declared.Plan.{Plan}
+use Rattle.layout_plan.specs.Plan.{field, level}
 use Rattle.code.specs.Word.{Word}
 use Rattle.page_theory.specs.Page.{blockWord}
 use Rattle.page_theory.specs.Claim.{Right, right?}

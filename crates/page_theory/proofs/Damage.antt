@@ -7,8 +7,8 @@ use native.Mathlib.Omega.{arith}
 use Rattle.bits.specs.Bits.{bitOf, run, digit, Bytes}
 use Rattle.bits.proofs.Runs.{run-length}
 use Rattle.mark.specs.Mark.{place, streamBit}
-use Rattle.layout.specs.declared.Plan.{Plan}
-use Rattle.layout.specs.Plan.{bits, field, level, covered, start, payload, Valid}
+use Rattle.layout_plan.specs.declared.Plan.{Plan}
+use Rattle.layout_plan.specs.Plan.{bits, field, level, covered, start, payload, Valid}
 use Rattle.algebra.specs.Word.{flip}
 use Rattle.code.specs.Word.{apart, distance, ones}
 use Rattle.code.specs.Code.{Near}

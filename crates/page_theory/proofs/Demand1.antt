@@ -13,10 +13,10 @@ use native.Mathlib.Decide.{ℕ-discrete}
 use lib.ListN.{length}
 use lib.Dec.{eqb, ltb}
 use Rattle.replies.specs.Replies.{among}
-use Rattle.layout.specs.declared.Plan.{Plan}
+use Rattle.layout_plan.specs.declared.Plan.{Plan}
 use Rattle.layout.specs.declared.Acceptance.{Acceptance}
 use Rattle.layout.specs.declared.Acceptance.the-variants.{Accepted, Refused}
-use Rattle.layout.specs.Plan.{planOf, field, level}
+use Rattle.layout_plan.specs.Plan.{planOf, field, level}
 use Rattle.layout.specs.Acceptance.{refusalReply}
 use Rattle.layout.proofs.Numbers.{refusal-reply-early}
 use Rattle.code.specs.Outcome.{Outcome, good, erased, ruined}

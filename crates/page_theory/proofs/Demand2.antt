@@ -14,8 +14,8 @@ use Rattle.bits.specs.Bits.{bitOf}
 use Rattle.bits.proofs.Runs.{run-cong}
 use Rattle.mark.specs.Mark.{marked, streamBit}
 use Rattle.layout.specs.declared.Acceptance.{Acceptance}
-use Rattle.layout.specs.declared.Plan.{Plan}
-use Rattle.layout.specs.Plan.{bits, field, level, room, from, payload, Valid}
+use Rattle.layout_plan.specs.declared.Plan.{Plan}
+use Rattle.layout_plan.specs.Plan.{bits, field, level, room, from, payload, Valid}
 use Rattle.layout.specs.Bits.{blockOf}
 use Rattle.code.specs.Word.{Word}
 use Rattle.code.specs.Code.{Codeword}

@@ -9,8 +9,8 @@ use native.Mathlib.Omega.{arith}
 use lib.ListN.{length}
 use Rattle.bits.specs.Bits.{run}
 use Rattle.layout.specs.declared.Acceptance.{Acceptance}
-use Rattle.layout.specs.declared.Plan.{Plan}
-use Rattle.layout.specs.Plan.{Valid}
+use Rattle.layout_plan.specs.declared.Plan.{Plan}
+use Rattle.layout_plan.specs.Plan.{Valid}
 use Rattle.page_theory.specs.Page.{pageOf}
 use Rattle.page_theory.specs.Reading.{RefusedAt, Lowest, Reading, reading, counts}
 use Rattle.page_theory.specs.Damage.{Accepts, Outputs, flips, Damaged, WrittenAndDamaged}

@@ -9,8 +9,8 @@ use lib.ListN.{length, replicate, length-replicate}
 use Rattle.bits.proofs.Runs.{run-ext}
 use Rattle.mark.specs.Mark.{streamBit}
 use Rattle.layout.specs.declared.Acceptance.{Acceptance}
-use Rattle.layout.specs.declared.Plan.{Plan}
-use Rattle.layout.specs.Plan.{covered, start, room}
+use Rattle.layout_plan.specs.declared.Plan.{Plan}
+use Rattle.layout_plan.specs.Plan.{covered, start, room}
 use Rattle.code.specs.Word.{zeros}
 use Rattle.code.specs.Outcome.{Outcome, good, erased, ruined}
 use Rattle.code.proofs.Zeros.{zeros-none}

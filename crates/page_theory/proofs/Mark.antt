@@ -15,10 +15,10 @@ use Rattle.bits.proofs.Pages.{byte-number, bytes-bytes, bytes-cong}
 use Rattle.mark.specs.declared.Mark.{Mark}
 use Rattle.mark.specs.Mark.{marked}
 use Rattle.mark.proofs.Places.{marked-before, marked-after, marked-within}
-use Rattle.layout.specs.declared.Plan.{Plan}
+use Rattle.layout_plan.specs.declared.Plan.{Plan}
 use Rattle.layout.specs.declared.Acceptance.{Acceptance}
 use Rattle.layout.specs.declared.Acceptance.the-variants.{Accepted, Refused}
-use Rattle.layout.specs.Plan.{planOf}
+use Rattle.layout_plan.specs.Plan.{planOf}
 use Rattle.page_theory.specs.Page.{pageBit, pageOf}
 use Rattle.page_theory.specs.Damage.{Accepts, Payload}
 use Rattle.page_theory.specs.Calls.{Written, writeEnded, writeReply, writeIn, writeFor}

@@ -8,11 +8,11 @@ use native.Mathlib.Omega.{arith}
 use lib.ListN.{length, getD}
 use lib.Dec.{eqb}
 use borrow.Author.Tests.{eq-eqb, ne-eqb, lt-ltb}
-use Rattle.layout.specs.declared.Plan.{Plan}
-use Rattle.layout.specs.declared.Layout.{Layout}
+use Rattle.layout_plan.specs.declared.Plan.{Plan}
+use Rattle.layout_plan.specs.declared.Layout.{Layout}
 use Rattle.layout.specs.declared.Acceptance.{Acceptance}
 use Rattle.layout.specs.declared.Acceptance.the-variants.{Accepted, Refused}
-use Rattle.layout.specs.Plan.{planOf, Valid}
+use Rattle.layout_plan.specs.Plan.{planOf, Valid}
 use Rattle.code.specs.Word.{Word}
 use Rattle.code.specs.Outcome.{Outcome}
 use Rattle.page_theory.specs.Reading.{GivesAt, RefusedAt, outcome}

@@ -10,8 +10,8 @@ use lib.ListN.{length, getD, length-append, List·getD-append}
 use lib.Seq.{getD-append-add}
 use Rattle.bits.specs.Bits.{bitOf, run}
 use Rattle.bits.proofs.Runs.{run-length, run-at, run-ext, run-cong, run-append}
-use Rattle.layout.specs.declared.Plan.{Plan}
-use Rattle.layout.specs.Plan.{bits, from, payload, Valid}
+use Rattle.layout_plan.specs.declared.Plan.{Plan}
+use Rattle.layout_plan.specs.Plan.{bits, from, payload, Valid}
 use Rattle.code.specs.Word.{Word}
 use Rattle.code.specs.Outcome.{Outcome, good, erased, ruined, erasedCount, by-codeword, by-zeros}
 use Rattle.code.proofs.Outcome.{judge-repaired, repaired-judge, judge-erased, erased-judge, judge-refused, refused-judge, gives-length, gives-sound, gives-count}

@@ -8,10 +8,10 @@ use lib.ListN.{length, getD}
 use lib.Dec.{eqb}
 use Rattle.algebra.specs.Word.{flip}
 use Rattle.field.specs.declared.Field.{Field}
-use Rattle.layout.specs.declared.Plan.{Plan}
+use Rattle.layout_plan.specs.declared.Plan.{Plan}
 use Rattle.layout.specs.declared.Acceptance.{Acceptance}
 use Rattle.layout.specs.declared.Acceptance.the-variants.{Accepted, Refused}
-use Rattle.layout.specs.Plan.{planOf, field, level}
+use Rattle.layout_plan.specs.Plan.{planOf, field, level}
 use Rattle.code.specs.Word.{Word, turned, flipped}
 use Rattle.code.proofs.Flips.{turned-length}
 use Rattle.page_theory.specs.Page.{blockWord}

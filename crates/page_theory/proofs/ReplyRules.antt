@@ -1,7 +1,7 @@
 -- Each page call replies as its list of rules says, block number included, so each reply is given exactly if its rule applies and none before it
 -- does (document 01, "Replies"). `..-replies` says the first, `..-exactly` the second, `..-ascending` that after the rules that are looked at first of
 -- all the turns never fall: where several rules apply the smallest number wins, but that 11 comes between 3 and 4 (document 02, E7; replies/Given
--- `smallest-after`). All are said of whatever names the layout, with its list of rules; layout/ReplyRules `words-ruled` and `words-ascends` give that of
+-- `smallest-after`). All are said of whatever names the layout, with its list of rules; layout_replies/ReplyRules `words-ruled` and `words-ascends` give that of
 -- layout words, where the edition and the record's length are looked at first.
 use mathlib.Core.Path.{_≡_, refl, _∙_}
 use mathlib.Core.Bool.{Bool, true, false, cond}
@@ -18,11 +18,11 @@ use Rattle.replies.specs.Given as none
 use Rattle.replies.specs.Given.{None, Follows, Exactly, turn, atMost, ascending}
 use Rattle.replies.proofs.Tests.{leb-not}
 use Rattle.replies.proofs.Given.{follows-next, none-verdict, verdict-none, append-kept, append-refused, exactly}
-use Rattle.layout.specs.declared.Plan.{Plan}
+use Rattle.layout_plan.specs.declared.Plan.{Plan}
 use Rattle.layout.specs.declared.Acceptance.{Acceptance}
-use Rattle.layout.specs.Plan.{planOf, field, level}
-use Rattle.layout.specs.ReplyRules.{Ruled, accepts, refuses, Ascends}
-use Rattle.layout.proofs.ReplyRules.{refused-follows, accepted-follows, ascends-after}
+use Rattle.layout_plan.specs.Plan.{planOf, field, level}
+use Rattle.layout_replies.specs.ReplyRules.{Ruled, accepts, refuses, Ascends}
+use Rattle.layout_replies.proofs.ReplyRules.{refused-follows, accepted-follows, ascends-after}
 use Rattle.code.specs.Word.{Word}
 use Rattle.code.specs.Outcome.{Outcome, good, erased, ruined}
 use Rattle.page_theory.specs.Page.{pageOf, blockWord}

@@ -12,11 +12,11 @@ use borrow.Author.Tests.{le-ltb}
 use lib.Dec.{eqb}
 use mathlib.Core.Bool.{Bool, true, false, cond}
 use Rattle.bits.proofs.Runs.{run-cong}
-use Rattle.layout.specs.declared.Plan.{Plan}
-use Rattle.layout.specs.declared.Layout.{Layout}
+use Rattle.layout_plan.specs.declared.Plan.{Plan}
+use Rattle.layout_plan.specs.declared.Layout.{Layout}
 use Rattle.layout.specs.declared.Acceptance.{Acceptance}
 use Rattle.layout.specs.declared.Acceptance.the-variants.{Accepted, Refused}
-use Rattle.layout.specs.Plan.{planOf}
+use Rattle.layout_plan.specs.Plan.{planOf}
 use Rattle.page_theory.specs.Page.{blockWord}
 use Rattle.page_theory.specs.Reading.{outcome, more, readingOf, reading, countOf, counts}
 use Rattle.page_theory.specs.Calls.{lookIn, lookFor, takeIn, takeFor}

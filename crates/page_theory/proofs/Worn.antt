@@ -12,8 +12,8 @@ use native.Mathlib.Decide.{decLe, decLt, ℕ-discrete}
 use lib.ListN.{length, getD}
 use Rattle.mark.specs.Mark.{streamBit}
 use Rattle.layout.specs.declared.Acceptance.{Acceptance}
-use Rattle.layout.specs.declared.Plan.{Plan}
-use Rattle.layout.specs.Plan.{bits, field, level, covered, start, Valid}
+use Rattle.layout_plan.specs.declared.Plan.{Plan}
+use Rattle.layout_plan.specs.Plan.{bits, field, level, covered, start, Valid}
 use Rattle.code.specs.Word.{Word, distance}
 use Rattle.code.specs.Code.{Near}
 use Rattle.code.specs.Outcome.{Outcome, good, erased, ruined, erasedCount}

@@ -10,18 +10,18 @@ use lib.ListN.{length, getD, replicate, length-append, length-replicate, getD-re
 use borrow.Author.Tests.{le-leb}
 use Rattle.bits.specs.Bits.{bitOf, run, bytes}
 use Rattle.bits.proofs.Runs.{run-at, run-ext, run-append}
-use Rattle.bits.proofs.Pages.{bytes-bytes, bytes-ext, bytes-cong}
+use Rattle.bits.proofs.Pages.{bytes-ext, bytes-cong}
 use Rattle.mark.specs.Mark.{marked, streamed, streamBit, putBit, put}
 use Rattle.mark.proofs.Places.{place-streamed, streamed-below}
-use Rattle.layout.specs.declared.Plan.{Plan}
-use Rattle.layout.specs.Plan.{covered, pads, start, used, room, Valid}
+use Rattle.layout_plan.specs.declared.Plan.{Plan}
+use Rattle.layout_plan.specs.Plan.{covered, pads, start, used, room, Valid}
 use Rattle.layout.specs.Bits.{blockOf}
-use Rattle.layout.proofs.Plans.{start-next}
+use Rattle.layout_plan.proofs.Plans.{start-next}
 use Rattle.page_bits.proofs.Placing.{Lies, block-or-tail, block-past, pads-free}
 use Rattle.code.specs.Word.{Word}
 use Rattle.page_theory.specs.Page.{written, writtenBit, pageBit, pageOf, blockWord}
 use Rattle.page_theory.specs.Demands.{Stands}
-use Rattle.page_theory.proofs.Blocks.{written-length, written-run, written-tail, page-block, page-tail, page-mark}
+use Rattle.page_theory.proofs.Blocks.{written-length, written-run, written-tail}
 
 run-lies : (q : Plan) (f : ℕ → Bool) (b p : ℕ) → Lies q b p → getD (run f (start q b) (covered q b)) (p - start q b) false ≡ f p
 run-lies q f b p h =
@@ -29,14 +29,6 @@ run-lies q f b p h =
     run-at f (start q b) (covered q b) (p - start q b) false (omega (arith, h .from, h .to)) ∙ ap f e
 
 module _ (q : Plan) (v : Valid q) (lent d : List ℕ) where
-  pub page-stands : Stands q lent d (pageOf q lent d)
-  page-stands = record {
-    bytes = unfold pageOf in bytes-bytes _ (q .size);
-    blocks = page-block q lent d v;
-    tail = page-tail q v lent d;
-    mark = page-mark q lent d;
-  }
-
   module _ (page : List ℕ) (s : Stands q lent d page) where
     stands-stream : (p : ℕ) → p < room q → streamBit (q .mark) page p ≡ writtenBit q d p
     unfolding blockWord

@@ -7,8 +7,8 @@ use native.Mathlib.Nat.{zero-div}
 use lib.ListN.{getD, replicate}
 use Rattle.field.specs.Field.{degree}
 use Rattle.bits.specs.Bits.{bit, bitAt, bitOf, run}
-use Rattle.layout.specs.declared.Plan.{Plan}
-use Rattle.layout.specs.Plan.{bits, field, level}
+use Rattle.layout_plan.specs.declared.Plan.{Plan}
+use Rattle.layout_plan.specs.Plan.{bits, field, level}
 use Rattle.code.specs.Generator.{parity}
 use Rattle.code.proofs.Dividend.{parity-zeros}
 use Rattle.page_theory.specs.Page.{message}

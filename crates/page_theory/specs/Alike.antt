@@ -10,11 +10,11 @@ use mathlib.Core.List.{List, _∷_}
 use Prim.Native.Nat.{ℕ, _+_, _≤_, _<_}
 use lib.ListN.{length, getD}
 use Rattle.mark.specs.Mark.{streamBit}
-use Rattle.layout.specs.declared.Plan.{Plan}
-use Rattle.layout.specs.declared.Layout.{Layout}
+use Rattle.layout_plan.specs.declared.Plan.{Plan}
+use Rattle.layout_plan.specs.declared.Layout.{Layout}
 use Rattle.layout.specs.declared.Acceptance.{Acceptance}
 use Rattle.layout.specs.declared.Acceptance.the-variants.{Accepted}
-use Rattle.layout.specs.Plan.{planOf, covered, start}
+use Rattle.layout_plan.specs.Plan.{planOf, covered, start}
 
 abbrev pub SameBits : Plan → List ℕ → List ℕ → ℕ → Type 0
 SameBits q page other b = (j : ℕ) → j < covered q b → streamBit (q .mark) page (start q b + j) ≡ streamBit (q .mark) other (start q b + j)

@@ -24,11 +24,11 @@ use lib.Dec.{eqb, ltb}
 use Rattle.field.specs.declared.Field.{Field}
 use Rattle.bits.specs.Bits.{bytes}
 use Rattle.replies.specs.Replies.{unless}
-use Rattle.layout.specs.Record.{Words}
-use Rattle.layout.specs.declared.Plan.{Plan}
+use Rattle.layout_plan.specs.Record.{Words}
+use Rattle.layout_plan.specs.declared.Plan.{Plan}
 use Rattle.layout.specs.declared.Acceptance.{Acceptance}
 use Rattle.layout.specs.declared.Acceptance.the-variants.{Accepted, Refused}
-use Rattle.layout.specs.Plan.{planOf, field, level}
+use Rattle.layout_plan.specs.Plan.{planOf, field, level}
 use Rattle.layout.specs.Acceptance.{acceptance, refusalReply}
 use Rattle.code.specs.Word.{Word}
 use Rattle.code.specs.Outcome.{Outcome, good, erased, ruined, erasedCount}

@@ -18,11 +18,11 @@ use lib.ListN.{length}
 use Rattle.algebra.specs.Word.{flip}
 use Rattle.bits.specs.Bits.{digit, Bytes}
 use Rattle.mark.specs.Mark.{streamBit}
-use Rattle.layout.specs.declared.Plan.{Plan}
-use Rattle.layout.specs.declared.Layout.{Layout}
+use Rattle.layout_plan.specs.declared.Plan.{Plan}
+use Rattle.layout_plan.specs.declared.Layout.{Layout}
 use Rattle.layout.specs.declared.Acceptance.{Acceptance}
 use Rattle.layout.specs.declared.Acceptance.the-variants.{Accepted}
-use Rattle.layout.specs.Plan.{planOf, level, covered, start, Valid}
+use Rattle.layout_plan.specs.Plan.{planOf, level, covered, start, Valid}
 use Rattle.page_theory.specs.Calls.{writeFor}
 
 -- The laws about pages speak of an answer that accepts a layout, whatever names the layout: layout words w with their edition have the answer

@@ -17,9 +17,9 @@ use Prim.Native.Nat.{ℕ, _*_, _≤_, _<_}
 use lib.ListN.{length, getD}
 use Rattle.bits.specs.Bits.{bitOf, Bytes}
 use Rattle.replies.specs.Replies.{among}
-use Rattle.layout.specs.declared.Plan.{Plan}
+use Rattle.layout_plan.specs.declared.Plan.{Plan}
 use Rattle.mark.specs.Mark.{marked, streamBit}
-use Rattle.layout.specs.Plan.{room}
+use Rattle.layout_plan.specs.Plan.{room}
 use Rattle.layout.specs.Bits.{blockOf}
 use Rattle.code.specs.Word.{Word}
 use Rattle.page_theory.specs.Page.{message, written, blockWord}

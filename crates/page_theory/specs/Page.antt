@@ -15,8 +15,8 @@ use lib.ListN.{getD}
 use lib.Dec.{ltb}
 use Rattle.bits.specs.Bits.{bitOf, run, bytes}
 use Rattle.mark.specs.Mark.{marked, streamed, streamBit}
-use Rattle.layout.specs.declared.Plan.{Plan}
-use Rattle.layout.specs.Plan.{bits, field, level, covered, start, from}
+use Rattle.layout_plan.specs.declared.Plan.{Plan}
+use Rattle.layout_plan.specs.Plan.{bits, field, level, covered, start, from}
 use Rattle.layout.specs.Bits.{blockOf}
 use Rattle.code.specs.Word.{Word}
 use Rattle.code.specs.Generator.{parity}

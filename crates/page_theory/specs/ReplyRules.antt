@@ -1,5 +1,5 @@
 -- The replies of the five page calls, each as one list of rules in the order in which they are looked at (document 01, "Replies"). The first that
--- applies is given (replies/Given). What a layout is refused for comes first: `before`, a list of its own for whatever names the layout (layout/ReplyRules
+-- applies is given (replies/Given). What a layout is refused for comes first: `before`, a list of its own for whatever names the layout (layout_replies/ReplyRules
 -- `Ruled`; for layout words `layoutRules`); q is the plan of the layout.
 --
 -- isRuined o               an outcome is that the block has no codeword within t flips and more than t zeros
@@ -14,8 +14,8 @@ use lib.ListN.{length}
 use lib.Dec.{leb}
 use Rattle.replies.specs.declared.Refusal.the-variants.{PageLength, BufferLength, OutOfRange, Uncorrectable, ClaimWrong}
 use Rattle.replies.specs.Replies.{unequal, Rule, rule}
-use Rattle.layout.specs.declared.Plan.{Plan}
-use Rattle.layout.specs.Plan.{field, level}
+use Rattle.layout_plan.specs.declared.Plan.{Plan}
+use Rattle.layout_plan.specs.Plan.{field, level}
 use Rattle.code.specs.Outcome.{Outcome, good, erased, ruined}
 use Rattle.page_theory.specs.Page.{blockWord}
 use Rattle.page_theory.specs.Reading.{outcome}

@@ -17,8 +17,8 @@ use lib.ListN.{length, getD}
 use Rattle.bits.specs.Bits.{Bytes}
 use Rattle.mark.specs.Mark.{streamBit}
 use Rattle.layout.specs.declared.Acceptance.{Acceptance}
-use Rattle.layout.specs.declared.Plan.{Plan}
-use Rattle.layout.specs.Plan.{level, covered, start}
+use Rattle.layout_plan.specs.declared.Plan.{Plan}
+use Rattle.layout_plan.specs.Plan.{level, covered, start}
 use Rattle.code.specs.Word.{Word}
 use Rattle.code.specs.Outcome.{Outcome, good, erased, ruined}
 use Rattle.page_theory.specs.Reading.{countOf}

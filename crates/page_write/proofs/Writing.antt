@@ -1,75 +1,38 @@
 -- Laws behind the writer: one block, the lengths, blocks put one after the other, the tail.
 use mathlib.Core.Path.{_≡_, refl, sym, ap, _∙_}
 use mathlib.Core.Bool.{Bool, true, false, cond}
-use mathlib.Core.List.{List, _++_, append-nil}
-use Prim.Native.Nat.{ℕ, zero, suc, _+_, _-_, _*_, _<_}
+use mathlib.Core.List.{List, _++_}
+use Prim.Native.Nat.{ℕ, zero, _+_, _-_, _*_, _<_}
 use native.Mathlib.Omega.{arith}
-use native.Mathlib.Nat.{mul-zero, zero-add}
+use native.Mathlib.Nat.{zero-add}
 use native.Mathlib.Numerals.{add-one}
-use lib.ListN.{length, replicate, length-append}
+use lib.ListN.{length, length-append}
 use lib.Dec.{eqb}
 use borrow.Author.Tests.{eqb-true, ne-eqb}
-use Rattle.bits.specs.Bits.{bitOf, run, ones, digits, Bytes, Inside}
+use Rattle.bits.specs.Bits.{bitOf, run, ones, Inside}
 use Rattle.bits.proofs.Pages.{bytes-cong}
 use Rattle.mark.specs.declared.Mark.{Mark}
-use Rattle.mark.specs.Mark.{marked, streamBit, put, InStream}
-use Rattle.mark.proofs.Putting.{put-length, put-bytes, put-mark, put-inside, put-run, put-ext, put-empty, put-append}
-use Rattle.field.specs.declared.Field.{Field}
-use Rattle.field.specs.Field.{degree}
+use Rattle.mark.specs.Mark.{marked, put}
+use Rattle.mark.proofs.Putting.{put-length, put-bytes, put-mark, put-inside, put-ext, put-append}
 use Rattle.replies.specs.declared.Refusal.{Refusal}
 use Rattle.replies.specs.Replies.{number, block}
-use Rattle.layout.specs.declared.Shape.{Shape}
-use Rattle.layout.specs.declared.Plan.{Plan}
+use Rattle.layout_plan.specs.declared.Shape.{Shape}
+use Rattle.layout_plan.specs.declared.Plan.{Plan}
 use Rattle.layout.specs.declared.Refusal as kinds
 use Rattle.layout.specs.declared.Acceptance.{Acceptance}
 use Rattle.layout.specs.declared.Acceptance.the-variants.{Refused}
 use Rattle.layout.specs.Acceptance.{refusalOf, refusalReply}
-use Rattle.layout.specs.Plan.{shape, bits, start, used, room, from, payload, Summed, Valid}
+use Rattle.layout_plan.specs.Plan.{shape, bits, start, used, room, from, payload, Valid}
 use Rattle.code.specs.Word.{Word}
-use Rattle.code.specs.Generator.{parity}
 use Rattle.page_theory.specs.Page.{message, written, pageBit, pageOf}
 use Rattle.page_theory.specs.Calls.{writeEnded, writeReply, writeIn, writeFor}
 use Rattle.page_theory.proofs.Calls.{writeReply-right}
 use Rattle.page_theory.proofs.Writing as theory
 use Rattle.page_theory.proofs.Writing.{stream, stream-length, filled, filled-page}
-use Rattle.code.proofs.Remainder.{parity-length}
 use Rattle.page_plan.proofs.Plans.{message-inside}
 use Rattle.page_plan.proofs.Asking.{number-some, number-bare, layout-bare}
-use Rattle.page_write.specs.Writing.{Lent, encoded, padded}
-
--- ---- one block
-
--- without ECC there is no parity
-pub parity-none : (f : Field) (t : ℕ) (w : Word) (k : Mark) (page : List ℕ) (s : ℕ) → Bytes (length page) page → t ≡ 0 → page ≡ put k page s (parity f t w)
-unfolding parity digits
-parity-none f t w k page s b e = rw (e, mul-zero (degree f)) (sym (put-empty k page s b))
-
--- the parity of the message that stands in the stream follows it
-pub encoded-put : (s : Shape) (k : Mark) (page : List ℕ) (position : ℕ) (w : Word) → length w ≡ s .message → InStream k page position (s .message)
-    → {one two : List ℕ} → one ≡ put k page position w
-    → two ≡ put k one (position + s .message) (parity (s .field) (s .level) (run (streamBit k one) position (s .message)))
-    → two ≡ put k page position (encoded s w)
-unfolding encoded
-encoded-put s k page position w l h e f =
-    let r : run (streamBit k (put k page position w)) position (length w) ≡ w = put-run k page position w (rw (← l) at h) in
-    f ∙ rw (e, ← l, r) (put-append k page position _ w _ refl)
-
-encoded-length : (s : Shape) (w : Word) → Summed s → length w ≡ s .message → length (encoded s w) ≡ s .covered
-unfolding encoded
-encoded-length s w e l = length-append w _ ∙ rw (l, parity-length) (sym e)
-
--- the pads follow the covered bits
-pub padded-put : (s : Shape) (k : Mark) (page : List ℕ) (position : ℕ) (w : Word) → Summed s → length w ≡ s .message
-    → {one two : List ℕ} → one ≡ put k page position (encoded s w) → two ≡ put k one (position + s .covered) (ones (s .pads))
-    → two ≡ put k page position (padded s w)
-unfolding padded
-padded-put s k page position w e l f g =
-    g ∙ rw f (put-append k page position (position + s .covered) (encoded s w) (ones (s .pads)) (rw (encoded-length s w e l)))
-
-pub padded-none : (s : Shape) (k : Mark) (page : List ℕ) (position : ℕ) (w : Word) → s .pads ≡ 0
-    → {one : List ℕ} → one ≡ put k page position (encoded s w) → one ≡ put k page position (padded s w)
-unfolding padded ones replicate
-padded-none s k page position w e f = f ∙ ap (put k page position) (sym (ap (λ (n : ℕ). encoded s w ++ replicate n true) e ∙ append-nil (encoded s w)))
+use Rattle.block_write.specs.Encoded.{encoded, padded}
+use Rattle.page_write.specs.Writing.{Lent}
 
 -- ---- the lengths are right
 

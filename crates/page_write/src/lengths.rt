@@ -1,5 +1,5 @@
 // What the lengths that a writer is lent are refused for, under a plan (document 01, "Replies").
-use layout::Plan;
+use layout_plan::Plan;
 use replies::Refusal;
 use replies::Verdict;
 ghost use mathlib.Core.Path.{_≡_};

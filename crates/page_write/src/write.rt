@@ -2,103 +2,32 @@
 // mark out: the mark's bytes stay as they were lent.
 use crate::WriteAnswer;
 use crate::lengths::write_reply;
+use block_write::write_block;
 use division_table::make_table;
 use layout::Acceptance;
-use layout::Plan;
-use layout::Shape;
-use layout::block_shape;
-use layout::block_start;
 use layout::check_layout;
-use layout::plan_of;
 use layout::refusal_of;
-use mark::Mark;
+use layout_plan::Plan;
+use layout_plan::block_shape;
+use layout_plan::block_start;
+use layout_plan::plan_of;
 use page_plan::later_table;
-use page_runs::divide::parity_in;
-use page_runs::write::copy_in;
 use page_runs::write::fill_ones;
-use page_runs::write::put_parity;
-use remainder::coefficients::parity_bits;
 use replies::Verdict;
 ghost use mathlib.Core.Path.{_≡_};
 ghost use mathlib.Core.List.{_++_};
 ghost use Prim.Native.Nat.{_+_, _≤_, _<_};
 ghost use lib.ListN.{length};
-ghost use Rattle.bits.specs.Bits.{bitOf, run, Inside};
-ghost use Rattle.mark.specs.Mark.{streamBit, put, InStream};
-ghost use Rattle.layout.specs.Plan.{Summed};
-ghost use Rattle.code.specs.Generator.{parity};
+ghost use Rattle.bits.specs.Bits.{bitOf, run};
+ghost use Rattle.mark.specs.Mark.{put};
 ghost use Rattle.division_table.specs.Table.{Table};
-ghost use Rattle.layout.specs.Record.{wordsOf};
+ghost use Rattle.layout_plan.specs.Record.{wordsOf};
 ghost use Rattle.page_theory.specs.Page.{pageOf};
 ghost use Rattle.page_theory.specs.Calls.{writeEnded, writeIn, writeFor, writeOf};
 ghost use Rattle.page_plan.specs.Plans.{Planned, Sound};
 ghost use Rattle.page_write.specs.Answers.{writeNumber, writeBlock};
-ghost use Rattle.page_write.specs.Writing.{Lent, encoded, padded};
-
-// Puts the parity of a block after its message, which stands at the block's position.
-fn write_parity(shape: Shape, table: &[u64], mark: Mark, page: &mut [u8], position: usize)
-    requires { ⌜ Table (shape .field) (shape .level) (now table) × Summed shape × InStream mark (now page) position (shape .covered) ⌝ }
-    ensures { λ r. ⌜ now (page .exit)
-        ≡ put mark (now (page .entry)) (position + shape .message)
-        (parity (shape .field) (shape .level) (run (streamBit mark (now (page .entry))) position (shape .message))) ⌝ }
-{
-    let field = shape.field;
-    let level = shape.level as usize;
-    if level == 0 {
-        return;
-    }
-    let n = shape.message as usize;
-    let degree = parity_bits(field, level);
-    let remainder = parity_in(field, level, table, mark, page, position, n);
-    put_parity(remainder, degree, mark, page, position + n);
-}
-
-// Writes the covered bits of a block at a position: the message that starts at position `at` of the payload, and its parity.
-fn write_covered(
-    shape: Shape,
-    table: &[u64],
-    metadata: &[u8],
-    data: &[u8],
-    at: usize,
-    mark: Mark,
-    page: &mut [u8],
-    position: usize,
-)
-    requires { ⌜ Table (shape .field) (shape .level) (now table) × Summed shape × (length (now metadata) < 256)
-        × Inside (now metadata ++ now «data») at (shape .message) × InStream mark (now page) position (shape .covered) ⌝ }
-    ensures { λ r. ⌜ now (page .exit)
-        ≡ put mark (now (page .entry)) position
-        (encoded shape (run (bitOf (now (metadata .entry) ++ now («data» .entry))) at (shape .message))) ⌝ }
-{
-    let n = shape.message as usize;
-    copy_in(metadata, data, at, mark, page, position, n);
-    write_parity(shape, table, mark, page, position);
-}
-
-// Writes a block at a position, and ones into its pads.
-fn write_block(
-    shape: Shape,
-    table: &[u64],
-    metadata: &[u8],
-    data: &[u8],
-    at: usize,
-    mark: Mark,
-    page: &mut [u8],
-    position: usize,
-)
-    requires { ⌜ Table (shape .field) (shape .level) (now table) × Summed shape × (length (now metadata) < 256)
-        × Inside (now metadata ++ now «data») at (shape .message) × InStream mark (now page) position (shape .covered + shape .pads) ⌝ }
-    ensures { λ r. ⌜ now (page .exit)
-        ≡ put mark (now (page .entry)) position
-        (padded shape (run (bitOf (now (metadata .entry) ++ now («data» .entry))) at (shape .message))) ⌝ }
-{
-    write_covered(shape, table, metadata, data, at, mark, page, position);
-    let pads = shape.pads as usize;
-    if pads == 0 {
-        return;
-    }
-    fill_ones(mark, page, position + shape.covered as usize, pads);
-}
+ghost use Rattle.block_write.specs.Encoded.{padded};
+ghost use Rattle.page_write.specs.Writing.{Lent};
 
 // Writes block 0, and leaves the table of the later blocks' generator. One table is made after the other in the same place.
 fn write_first(plan: Plan, table: &mut [u64], metadata: &[u8], data: &[u8], page: &mut [u8])

@@ -16,10 +16,10 @@ use Rattle.field.specs.declared.Choice.{Choice}
 use Rattle.field.specs.declared.Choice.the-variants.{Offered, Unknown}
 use Rattle.field.specs.Field.{chosen, degree, longest}
 use Rattle.remainder.specs.Remainder.{bytesFor}
-use Rattle.pieces.specs.declared.State.{State}
-use Rattle.pieces.specs.declared.Answered.{Answered}
-use Rattle.pieces.specs.Calls.{startReply, usable, answered, Finished, finished, startIn, startFor, startOf, feedIn, feedFor, feedOf, finishReply, finishIn, finishFor, finishOf}
-use Rattle.pieces.proofs.Replies.{reply-level, reply-empty, reply-plain, reply-long, reply-right}
+use Rattle.piece_states.specs.declared.State.{State}
+use Rattle.piece_states.specs.declared.Answered.{Answered}
+use Rattle.piece_states.specs.Calls.{startReply, usable, answered, Finished, finished, startIn, startFor, startOf, feedIn, feedFor, feedOf, finishReply, finishIn, finishFor, finishOf}
+use Rattle.piece_states.proofs.Replies.{reply-level, reply-empty, reply-plain, reply-long, reply-right}
 
 -- a reply of the table, by its number
 pub data Start : ℕ → Type 0 where

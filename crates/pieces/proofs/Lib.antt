@@ -1,7 +1,4 @@
--- Laws of pieces: numbers in words, the replies, a started state, how calls end, and that cuts do not matter.
-pub mod Words
-pub mod Starting
-pub mod Replies
+-- Laws of pieces: how calls end, that cuts do not matter, when each reply is given.
 pub mod Ends
 pub mod Cutting
 pub mod ReplyRules

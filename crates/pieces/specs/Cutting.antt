@@ -11,8 +11,8 @@ use Rattle.field.specs.Field.{degree}
 use Rattle.code.specs.Generator.{parity}
 use Rattle.remainder.specs.Remainder.{bytesFor, bytesOf}
 use Rattle.piece_parity.specs.Carried.{bitsOf}
-use Rattle.pieces.specs.declared.State.{State}
-use Rattle.pieces.specs.Calls.{feedOf}
+use Rattle.piece_states.specs.declared.State.{State}
+use Rattle.piece_states.specs.Calls.{feedOf}
 
 unfoldable pub joined : List (List ℕ) → List ℕ
 joined [] = []

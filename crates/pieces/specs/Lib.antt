@@ -1,5 +1,3 @@
--- The parity of a block whose message arrives in pieces: what a reader must believe.
-pub mod State
-pub mod Calls
+-- That cuts do not matter, and the replies in order: what a reader must believe.
 pub mod Cutting
 pub mod ReplyRules

@@ -14,11 +14,11 @@ use Rattle.replies.specs.Replies.{unequal, Rule, rule}
 use Rattle.replies.specs.Edition.{offered, highest}
 use Rattle.field.specs.declared.Field.{Field}
 use Rattle.field.specs.Field.{degree}
-use Rattle.layout.specs.Record.{fieldOf}
-use Rattle.layout.specs.ReplyRules.{tooLong}
+use Rattle.layout_plan.specs.Record.{fieldOf}
+use Rattle.layout_replies.specs.ReplyRules.{tooLong}
 use Rattle.remainder.specs.Remainder.{bytesFor}
-use Rattle.pieces.specs.declared.State.{State}
-use Rattle.pieces.specs.Calls.{shapeFor, usable}
+use Rattle.piece_states.specs.declared.State.{State}
+use Rattle.piece_states.specs.Calls.{shapeFor, usable}
 
 unfoldable pub blockRules : ℕ → Field → ℕ → ℕ → List Rule
 blockRules edition f level n =

@@ -13,13 +13,13 @@ use Rattle.bits.proofs.Runs.{run-length, run-append}
 use Rattle.mark.specs.Mark.{streamBit}
 use Rattle.replies.specs.Edition.{offered, highest}
 use Rattle.replies.proofs.Editions.{highest-small}
-use Rattle.layout.specs.declared.Fields.{Fields}
-use Rattle.layout.specs.declared.Shape.{Shape}
-use Rattle.layout.specs.declared.Plan.{Plan}
-use Rattle.layout.specs.Record.{Words, fieldsAt, fieldsUnder, fieldsIn}
-use Rattle.layout.specs.Plan.{shapeWith, shapeOf, planFor, shape, bits, field, level, covered, start}
+use Rattle.layout_plan.specs.declared.Fields.{Fields}
+use Rattle.layout_plan.specs.declared.Shape.{Shape}
+use Rattle.layout_plan.specs.declared.Plan.{Plan}
+use Rattle.layout_plan.specs.Record.{Words, fieldsAt, fieldsUnder, fieldsIn}
+use Rattle.layout_plan.specs.Plan.{shapeWith, shapeOf, planFor, shape, bits, field, level, covered, start}
 use Rattle.layout.specs.Acceptance.{acceptance}
-use Rattle.layout.proofs.Plans.{later-some, shape-later}
+use Rattle.layout_plan.proofs.Plans.{later-some, shape-later}
 use Rattle.layout.proofs.Accepting.{Keeps, keeps, accepted-taken, accepted-plan, accepted-kept}
 use Rattle.code.specs.Generator.{parity}
 use Rattle.remainder.specs.Remainder.{bytesFor}
@@ -28,13 +28,13 @@ use Rattle.page_theory.specs.Calls.{writeOf}
 use Rattle.page_theory.specs.Damage.{Accepts, Payload}
 use Rattle.page_theory.proofs.Blocks.{message-length}
 use Rattle.page_theory.proofs.Demand2.{write-blocks}
-use Rattle.pieces.specs.declared.State.{State}
+use Rattle.piece_states.specs.declared.State.{State}
 use Rattle.piece_parity.specs.Carried.{bitsOf}
-use Rattle.pieces.specs.State.{stateOf}
-use Rattle.pieces.specs.Calls as calls
-use Rattle.pieces.specs.Calls.{answered, startReply}
+use Rattle.piece_states.specs.State.{stateOf}
+use Rattle.piece_states.specs.Calls as calls
+use Rattle.piece_states.specs.Calls.{answered, startReply}
 use Rattle.pieces.specs.Cutting.{joined, parityIn}
-use Rattle.pieces.proofs.Replies.{reply-plain, reply-right}
+use Rattle.piece_states.proofs.Replies.{reply-plain, reply-right}
 use Rattle.pieces.proofs.Cutting.{cutting, parity-last}
 use Rattle.pieces_page.specs.InPieces.{InPieces, finished}
 

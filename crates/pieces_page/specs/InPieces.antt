@@ -8,13 +8,13 @@ use mathlib.Core.List.{List}
 use Prim.Native.Nat.{ℕ, _*_}
 use lib.ListN.{length}
 use Rattle.field.specs.declared.Field.{Field}
-use Rattle.layout.specs.declared.Plan.{Plan}
-use Rattle.layout.specs.Plan.{level}
+use Rattle.layout_plan.specs.declared.Plan.{Plan}
+use Rattle.layout_plan.specs.Plan.{level}
 use Rattle.page_theory.specs.Page.{message}
-use Rattle.pieces.specs.declared.State.{State}
+use Rattle.piece_states.specs.declared.State.{State}
 use Rattle.piece_parity.specs.Carried.{bitsOf}
-use Rattle.pieces.specs.State.{choiceOf}
-use Rattle.pieces.specs.Calls.{Finished, startOf, finishOf}
+use Rattle.piece_states.specs.State.{choiceOf}
+use Rattle.piece_states.specs.Calls.{Finished, startOf, finishOf}
 use Rattle.pieces.specs.Cutting.{joined, feeds}
 
 pub record InPieces (q : Plan) (payload : List ℕ) (b ecc : ℕ) (ps : List (List ℕ)) : Type 0 where

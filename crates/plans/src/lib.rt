@@ -3,12 +3,12 @@ use arguments::LayoutWords;
 use arguments::Options;
 use arguments::Words;
 use layout::Acceptance;
-use layout::Fields;
 use layout::Kind;
-use layout::Plan;
 use layout::Reason;
 use layout::Refusal;
 use layout::Rule;
+use layout_plan::Fields;
+use layout_plan::Plan;
 
 fn kind(out: &mut [u8; 32768], kind: Kind) {
     match kind {
@@ -87,7 +87,7 @@ pub fn refused(
             out,
             b"the layout record has not eight or twelve bytes\n",
         ),
-        Refusal::Rule(r) => reason(out, layout::fields_of(edition, record), r),
+        Refusal::Rule(r) => reason(out, layout_plan::fields_of(edition, record), r),
         Refusal::Range => say::put(out, range),
     }
 }
@@ -107,7 +107,7 @@ pub fn plan_of_words(out: &mut [u8; 32768], options: Options) -> Planned {
     match layout::check_layout(words.edition, &record) {
         Acceptance::Accepted(l) => Planned::Under {
             words: words,
-            plan: layout::plan_of(l),
+            plan: layout_plan::plan_of(l),
         },
         Acceptance::Refused(refusal) => {
             refused(out, words.edition, &record, refusal, b"\n");

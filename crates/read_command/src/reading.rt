@@ -1,11 +1,10 @@
 // The commands: a page, or a dump of many.
-use crate::finishing;
-use crate::running;
-use crate::totals::Run;
+use arguments::LayoutWords;
 use arguments::Options;
-use dump_progress::seconds;
-use layout::Plan;
+use layout_plan::Plan;
 use plans::Planned;
+use read_totals::Run;
+use text::Number;
 
 // What is asked for.
 enum Command {
@@ -51,6 +50,7 @@ fn is_dump(command: Command, options: Options) -> bool {
 fn run_of(
     command: Command,
     options: Options,
+    words: LayoutWords,
     plan: Plan,
     input: i32,
     metadata: i32,
@@ -58,6 +58,9 @@ fn run_of(
     list: i32,
 ) -> Run {
     Run {
+        edition: words.edition,
+        record: arguments::record_of(words),
+        plan: plan,
         input: input,
         metadata: metadata,
         data: data,
@@ -70,7 +73,7 @@ fn run_of(
             options.from,
             options.pages,
         ),
-        began: seconds(),
+        began: dump_progress::seconds(),
         quiet: options.quiet,
         look: is_look(command),
         raw: options.raw,
@@ -81,8 +84,7 @@ fn run_outputs(
     out: &mut [u8; 32768],
     command: Command,
     options: Options,
-    edition: u64,
-    record: &[u8],
+    words: LayoutWords,
     plan: Plan,
     input: i32,
     page: &[u8],
@@ -94,12 +96,12 @@ fn run_outputs(
     let d = output(out, data, options.stdout, m);
     let l = output(out, list, false, d);
     if l < -1 {
-        finishing::drop_all(metadata, data, list);
+        read_files::drop_all(metadata, data, list);
         return;
     }
-    let run = run_of(command, options, plan, input, m, d, l);
-    let totals = running::read_file(out, edition, record, plan, run);
-    finishing::finish(out, run, totals, page, metadata, data, list);
+    let run = run_of(command, options, words, plan, input, m, d, l);
+    let totals = read_files::read_file(out, run);
+    read_files::finish(out, run, totals, page, metadata, data, list);
 }
 
 // Runs a command on files, of which those of the last three that are not wanted are dashes.
@@ -107,8 +109,7 @@ fn run_paths(
     out: &mut [u8; 32768],
     command: Command,
     options: Options,
-    edition: u64,
-    record: &[u8],
+    words: LayoutWords,
     plan: Plan,
     page: &[u8],
     metadata: &[u8],
@@ -123,8 +124,7 @@ fn run_paths(
         out,
         command,
         options,
-        edition,
-        record,
+        words,
         plan,
         input,
         page,
@@ -135,163 +135,44 @@ fn run_paths(
     files::close_input(input);
 }
 
-fn read_paths(
-    out: &mut [u8; 32768],
-    options: Options,
-    edition: u64,
-    record: &[u8],
-    plan: Plan,
-    page: &[u8],
-    metadata: &[u8],
-    data: &[u8],
-) {
+// Whether the options and the name for the data go together; an error is printed where not. Where the data goes to standard output, the
+// answer goes to standard error.
+fn is_data(out: &mut [u8; 32768], options: Options, data: &[u8]) -> bool {
     if options.stdout {
         if !files::is_dash(data) {
             say::error(out, b"with --stdout DATA is a dash");
-            return;
+            return false;
         }
         say::to_stderr(out);
     }
-    run_paths(
-        out,
-        Command::Read,
-        options,
-        edition,
-        record,
-        plan,
-        page,
-        metadata,
-        data,
-        b"-",
-    );
+    true
 }
 
-fn read_under(out: &mut [u8; 32768], options: Options, edition: u64, record: &[u8], plan: Plan) {
-    let mut page = io::buffer();
-    let p = os::arg(arguments::place(options.at, 2), &mut page);
-    if !arguments::whole(out, b"PAGE") {
-        return;
+// Puts argument `k` places after the options into a buffer: its length, or none where an error was printed.
+fn path(out: &mut [u8; 32768], options: Options, k: usize, name: &[u8], to: &mut [u8]) -> Number {
+    let n = os::arg(arguments::place(options.at, k), to);
+    if !arguments::whole(out, name) {
+        return Number::Bad;
     }
-    let mut metadata = io::buffer();
-    let m = os::arg(arguments::place(options.at, 3), &mut metadata);
-    if !arguments::whole(out, b"METADATA") {
-        return;
-    }
-    let mut data = io::buffer();
-    let d = os::arg(arguments::place(options.at, 4), &mut data);
-    if !arguments::whole(out, b"DATA") {
-        return;
-    }
-    read_paths(
-        out,
-        options,
-        edition,
-        record,
-        plan,
-        &page[..p],
-        &metadata[..m],
-        &data[..d],
-    );
+    Number::Is(n as u64)
 }
 
-// nandpage read [--edition N] [--mark WORD2] [--from N] [--pages M] [--quiet] [--stdout] WORD0 WORD1 PAGE METADATA DATA
-pub fn read(out: &mut [u8; 32768]) {
-    let options = arguments::find_options(
-        out,
-        arguments::MARK
-            + arguments::EDITION
-            + arguments::RANGE
-            + arguments::QUIET
-            + arguments::STDOUT,
-    );
-    if !options.good {
-        return;
-    }
-    if !arguments::are(
-        out,
-        options.at,
-        5,
-        b"usage: nandpage read [--edition N] [--mark WORD2] [--from N] [--pages M] [--quiet] [--stdout] WORD0 WORD1 PAGE METADATA DATA",
-    ) {
-        return;
-    }
-    let Planned::Under { words, plan } = plans::plan_of_words(out, options) else {
-        return;
-    };
-    read_under(
-        out,
-        options,
-        words.edition,
-        &arguments::record_of(words),
-        plan,
-    );
-}
-
-fn look_under(out: &mut [u8; 32768], options: Options, edition: u64, record: &[u8], plan: Plan) {
-    let mut page = io::buffer();
-    let p = os::arg(arguments::place(options.at, 2), &mut page);
-    if !arguments::whole(out, b"PAGE") {
-        return;
-    }
-    run_paths(
-        out,
-        Command::Look,
-        options,
-        edition,
-        record,
-        plan,
-        &page[..p],
-        b"-",
-        b"-",
-        b"-",
-    );
-}
-
-// nandpage look [--edition N] [--mark WORD2] [--from N] [--pages M] [--quiet] WORD0 WORD1 PAGE
-pub fn look(out: &mut [u8; 32768]) {
-    let options = arguments::find_options(
-        out,
-        arguments::MARK + arguments::EDITION + arguments::RANGE + arguments::QUIET,
-    );
-    if !options.good {
-        return;
-    }
-    if !arguments::are(
-        out,
-        options.at,
-        3,
-        b"usage: nandpage look [--edition N] [--mark WORD2] [--from N] [--pages M] [--quiet] WORD0 WORD1 PAGE",
-    ) {
-        return;
-    }
-    let Planned::Under { words, plan } = plans::plan_of_words(out, options) else {
-        return;
-    };
-    look_under(
-        out,
-        options,
-        words.edition,
-        &arguments::record_of(words),
-        plan,
-    );
-}
-
+// The list that salvaging has.
 fn salvage_paths(
     out: &mut [u8; 32768],
     options: Options,
-    edition: u64,
-    record: &[u8],
+    words: LayoutWords,
     plan: Plan,
     page: &[u8],
     metadata: &[u8],
     data: &[u8],
 ) {
-    let mut list = io::buffer();
-    let l = os::arg(arguments::place(options.at, 5), &mut list);
-    if !arguments::whole(out, b"LIST") {
+    let mut buffer = io::buffer();
+    let Number::Is(l) = path(out, options, 5, b"LIST", &mut buffer) else {
         return;
-    }
-    if files::is_dash(&list[..l]) {
+    };
+    let list = text::front(&buffer, l as usize);
+    if files::is_dash(list) {
         say::error(out, b"LIST is a file, and no dash");
         return;
     }
@@ -299,69 +180,151 @@ fn salvage_paths(
         out,
         Command::Salvage,
         options,
-        edition,
-        record,
+        words,
         plan,
         page,
         metadata,
         data,
-        &list[..l],
+        list,
     );
 }
 
-fn salvage_under(out: &mut [u8; 32768], options: Options, edition: u64, record: &[u8], plan: Plan) {
-    let mut page = io::buffer();
-    let p = os::arg(arguments::place(options.at, 2), &mut page);
-    if !arguments::whole(out, b"PAGE") {
+fn output_paths(
+    out: &mut [u8; 32768],
+    command: Command,
+    options: Options,
+    words: LayoutWords,
+    plan: Plan,
+    page: &[u8],
+    metadata: &[u8],
+    data: &[u8],
+) {
+    if let Command::Salvage = command {
+        salvage_paths(out, options, words, plan, page, metadata, data);
         return;
     }
+    if is_data(out, options, data) {
+        run_paths(
+            out,
+            command,
+            options,
+            words,
+            plan,
+            page,
+            metadata,
+            data,
+            b"-",
+        );
+    }
+}
+
+// The outputs that reading and salvaging have.
+fn outputs(
+    out: &mut [u8; 32768],
+    command: Command,
+    options: Options,
+    words: LayoutWords,
+    plan: Plan,
+    page: &[u8],
+) {
     let mut metadata = io::buffer();
-    let m = os::arg(arguments::place(options.at, 3), &mut metadata);
-    if !arguments::whole(out, b"METADATA") {
-        return;
-    }
     let mut data = io::buffer();
-    let d = os::arg(arguments::place(options.at, 4), &mut data);
-    if !arguments::whole(out, b"DATA") {
+    let Number::Is(m) = path(out, options, 3, b"METADATA", &mut metadata) else {
         return;
-    }
-    salvage_paths(
+    };
+    let Number::Is(d) = path(out, options, 4, b"DATA", &mut data) else {
+        return;
+    };
+    output_paths(
         out,
+        command,
         options,
-        edition,
-        record,
+        words,
         plan,
-        &page[..p],
-        &metadata[..m],
-        &data[..d],
+        page,
+        text::front(&metadata, m as usize),
+        text::front(&data, d as usize),
     );
 }
 
-// nandpage salvage [--edition N] [--mark WORD2] [--raw] [--from N] [--pages M] [--quiet] WORD0 WORD1 PAGE METADATA DATA LIST
-pub fn salvage(out: &mut [u8; 32768]) {
-    let options = arguments::find_options(
-        out,
-        arguments::MARK + arguments::EDITION + arguments::RAW + arguments::RANGE + arguments::QUIET,
-    );
+fn paths(
+    out: &mut [u8; 32768],
+    command: Command,
+    options: Options,
+    words: LayoutWords,
+    plan: Plan,
+) {
+    let mut buffer = io::buffer();
+    let Number::Is(p) = path(out, options, 2, b"PAGE", &mut buffer) else {
+        return;
+    };
+    let page = text::front(&buffer, p as usize);
+    if is_look(command) {
+        run_paths(out, command, options, words, plan, page, b"-", b"-", b"-");
+        return;
+    }
+    outputs(out, command, options, words, plan, page);
+}
+
+// The options that a command may have.
+fn allowed(command: Command) -> u16 {
+    let all = arguments::MARK + arguments::EDITION + arguments::RANGE + arguments::QUIET;
+    match command {
+        Command::Read => all + arguments::STDOUT,
+        Command::Look => all,
+        Command::Salvage => all + arguments::RAW,
+    }
+}
+
+// Whether a command has as many arguments as it takes; an error is printed where not.
+fn are_enough(out: &mut [u8; 32768], command: Command, at: usize) -> bool {
+    match command {
+        Command::Read => arguments::are(
+            out,
+            at,
+            5,
+            b"usage: nandpage read [--edition N] [--mark WORD2] [--from N] [--pages M] [--quiet] [--stdout] WORD0 WORD1 PAGE METADATA DATA",
+        ),
+        Command::Look => arguments::are(
+            out,
+            at,
+            3,
+            b"usage: nandpage look [--edition N] [--mark WORD2] [--from N] [--pages M] [--quiet] WORD0 WORD1 PAGE",
+        ),
+        Command::Salvage => arguments::are(
+            out,
+            at,
+            6,
+            b"usage: nandpage salvage [--edition N] [--mark WORD2] [--raw] [--from N] [--pages M] [--quiet] WORD0 WORD1 PAGE METADATA DATA LIST",
+        ),
+    }
+}
+
+fn run(out: &mut [u8; 32768], command: Command) {
+    let options = arguments::find_options(out, allowed(command));
     if !options.good {
         return;
     }
-    if !arguments::are(
-        out,
-        options.at,
-        6,
-        b"usage: nandpage salvage [--edition N] [--mark WORD2] [--raw] [--from N] [--pages M] [--quiet] WORD0 WORD1 PAGE METADATA DATA LIST",
-    ) {
+    if !are_enough(out, command, options.at) {
         return;
     }
     let Planned::Under { words, plan } = plans::plan_of_words(out, options) else {
         return;
     };
-    salvage_under(
-        out,
-        options,
-        words.edition,
-        &arguments::record_of(words),
-        plan,
-    );
+    paths(out, command, options, words, plan);
+}
+
+// nandpage read [--edition N] [--mark WORD2] [--from N] [--pages M] [--quiet] [--stdout] WORD0 WORD1 PAGE METADATA DATA
+pub fn read(out: &mut [u8; 32768]) {
+    run(out, Command::Read);
+}
+
+// nandpage look [--edition N] [--mark WORD2] [--from N] [--pages M] [--quiet] WORD0 WORD1 PAGE
+pub fn look(out: &mut [u8; 32768]) {
+    run(out, Command::Look);
+}
+
+// nandpage salvage [--edition N] [--mark WORD2] [--raw] [--from N] [--pages M] [--quiet] WORD0 WORD1 PAGE METADATA DATA LIST
+pub fn salvage(out: &mut [u8; 32768]) {
+    run(out, Command::Salvage);
 }

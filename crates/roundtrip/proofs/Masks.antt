@@ -15,8 +15,8 @@ use Rattle.bits.specs.Bits.{bitAt, bitOf, run, Bytes}
 use Rattle.bits.proofs.Pages.{bitAt-lt, bitOf-digit, bytes-ext}
 use Rattle.mark.specs.declared.Mark.{Mark}
 use Rattle.mark.specs.Mark.{place, streamBit}
-use Rattle.layout.specs.declared.Plan.{Plan}
-use Rattle.layout.specs.Plan.{level}
+use Rattle.layout_plan.specs.declared.Plan.{Plan}
+use Rattle.layout_plan.specs.Plan.{level}
 use Rattle.algebra.specs.Word.{flip, differ}
 use Rattle.code.specs.Word.{ones}
 use Rattle.code.proofs.Polynomial.{oneAt-xor}

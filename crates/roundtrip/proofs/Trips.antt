@@ -14,8 +14,8 @@ use Rattle.bits.proofs.Pages.{bytes-length, bytes-bytes, bytes-bit}
 use Rattle.replies.specs.declared.Refusal.{Refusal}
 use Rattle.replies.specs.Replies.{number}
 use Rattle.replies.proofs.Given.{number-positive}
-use Rattle.layout.specs.Record.{Words}
-use Rattle.layout.specs.declared.Plan.{Plan}
+use Rattle.layout_plan.specs.Record.{Words}
+use Rattle.layout_plan.specs.declared.Plan.{Plan}
 use Rattle.layout.specs.Acceptance.{acceptance}
 use Rattle.page_theory.specs.Page.{pageOf}
 use Rattle.page_theory.specs.Damage.{Accepts, Payload, flips, turn, WrittenAndDamaged}

@@ -10,8 +10,8 @@ use Prim.Native.Nat.{ℕ, zero, suc}
 use lib.ListN.{length}
 use lib.Dec.{eqb, leb}
 use Rattle.bits.specs.Bits.{bitOf, bytes}
-use Rattle.layout.specs.declared.Plan.{Plan}
-use Rattle.layout.specs.Plan.{level}
+use Rattle.layout_plan.specs.declared.Plan.{Plan}
+use Rattle.layout_plan.specs.Plan.{level}
 use Rattle.code.specs.Word.{ones}
 use Rattle.page_theory.specs.Page.{blockWord}
 use Rattle.page_theory.specs.Damage.{turn}

@@ -14,11 +14,11 @@ use Prim.Native.Nat.{ℕ}
 use lib.ListN.{length}
 use lib.Dec.{eqb}
 use Rattle.bits.specs.Bits.{run}
-use Rattle.layout.specs.Record.{Words}
-use Rattle.layout.specs.declared.Plan.{Plan}
+use Rattle.layout_plan.specs.Record.{Words}
+use Rattle.layout_plan.specs.declared.Plan.{Plan}
 use Rattle.layout.specs.declared.Acceptance.{Acceptance}
 use Rattle.layout.specs.declared.Acceptance.the-variants as layout
-use Rattle.layout.specs.Plan.{planOf}
+use Rattle.layout_plan.specs.Plan.{planOf}
 use Rattle.layout.specs.Acceptance.{acceptance, refusalReply}
 use Rattle.page_theory.specs.Page.{pageOf}
 use Rattle.page_theory.specs.Calls.{writeReply, Looked, lookReply, lookOf, Taken, takeReply, takeOf}

@@ -1,9 +1,9 @@
 // Masks: how many bits of each block they name, and flipping those bits.
 use bits::read::bit_at;
-use layout::Plan;
-use layout::block_covered;
-use layout::block_shape;
-use layout::block_start;
+use layout_plan::Plan;
+use layout_plan::block_covered;
+use layout_plan::block_shape;
+use layout_plan::block_start;
 use mark::Mark;
 use mark::place;
 ghost use mathlib.Core.Path.{_≡_};
@@ -12,7 +12,7 @@ ghost use lib.ListN.{length};
 ghost use lib.Dec.{leb};
 ghost use Rattle.bits.specs.Bits.{run};
 ghost use Rattle.mark.specs.Mark.{streamBit};
-ghost use Rattle.layout.specs.Plan.{level};
+ghost use Rattle.layout_plan.specs.Plan.{level};
 ghost use Rattle.code.specs.Word.{ones};
 ghost use Rattle.roundtrip.specs.Mask.{overlaid, named, fewBelow, allowed};
 

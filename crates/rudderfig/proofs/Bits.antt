@@ -14,7 +14,7 @@ use Rattle.layout.specs.declared.PositionAnswer.the-variants as position
 use Rattle.layout.specs.Acceptance.{refusalReply}
 use Rattle.layout.specs.Answers.{Numbers, done, refused, acceptanceNumbers, bitNumbers, positionNumbers}
 use Rattle.layout.proofs.Numbers.{refusal-reply-range}
-use Rattle.rudderfig.specs.Answer.{doneWord, refusedWord, replyIn, blockIn, kindIn, valueIn, Bare}
+use Rattle.answer_words.specs.Answer.{doneWord, refusedWord, replyIn, blockIn, kindIn, valueIn, Bare}
 use Rattle.rudderfig.specs.Bits.{acceptanceWord, bitWord, positionWord}
 use Rattle.rudderfig.proofs.Words.{done-reply, done-block, done-kind, done-value, done-bare, refused-reply, refused-block, refused-bare}
 

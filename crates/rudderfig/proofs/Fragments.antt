@@ -13,7 +13,7 @@ use Rattle.fragments.specs.declared.FragmentsAnswer.the-variants.{Done, Refused
 use Rattle.register_fragments.specs.Fragments.{joined}
 use Rattle.fragments.specs.Calls.{Ended, ended, ending, offered, coefficients, fitting, reply, exportOf, importOf}
 use Rattle.fragments.proofs.Replies.{ended-lent}
-use Rattle.rudderfig.specs.Answer.{answerWord}
+use Rattle.answer_words.specs.Answer.{answerWord}
 use Rattle.rudderfig.specs.Fragments.{FragmentsReturns}
 use Rattle.rudderfig.proofs.Words.{Holds, word-holds}
 

@@ -22,7 +22,7 @@ use Rattle.replies.specs.Replies.{number, block}
 use Rattle.replies.specs.Edition.{offered, highest}
 use Rattle.replies.proofs.Editions.{highest-small}
 use Rattle.bch.specs.Answers.{Ended, refused, ended, levelOf, requestReply, listIn, remainderIn, locateIn, locateFor, locateOf}
-use Rattle.rudderfig.specs.Answer.{answerWord, doneWord, refusedWord}
+use Rattle.answer_words.specs.Answer.{answerWord, doneWord, refusedWord}
 use Rattle.rudderfig.specs.Locating.{LocateReturns}
 use Rattle.rudderfig.proofs.Words.{Holds, word-holds}
 

@@ -8,11 +8,11 @@ use native.Mathlib.Omega.{arith}
 use lib.ListN.{length, getD}
 use lib.Dec.{eqb, ltb}
 use borrow.Author.Tests.{eqb-true, ltb-true}
-use Rattle.layout.specs.Record.{Words}
-use Rattle.layout.specs.declared.Plan.{Plan}
+use Rattle.layout_plan.specs.Record.{Words}
+use Rattle.layout_plan.specs.declared.Plan.{Plan}
 use Rattle.layout.specs.declared.Acceptance.{Acceptance}
 use Rattle.layout.specs.declared.Acceptance.the-variants.{Accepted, Refused}
-use Rattle.layout.specs.Plan.{planOf}
+use Rattle.layout_plan.specs.Plan.{planOf}
 use Rattle.layout.specs.Acceptance.{acceptance}
 use Rattle.code.specs.Outcome.{Outcome, good, erased, ruined}
 use Rattle.page_theory.specs.Reading.{Reading, outcome, reading, counts}
@@ -23,7 +23,7 @@ use Rattle.page_theory.specs.Calls.{blockReply, judgeEnded, judgeBy, judgeIn, j
 use Rattle.page_theory.proofs.Reading.{refused-lowest}
 use Rattle.page_theory.proofs.Calls.{Replied, whole, named, look-replied, take-replied}
 use Rattle.page_theory.proofs.Demand1.{write-ends, look-ends, take-ends, judge-ends, claim-ends}
-use Rattle.rudderfig.specs.Answer.{answerWord}
+use Rattle.answer_words.specs.Answer.{answerWord}
 use Rattle.rudderfig.specs.Pages.{judgeWord, claimWord}
 use Rattle.rudderfig.proofs.Words.{Holds, word-holds}
 use Rattle.rudderfig.proofs.Sizes.{blocks-low, accepted-narrow}

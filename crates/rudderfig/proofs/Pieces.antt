@@ -3,11 +3,11 @@ use mathlib.Core.Path.{_≡_, refl, ap, _∙_}
 use mathlib.Core.List.{List}
 use Prim.Native.Nat.{ℕ}
 use native.Mathlib.Omega.{arith}
-use Rattle.pieces.specs.declared.State.{State}
-use Rattle.pieces.specs.declared.Answered.{Answered}
-use Rattle.pieces.specs.Calls.{Finished, finished, startOf, feedOf, finishOf}
+use Rattle.piece_states.specs.declared.State.{State}
+use Rattle.piece_states.specs.declared.Answered.{Answered}
+use Rattle.piece_states.specs.Calls.{Finished, finished, startOf, feedOf, finishOf}
 use Rattle.pieces.proofs.Ends.{start-small, piece-small, start-ends, feed-ends, finish-ends}
-use Rattle.rudderfig.specs.Answer.{answerWord}
+use Rattle.answer_words.specs.Answer.{answerWord}
 use Rattle.rudderfig.specs.Pieces.{StateReturns, ParityReturns}
 use Rattle.rudderfig.proofs.Words.{Holds, word-holds}
 

@@ -20,7 +20,7 @@ use Rattle.page_look.specs.Answers.{lookNumber, lookBlock}
 use Rattle.page_take.specs.Answers.{takeNumber, takeBlock}
 use Rattle.page_judge.specs.Answers.{judgeNumber, judgeBlock, judgeFlips}
 use Rattle.page_theory.specs.Calls.{Written, writeEnded, Looked, lookEnded, Taken, takeEnded, Judged, judgeEnded, Claimed, claimEnded}
-use Rattle.rudderfig.specs.Answer.{doneWord, refusedWord}
+use Rattle.answer_words.specs.Answer.{doneWord, refusedWord}
 use Rattle.rudderfig.specs.Pages.{WriteReturns, LookReturns, TakeReturns, judgeWord, claimWord}
 
 module _ {a : WriteAnswer} {w : Written} {p : List ℕ} {r : ℕ} (e : writeEnded (writeNumber a) (writeBlock a) p ≡ w) where

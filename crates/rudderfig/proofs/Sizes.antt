@@ -10,18 +10,18 @@ use native.Mathlib.Nat.{eq-zero-or-pos}
 use lib.ListN.{getD}
 use lib.Dec.{ltb}
 use Rattle.field.specs.Field.{degree}
-use Rattle.layout.specs.declared.BlockFields.{BlockFields}
-use Rattle.layout.specs.declared.Layout.{Layout}
-use Rattle.layout.specs.declared.Plan.{Plan}
+use Rattle.layout_plan.specs.declared.BlockFields.{BlockFields}
+use Rattle.layout_plan.specs.declared.Layout.{Layout}
+use Rattle.layout_plan.specs.declared.Plan.{Plan}
 use Rattle.layout.specs.declared.Acceptance.{Acceptance}
 use Rattle.layout.specs.declared.Acceptance.the-variants.{Accepted, Refused}
 use Rattle.layout.specs.declared.BitAnswer.the-variants as bit
 use Rattle.layout.specs.declared.PositionAnswer.the-variants as position
-use Rattle.layout.specs.Record.{Words, blockFields, fieldsAt, fieldsUnder, fieldsIn}
-use Rattle.layout.specs.Plan.{shapeWith, shapeOf, laterShape, planFor, planOf, shape, covered}
+use Rattle.layout_plan.specs.Record.{Words, blockFields, fieldsAt, fieldsUnder, fieldsIn}
+use Rattle.layout_plan.specs.Plan.{shapeWith, shapeOf, laterShape, planFor, planOf, shape, covered}
 use Rattle.layout.specs.Acceptance.{acceptance}
 use Rattle.layout.specs.Bits.{bitAnswer, bitFor, positionAnswer, positionFor}
-use Rattle.layout.proofs.Plans.{degree-small, product-le, later-none, later-some}
+use Rattle.layout_plan.proofs.Plans.{degree-small, product-le, later-none, later-some}
 use Rattle.layout.proofs.Accepting.{accepted-plan, accepted-valid}
 use Rattle.page_bits.proofs.Inverse.{Belongs, bit-belongs, position-belongs, belongs-page, exponent-low, bit-position}
 

@@ -2,7 +2,7 @@
 use mathlib.Core.Path.{_≡_, _∙_}
 use Prim.Native.Nat.{ℕ, _<_}
 use native.Mathlib.Omega.{arith}
-use Rattle.rudderfig.specs.Answer.{answerWord, doneWord, refusedWord, replyIn, blockIn, kindIn, valueIn, Bare}
+use Rattle.answer_words.specs.Answer.{answerWord, doneWord, refusedWord, replyIn, blockIn, kindIn, valueIn, Bare}
 
 module _ {reply block kind : ℕ} (value : ℕ) (r : reply < 0x100) (b : block < 0x10000) (k : kind < 0x100) where
   pub word-reply : replyIn (answerWord reply block kind value) ≡ reply
@@ -20,10 +20,6 @@ module _ {reply block kind : ℕ} (value : ℕ) (r : reply < 0x100) (b : block <
   pub word-value : valueIn (answerWord reply block kind value) ≡ value
   unfolding answerWord valueIn
   word-value = omega arith
-
-  pub word-fits : value < 0x100000000 → answerWord reply block kind value < 0x10000000000000000
-  unfolding answerWord
-  word-fits v = omega arith
 
 -- every word is the answer word of its numbers
 pub word-back : (w : ℕ) → answerWord (replyIn w) (blockIn w) (kindIn w) (valueIn w) ≡ w

@@ -12,7 +12,7 @@ use Rattle.layout.specs.declared.BitAnswer.the-variants as bit
 use Rattle.layout.specs.declared.PositionAnswer.{PositionAnswer}
 use Rattle.layout.specs.declared.PositionAnswer.the-variants as position
 use Rattle.layout.specs.Acceptance.{refusalReply}
-use Rattle.rudderfig.specs.Answer.{doneWord, refusedWord}
+use Rattle.answer_words.specs.Answer.{doneWord, refusedWord}
 
 unfoldable pub acceptanceWord : Acceptance → ℕ
 acceptanceWord (acceptance.Accepted l) = doneWord 0 0

@@ -1,5 +1,4 @@
 -- What the calls of the C interface return.
-pub mod Answer
 pub mod Bits
 pub mod Pages
 pub mod Locating

@@ -10,7 +10,7 @@ use mathlib.Core.Path.{_≡_}
 use mathlib.Core.List.{List}
 use Prim.Native.Nat.{ℕ}
 use Rattle.page_theory.specs.Calls.{Written, Looked, Taken, Judged, Claimed}
-use Rattle.rudderfig.specs.Answer.{answerWord}
+use Rattle.answer_words.specs.Answer.{answerWord}
 
 pub record WriteReturns (w : Written) (r : ℕ) (p : List ℕ) : Type 0 where
   pub word : r ≡ answerWord (w .reply) (w .block) 0 0

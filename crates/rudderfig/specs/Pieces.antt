@@ -5,10 +5,10 @@
 use mathlib.Core.Path.{_≡_}
 use mathlib.Core.List.{List}
 use Prim.Native.Nat.{ℕ}
-use Rattle.pieces.specs.declared.State.{State}
-use Rattle.pieces.specs.declared.Answered.{Answered}
-use Rattle.pieces.specs.Calls.{Finished}
-use Rattle.rudderfig.specs.Answer.{answerWord}
+use Rattle.piece_states.specs.declared.State.{State}
+use Rattle.piece_states.specs.declared.Answered.{Answered}
+use Rattle.piece_states.specs.Calls.{Finished}
+use Rattle.answer_words.specs.Answer.{answerWord}
 
 pub record StateReturns (a : Answered) (r : ℕ) (s : State) : Type 0 where
   pub word : r ≡ answerWord (a .reply) 0 0 0

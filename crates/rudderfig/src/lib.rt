@@ -12,16 +12,15 @@
 //   locator.rt has two more, which hand a remainder to a hardware locator and take it back
 //   parity.rt has three more, which take one block's message in pieces
 //
-// Each passes its arguments on to the call of the crate that answers the question, and puts the answer into a word (answer.rt):
+// Each passes its arguments on to the call of the crate that answers the question, and puts the answer into a word (crate `answer_words`):
 // reply, the reply's block, a kind and a value. None asks anything of its caller but that a slice is one: include/rudderfig.h
 // says what that means in C.
-mod answer;
 mod locator;
 mod parity;
 
-use answer::done;
-use answer::refused;
-use answer::refused_by;
+use answer_words::done;
+use answer_words::refused;
+use answer_words::refused_by;
 use bch::LocateAnswer;
 use layout::Acceptance;
 use layout::BitAnswer;
@@ -33,7 +32,7 @@ use page_take::TakeAnswer;
 use page_write::WriteAnswer;
 ghost use mathlib.Core.Path.{_≡_};
 ghost use Rattle.bch.specs.Answers.{locateOf};
-ghost use Rattle.layout.specs.Record.{wordsOf};
+ghost use Rattle.layout_plan.specs.Record.{wordsOf};
 ghost use Rattle.layout.specs.Acceptance.{acceptance};
 ghost use Rattle.layout.specs.Bits.{bitAnswer, positionAnswer};
 ghost use Rattle.page_theory.specs.Calls.{writeOf, lookOf, takeOf, judgeOf, claimOf};

@@ -2,7 +2,7 @@
 //
 //   rudderfig_export_fragments     the fragments of a remainder
 //   rudderfig_import_fragments     the remainder that fragments hold
-use crate::answer::answer_word;
+use answer_words::answer_word;
 use fragments::answers::fragments_reply;
 use fragments::export_fragments;
 use fragments::import_fragments;

@@ -1,7 +1,7 @@
 // The calls that take one block's message in pieces (document 02, E4), on a state that the caller lends.
-use crate::answer::answer_word;
-use pieces::State;
-ghost use Rattle.pieces.specs.Calls.{startOf, feedOf, finishOf};
+use answer_words::answer_word;
+use piece_states::State;
+ghost use Rattle.piece_states.specs.Calls.{startOf, feedOf, finishOf};
 ghost use Rattle.rudderfig.specs.Pieces.{StateReturns, ParityReturns};
 
 // The answer word of a call, and the state after it.
@@ -20,7 +20,7 @@ pub fn started(
 ) -> Worded
     ensures { λ r. ⌜ StateReturns (startOf state edition «level_field» «field_choice» length) (r .word) (r .state) ⌝ }
 {
-    let answered = pieces::value::start(state, edition, level_field, field_choice, length);
+    let answered = piece_states::value::start(state, edition, level_field, field_choice, length);
     let word = answer_word(answered.reply, 0, 0, 0);
     let next = answered.state;
     Worded {
@@ -33,7 +33,7 @@ pub fn started(
 pub fn fed(state: State, piece: &[u8]) -> Worded
     ensures { λ r. ⌜ StateReturns (feedOf state (now (piece .entry))) (r .word) (r .state) ⌝ }
 {
-    let answered = pieces::value::feed(state, piece);
+    let answered = piece_states::value::feed(state, piece);
     let word = answer_word(answered.reply, 0, 0, 0);
     let next = answered.state;
     Worded {
@@ -46,7 +46,7 @@ pub fn fed(state: State, piece: &[u8]) -> Worded
 pub fn finished(state: State, parity: &mut [u8]) -> Worded
     ensures { λ r. ⌜ ParityReturns (finishOf state (now (parity .entry))) (r .word) (r .state) (now (parity .exit)) ⌝ }
 {
-    let answered = pieces::value::finish(state, parity);
+    let answered = piece_states::value::finish(state, parity);
     let word = answer_word(answered.reply, 0, 0, 0);
     let next = answered.state;
     Worded {

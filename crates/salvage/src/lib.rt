@@ -8,7 +8,7 @@
 // in place of every ruined block, and then the messages of these are put. That the counts of the other blocks are as they were is looked
 // at once more.
 use bit_writing::copy::copy_bits;
-use layout::Plan;
+use layout_plan::Plan;
 use mark::Mark;
 use page_lines::Answer;
 use page_lines::RUINED;
@@ -69,8 +69,8 @@ fn cover(plan: Plan, page: &mut [u8], counts: &[u8; 256], b: u16) {
         return;
     }
     let mark = plan.mark;
-    let start = layout::block_start(plan, b);
-    let n = layout::block_covered(plan, b);
+    let start = layout_plan::block_start(plan, b);
+    let n = layout_plan::block_covered(plan, b);
     if lies_in(mark, page, start, n) {
         fill_ones(mark, page, start, n);
     }
@@ -99,7 +99,7 @@ pub fn is_ruined(plan: Plan, counts: &[u8; 256], b: u16) -> bool {
 // Puts the message of block b: its bits in the page, or ones.
 fn put(plan: Plan, raw: bool, page: &[u8], metadata: &mut [u8], data: &mut [u8], b: u16) {
     let place = place_of(plan, b);
-    let start = layout::block_start(plan, b);
+    let start = layout_plan::block_start(plan, b);
     let at = place.at as usize;
     let n = place.bits as usize;
     if 8388608 < at {

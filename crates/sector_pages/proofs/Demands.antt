@@ -13,12 +13,12 @@ use mathlib.Core.Bool.{Bool}
 use mathlib.Core.List.{List, [], _++_}
 use Prim.Native.Nat.{ℕ, _<_}
 use lib.ListN.{length, getD}
-use Rattle.layout.specs.declared.Sectors.{Sectors}
-use Rattle.layout.specs.declared.Layout.{Layout}
-use Rattle.layout.specs.declared.Plan.{Plan}
+use Rattle.layout_plan.specs.declared.Sectors.{Sectors}
+use Rattle.layout_plan.specs.declared.Layout.{Layout}
+use Rattle.layout_plan.specs.declared.Plan.{Plan}
 use Rattle.layout.specs.declared.Acceptance.{Acceptance}
 use Rattle.layout.specs.declared.Acceptance.the-variants.{Accepted}
-use Rattle.layout.specs.Plan.{planOf, level}
+use Rattle.layout_plan.specs.Plan.{planOf, level}
 use Rattle.code.specs.Outcome.{Outcome}
 use Rattle.bits.specs.Bits.{run}
 use Rattle.page_theory.specs.Reading.{RefusedAt, Lowest}

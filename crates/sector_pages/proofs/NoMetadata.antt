@@ -6,13 +6,13 @@ use Prim.Native.Nat.{ℕ, _-_}
 use lib.ListN.{length}
 use lib.Dec.{eqb}
 use Rattle.bits.specs.Bits.{run, bytes}
-use Rattle.layout.specs.declared.Sectors.{Sectors}
-use Rattle.layout.specs.declared.Plan.{Plan}
-use Rattle.layout.specs.declared.Layout.{Layout}
+use Rattle.layout_plan.specs.declared.Sectors.{Sectors}
+use Rattle.layout_plan.specs.declared.Plan.{Plan}
+use Rattle.layout_plan.specs.declared.Layout.{Layout}
 use Rattle.layout.specs.declared.Acceptance.{Acceptance}
 use Rattle.layout.specs.declared.Acceptance.the-variants.{Accepted, Refused}
-use Rattle.layout.specs.Plan.{planOf}
-use Rattle.layout.specs.SectorPlan.{lastShape, ownShape, sectorsPlan, sectorPlan}
+use Rattle.layout_plan.specs.Plan.{planOf}
+use Rattle.layout_plan.specs.SectorPlan.{lastShape, ownShape, sectorsPlan, sectorPlan}
 use Rattle.page_theory.specs.Reading.{Reading, done, refused, reading}
 use Rattle.page_theory.specs.Calls.{Taken, takeEnded, takeReply, bytesAt, takeBy, takeIn, takeFor}
 use Rattle.sectors.specs.Sectors.{sectorAcceptance}

@@ -12,15 +12,15 @@ use lib.Dec.{ltb}
 use Rattle.field.specs.declared.Field.{Field}
 use Rattle.replies.specs.Edition.{highest}
 use Rattle.replies.proofs.Editions.{highest-small}
-use Rattle.layout.specs.declared.Sectors.{Sectors}
-use Rattle.layout.specs.declared.Shape.{Shape}
-use Rattle.layout.specs.declared.Layout.{Layout}
-use Rattle.layout.specs.declared.Plan.{Plan}
+use Rattle.layout_plan.specs.declared.Sectors.{Sectors}
+use Rattle.layout_plan.specs.declared.Shape.{Shape}
+use Rattle.layout_plan.specs.declared.Layout.{Layout}
+use Rattle.layout_plan.specs.declared.Plan.{Plan}
 use Rattle.layout.specs.declared.Acceptance.the-variants.{Accepted}
-use Rattle.layout.specs.Record.{fieldOf}
-use Rattle.layout.specs.Plan.{planOf, shape, field, level, Valid}
-use Rattle.layout.specs.SectorPlan.{sectorShape, ownShape, lastShape, sectorsPlan, sectorPlan}
-use Rattle.layout.proofs.Plans.{product-le}
+use Rattle.layout_plan.specs.Record.{fieldOf}
+use Rattle.layout_plan.specs.Plan.{planOf, shape, field, level, Valid}
+use Rattle.layout_plan.specs.SectorPlan.{sectorShape, ownShape, lastShape, sectorsPlan, sectorPlan}
+use Rattle.layout_plan.proofs.Plans.{product-le}
 use Rattle.sectors.specs.Sectors.{sectorAcceptance}
 use Rattle.sectors.proofs.Accepting.{one-plan, more-plan, sectors-taken, sectors-plan, sectors-level, sectors-valid}
 use Rattle.page_plan.specs.Plans.{Stored, Planned, Sound}

@@ -8,7 +8,7 @@
 //   judge_block      the flip count of one sector
 //   check_claim      are these error locations of a sector right?
 //
-// Each takes the six numbers of the layout and the edition (`layout::Sectors`) and asks nothing of its caller. A page has no metadata. The
+// Each takes the six numbers of the layout and the edition (`layout_plan::Sectors`) and asks nothing of its caller. A page has no metadata. The
 // calls differ from those of layout words in how the plan is made (`sectors::check_sectors`) and in nothing else: what a call answers
 // and leaves is the definition that serves both (`page_theory`, specs/Calls.antt, `writeFor` and the others).
 mod pages;

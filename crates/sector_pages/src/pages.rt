@@ -1,5 +1,5 @@
 // The calls about a page of sectors.
-use layout::Sectors;
+use layout_plan::Sectors;
 use page_claim::ClaimAnswer;
 use page_claim::claim_for;
 use page_judge::JudgeAnswer;

@@ -1,7 +1,7 @@
 // Where the bits of a page of sectors belong.
 use layout::BitAnswer;
 use layout::PositionAnswer;
-use layout::Sectors;
+use layout_plan::Sectors;
 use page_bits::bit_for;
 use page_bits::position_for;
 use sectors::check_sectors;

@@ -19,52 +19,12 @@
 // The answer starts with the reply and its block. Then, where the reply is 0, come the values: of `bit` 0, block and exponent, or 1 for
 // the tail; of `position` the position; of `judge` the flip count. Last comes, refused or not, the buffer that the call may write to, as it
 // is afterwards: the page of `write`, the counts of `look`, the data of `take`. A line that is no call is answered by `?`.
-mod blocks;
-mod heads;
-mod pages;
-mod places;
-
-use heads::Head;
-use layout::Sectors;
 use libc::STDIN_FILENO;
-use vector_words::is_call;
-
-// The answer to a call about a page by its name: its length, 0 where there is no such call.
-fn page_named(sectors: Sectors, words: &[u8], line: &mut [u8]) -> usize {
-    if is_call(words, b"judge") {
-        return blocks::judge_line(sectors, words, line);
-    }
-    if is_call(words, b"claim") {
-        return blocks::claim_line(sectors, words, line);
-    }
-    pages::page_line(sectors, words, line)
-}
-
-// The same for every call.
-fn named(sectors: Sectors, words: &[u8], line: &mut [u8]) -> usize {
-    if is_call(words, b"check") {
-        return places::check_line(sectors, line);
-    }
-    if is_call(words, b"bit") {
-        return places::bit_line(sectors, words, line);
-    }
-    if is_call(words, b"position") {
-        return places::position_line(sectors, words, line);
-    }
-    page_named(sectors, words, line)
-}
-
-fn answer(words: &[u8], line: &mut [u8]) -> usize {
-    match heads::head_of(words) {
-        Head::Is(sectors) => named(sectors, words, line),
-        Head::Bad => 0,
-    }
-}
 
 // Answers a line of the input.
 fn answer_line(words: &[u8]) {
     let mut line = [0u8; 131200];
-    let at = answer(words, &mut line);
+    let at = sector_calls::answer(words, &mut line);
     if at == 0 {
         vector_io::write_line(b"?", 1);
         return;

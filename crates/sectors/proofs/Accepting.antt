@@ -16,20 +16,20 @@ use Rattle.field.specs.declared.Field.{Field}
 use Rattle.field.specs.Field.{degree, longest}
 use Rattle.replies.specs.Edition.{offered, highest}
 use Rattle.replies.proofs.Editions.{highest-small}
-use Rattle.layout.specs.declared.Sectors.{Sectors}
-use Rattle.layout.specs.declared.Shape.{Shape}
-use Rattle.layout.specs.declared.Layout.{Layout}
-use Rattle.layout.specs.declared.Plan.{Plan}
+use Rattle.layout_plan.specs.declared.Sectors.{Sectors}
+use Rattle.layout_plan.specs.declared.Shape.{Shape}
+use Rattle.layout_plan.specs.declared.Layout.{Layout}
+use Rattle.layout_plan.specs.declared.Plan.{Plan}
 use Rattle.layout.specs.declared.Finding.{Finding}
 use Rattle.layout.specs.declared.Finding.the-variants.{Kept, Broken}
 use Rattle.layout.specs.declared.Refusal.the-variants as refusal
 use Rattle.layout.specs.declared.Acceptance.{Acceptance}
 use Rattle.layout.specs.declared.Acceptance.the-variants.{Accepted, Refused}
-use Rattle.layout.specs.Record.{fieldOf}
-use Rattle.layout.specs.Plan.{planOf, shape, bits, field, level, covered, start, used, room, from, payload, Summed, Valid}
-use Rattle.layout.specs.SectorPlan.{sectorShape, ownShape, lastShape, sectorsPlan, sectorPlan, sectorLayout}
+use Rattle.layout_plan.specs.Record.{fieldOf}
+use Rattle.layout_plan.specs.Plan.{planOf, shape, bits, field, level, covered, start, used, room, from, payload, Summed, Valid}
+use Rattle.layout_plan.specs.SectorPlan.{sectorShape, ownShape, lastShape, sectorsPlan, sectorPlan, sectorLayout}
 use Rattle.layout.specs.Acceptance.{findingOf, judged}
-use Rattle.layout.proofs.Plans.{pitch, start-next, start-order, start-up, start-firsts, start-laters, from-firsts, from-laters}
+use Rattle.layout_plan.proofs.Plans.{pitch, start-next, start-order, start-up, start-firsts, start-laters, from-firsts, from-laters}
 use Rattle.layout.proofs.Accepting.{Keeps, keeps}
 use Rattle.sectors.specs.Sectors.{inCount, blockFields, sectorFields, sectorFound, sectorAcceptance}
 use Rattle.sectors.proofs.Answering.{count-range}

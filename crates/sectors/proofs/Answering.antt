@@ -11,10 +11,10 @@ use native.Mathlib.Decide.{ℕ-discrete}
 use lib.Dec.{eqb, leb, ltb}
 use borrow.Author.Tests.{eq-eqb, ne-eqb, le-leb, lt-leb, lt-ltb, leb-true, eqb-true}
 use Rattle.replies.specs.Edition.{offered, highest}
-use Rattle.layout.specs.declared.Sectors.{Sectors}
-use Rattle.layout.specs.declared.Layout.{Layout}
-use Rattle.layout.specs.declared.Plan.{Plan}
-use Rattle.layout.specs.declared.Fields.{Fields}
+use Rattle.layout_plan.specs.declared.Sectors.{Sectors}
+use Rattle.layout_plan.specs.declared.Layout.{Layout}
+use Rattle.layout_plan.specs.declared.Plan.{Plan}
+use Rattle.layout_plan.specs.declared.Fields.{Fields}
 use Rattle.layout.specs.declared.Reason.{Reason}
 use Rattle.layout.specs.declared.Rule.the-variants.{Level}
 use Rattle.layout.specs.declared.Kind.the-variants.{First}
@@ -22,8 +22,8 @@ use Rattle.layout.specs.declared.Finding.{Finding}
 use Rattle.layout.specs.declared.Finding.the-variants.{Kept, Broken}
 use Rattle.layout.specs.declared.Refusal.the-variants as refusal
 use Rattle.layout.specs.declared.Acceptance.the-variants.{Accepted, Refused}
-use Rattle.layout.specs.SectorPlan.{sectorPlan, sectorLayout}
-use Rattle.layout.specs.Plan.{planOf}
+use Rattle.layout_plan.specs.SectorPlan.{sectorPlan, sectorLayout}
+use Rattle.layout_plan.specs.Plan.{planOf}
 use Rattle.layout.specs.Acceptance.{test, levelRule, either, ofBlocks, findingOf, judged}
 use Rattle.sectors.specs.Sectors.{inCount, blockFields, sectorFields, sectorFound, sectorAcceptance}
 

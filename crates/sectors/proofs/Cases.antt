@@ -14,13 +14,13 @@ use Rattle.field.specs.declared.Field.the-variants.{Thirteen, Fourteen}
 use Rattle.replies.specs.Replies.{number}
 use Rattle.replies.specs.Edition.{offered, highest}
 use Rattle.mark.specs.Mark.{place, marked, streamed}
-use Rattle.layout.specs.declared.Sectors.{Sectors}
+use Rattle.layout_plan.specs.declared.Sectors.{Sectors}
 use Rattle.layout.specs.declared.BitAnswer.the-variants as bit
 use Rattle.layout.specs.declared.PositionAnswer.the-variants as position
 use Rattle.layout.specs.declared.Refusal.the-variants.{Range}
-use Rattle.layout.specs.Record.{fieldOf}
-use Rattle.layout.specs.Plan.{planOf, shape, start, room}
-use Rattle.layout.specs.SectorPlan.{missing, parityPads, padBytes, sectorShape, sectorsPlan, sectorPlan, sectorLayout}
+use Rattle.layout_plan.specs.Record.{fieldOf}
+use Rattle.layout_plan.specs.Plan.{planOf, shape, start, room}
+use Rattle.layout_plan.specs.SectorPlan.{missing, parityPads, padBytes, sectorShape, sectorsPlan, sectorPlan, sectorLayout}
 use Rattle.layout.specs.Acceptance.{test, levelRule, messageRule, lengthRule, markRule, roomRule, either, ofBlocks, findingOf, judged, ruleRefusal, refusalOf, refusalReply}
 use Rattle.layout.specs.Answers as numbers
 use Rattle.layout.specs.Answers.{acceptanceNumbers}

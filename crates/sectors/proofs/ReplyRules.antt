@@ -1,5 +1,5 @@
 -- A layout of sectors is answered by its rules (sectors/Sectors `sectorRules`): each reply is given exactly if its rule applies and none before it does
--- (layout/ReplyRules, page_theory/ReplyRules).
+-- (layout_replies/ReplyRules, page_theory/ReplyRules).
 --
 -- sectors-ruled            the answer follows the rules
 -- sectors-ascends          after the three rules of reply 7 the turns never fall
@@ -16,7 +16,7 @@ use Rattle.replies.specs.Replies.{number, rule, verdict}
 use Rattle.replies.specs.Edition.{offered}
 use Rattle.replies.specs.Given.{turn, atMost, ascending}
 use Rattle.replies.proofs.Given.{verdict-none}
-use Rattle.layout.specs.declared.Sectors.{Sectors}
+use Rattle.layout_plan.specs.declared.Sectors.{Sectors}
 use Rattle.layout.specs.declared.Reason.{Reason}
 use Rattle.layout.specs.declared.Rule.{Rule}
 use Rattle.layout.specs.declared.Rule.the-variants.{Level, Message, Length, Outside, Room}
@@ -24,11 +24,11 @@ use Rattle.layout.specs.declared.Finding.{Finding}
 use Rattle.layout.specs.declared.Finding.the-variants.{Kept, Broken}
 use Rattle.layout.specs.declared.Refusal.the-variants as refusal
 use Rattle.layout.specs.declared.Acceptance.the-variants.{Refused}
-use Rattle.layout.specs.Plan.{planOf}
-use Rattle.layout.specs.SectorPlan.{sectorPlan, sectorLayout}
+use Rattle.layout_plan.specs.Plan.{planOf}
+use Rattle.layout_plan.specs.SectorPlan.{sectorPlan, sectorLayout}
 use Rattle.layout.specs.Acceptance.{findingOf, judged, refusalOf}
-use Rattle.layout.specs.ReplyRules.{Ruled, accepts, refuses, Ascends, fieldRules}
-use Rattle.layout.proofs.ReplyRules.{found, says-fields}
+use Rattle.layout_replies.specs.ReplyRules.{Ruled, accepts, refuses, Ascends, fieldRules}
+use Rattle.layout_replies.proofs.ReplyRules.{found, says-fields}
 use Rattle.layout.proofs.Reasons.{Breaks, level-first, level-later, message-first, message-later, length-first, length-later, mark-outside, zeros-set, page-room}
 use Rattle.layout.proofs.Reasons.{levelReason, messageReason, lengthReason, markReason, zerosReason, roomReason, reason-true}
 use Rattle.sectors.specs.Sectors.{inCount, sectorFields, sectorFound, sectorAcceptance, sectorRules}

@@ -1,4 +1,4 @@
--- Whether a layout of sectors is accepted, and the reason where it is not (document 02, E12). The plan of a page of sectors is layout/SectorPlan.
+-- Whether a layout of sectors is accepted, and the reason where it is not (document 02, E12). The plan of a page of sectors is layout_plan/SectorPlan.
 --
 -- inCount n               a page may have n sectors
 -- sectorFields s          the fields that the rules of layout words look at: no metadata, no mark, one level field and one field choice for all
@@ -12,16 +12,16 @@ use lib.Dec.{eqb, leb, ltb}
 use Rattle.replies.specs.declared.Refusal.the-variants as row
 use Rattle.replies.specs.Replies.{Rule, rule}
 use Rattle.replies.specs.Edition.{offered}
-use Rattle.layout.specs.declared.Sectors.{Sectors}
-use Rattle.layout.specs.declared.BlockFields.{BlockFields}
-use Rattle.layout.specs.declared.Fields.{Fields}
+use Rattle.layout_plan.specs.declared.Sectors.{Sectors}
+use Rattle.layout_plan.specs.declared.BlockFields.{BlockFields}
+use Rattle.layout_plan.specs.declared.Fields.{Fields}
 use Rattle.layout.specs.declared.Refusal.the-variants as refusal
 use Rattle.layout.specs.declared.Acceptance.{Acceptance}
 use Rattle.layout.specs.declared.Acceptance.the-variants.{Refused}
-use Rattle.layout.specs.Record.{fieldOf}
-use Rattle.layout.specs.SectorPlan.{sectorPlan, sectorLayout}
+use Rattle.layout_plan.specs.Record.{fieldOf}
+use Rattle.layout_plan.specs.SectorPlan.{sectorPlan, sectorLayout}
 use Rattle.layout.specs.Acceptance.{findingOf, judged}
-use Rattle.layout.specs.ReplyRules.{fieldRules}
+use Rattle.layout_replies.specs.ReplyRules.{fieldRules}
 
 -- 1 to 16
 unfoldable pub inCount : ℕ → Bool

@@ -1,17 +1,17 @@
 // Whether a layout of sectors is accepted.
 use layout::Acceptance;
-use layout::BlockFields;
-use layout::Fields;
 use layout::Finding;
 use layout::Kind;
 use layout::Reason;
 use layout::Refusal;
 use layout::Rule;
-use layout::Sectors;
-use layout::field_of;
-use layout::plan_of;
 use layout::rules::finding_of;
-use layout::sectors_layout;
+use layout_plan::BlockFields;
+use layout_plan::Fields;
+use layout_plan::Sectors;
+use layout_plan::field_of;
+use layout_plan::plan_of;
+use layout_plan::sectors_layout;
 use mark::Mark;
 use replies::highest;
 use replies::offered;

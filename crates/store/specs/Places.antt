@@ -9,7 +9,7 @@ use Prim.Native.Nat.{ℕ, zero, suc, _-_}
 use lib.ListN.{take, drop}
 use lib.Dec.{eqb}
 use Rattle.field.specs.declared.Field.the-variants.{Thirteen}
-use Rattle.layout.specs.declared.Shape.{Shape}
+use Rattle.layout_plan.specs.declared.Shape.{Shape}
 use Rattle.store.specs.declared.Numbered.{Numbered}
 
 abbrev pub noShape : Shape

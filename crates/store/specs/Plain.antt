@@ -21,11 +21,11 @@ use Prim.Native.Nat.{ℕ, _+_}
 use lib.ListN.{length, getD, set, replicate}
 use lib.Dec.{eqb, ltb}
 use Rattle.replies.specs.Replies.{among, unless}
-use Rattle.layout.specs.declared.Plan.{Plan}
+use Rattle.layout_plan.specs.declared.Plan.{Plan}
 use Rattle.layout.specs.declared.Acceptance.{Acceptance}
 use Rattle.layout.specs.declared.Acceptance.the-variants.{Accepted, Refused}
-use Rattle.layout.specs.Record.{Words}
-use Rattle.layout.specs.Plan.{planOf}
+use Rattle.layout_plan.specs.Record.{Words}
+use Rattle.layout_plan.specs.Plan.{planOf}
 use Rattle.layout.specs.Acceptance.{acceptance, refusalReply}
 use Rattle.store.specs.declared.Numbered.{Numbered}
 use Rattle.store.specs.declared.Lookup.{Lookup}

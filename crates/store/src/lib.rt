@@ -25,7 +25,7 @@ pub use calls::remove_version;
 pub use calls::store_layout;
 pub use calls::use_version;
 pub use calls::version_in_use;
-use layout::Plan;
+use layout_plan::Plan;
 pub use numbers::load_versions;
 pub use numbers::save_versions;
 

@@ -5,7 +5,7 @@ use mathlib.Core.Path.{_≡_, ap}
 use mathlib.Core.Logic.{⊎-elim}
 use mathlib.Core.List.{List}
 use Prim.Native.Nat.{ℕ}
-use Rattle.layout.specs.Record.{Words}
+use Rattle.layout_plan.specs.Record.{Words}
 use Rattle.page_plan.proofs.Plans.{accepted-planned}
 use Rattle.store.specs.Plain.{Listed, Ended, empty, added, storeOf, removed, removeOf, withUses, setOf}
 use Rattle.store.specs.Saved.{loadOf}

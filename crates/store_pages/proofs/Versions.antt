@@ -5,7 +5,7 @@
 use mathlib.Core.Path.{_≡_}
 use mathlib.Core.List.{List}
 use Prim.Native.Nat.{ℕ}
-use Rattle.layout.specs.Plan.{planOf}
+use Rattle.layout_plan.specs.Plan.{planOf}
 use Rattle.page_theory.specs.Calls.{writeIn, writeFor, lookIn, lookFor, takeIn, takeFor, judgeIn, judgeFor, claimIn, claimFor}
 use Rattle.page_plan.specs.Plans.{Planned}
 use Rattle.store.specs.declared.Numbered.{Numbered}

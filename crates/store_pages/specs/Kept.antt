@@ -5,7 +5,7 @@
 -- Record c             what a call hands in as a layout record is bytes, as a slice of bytes is
 use Prim.Native.Nat.{ℕ, _<_}
 use lib.ListN.{getD}
-use Rattle.layout.specs.Record.{Words}
+use Rattle.layout_plan.specs.Record.{Words}
 use Rattle.page_plan.specs.Plans.{Planned}
 use Rattle.store.specs.declared.Numbered.{Numbered}
 use Rattle.store.specs.Plain.{Listed}

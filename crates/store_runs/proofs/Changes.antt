@@ -12,11 +12,11 @@ use lib.ListN.{length, set}
 use lib.Dec.{eqb, ltb}
 use borrow.Author.Tests.{ltb-true, eqb-true}
 use Rattle.replies.specs.Replies.{among}
-use Rattle.layout.specs.declared.Layout.{Layout}
+use Rattle.layout_plan.specs.declared.Layout.{Layout}
 use Rattle.layout.specs.declared.Acceptance.{Acceptance}
 use Rattle.layout.specs.declared.Acceptance.the-variants.{Accepted, Refused}
-use Rattle.layout.specs.Record.{Words}
-use Rattle.layout.specs.Plan.{planOf}
+use Rattle.layout_plan.specs.Record.{Words}
+use Rattle.layout_plan.specs.Plan.{planOf}
 use Rattle.layout.specs.Acceptance.{acceptance, refusalReply}
 use Rattle.layout.proofs.Numbers.{refusal-reply-range}
 use Rattle.store.specs.Plain.{Listed, Ended, ended, holds, known, numbered, added, addReply, addOf, storeFor, storeOf}

@@ -15,9 +15,9 @@ use mathlib.Core.List.{List, _++_}
 use Prim.Native.Nat.{ℕ, _<_}
 use lib.ListN.{length}
 use Rattle.bits.specs.Bits.{run}
-use Rattle.layout.specs.declared.Plan.{Plan}
-use Rattle.layout.specs.Record.{Words, fieldsIn}
-use Rattle.layout.specs.Plan.{Sums, planOf}
+use Rattle.layout_plan.specs.declared.Plan.{Plan}
+use Rattle.layout_plan.specs.Record.{Words, fieldsIn}
+use Rattle.layout_plan.specs.Plan.{Sums, planOf}
 use Rattle.replies.specs.Replies.{number}
 use Rattle.layout.specs.Acceptance.{acceptance, refusalOf, refusalReply}
 use Rattle.layout.proofs.Accepting.{accepted-sums}

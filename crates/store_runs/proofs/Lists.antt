@@ -10,12 +10,11 @@ use mathlib.Core.Bool.{Bool, true, false, cond}
 use mathlib.Core.List.{List, [], _∷_, _++_}
 use Prim.Native.Nat.{ℕ, zero, suc, _+_, _≤_, _<_}
 use native.Mathlib.Omega.{arith}
-use lib.ListN.{length, getD, set}
+use lib.ListN.{getD, set}
 use lib.Dec.{eqb}
-use borrow.Author.Tests.{eqb-true, eqb-false, eq-eqb, ne-eqb}
+use borrow.Author.Tests.{eqb-true, eqb-false, ne-eqb}
 use Rattle.replies.specs.Replies.{among}
 use Rattle.store.specs.declared.Numbered.{Numbered}
-use Rattle.store.specs.declared.Lookup.{Lookup}
 use Rattle.store.specs.declared.Lookup.the-variants.{Found, Unknown}
 use Rattle.store.specs.Plain.{find, holds, known, without}
 use Rattle.store.specs.Saved.{allKnown}
@@ -34,10 +33,6 @@ holds-cons e l n t h = rw h
 find-cons : (e : Numbered) (l : List Numbered) (n : ℕ) (t : Bool) → eqb (e .number) n ≡ t → find (e ∷ l) n ≡ cond t (Found e) (find l n)
 unfolding find
 find-cons e l n t h = rw h
-
-without-cons : (e : Numbered) (l : List Numbered) (n : ℕ) (t : Bool) → eqb (e .number) n ≡ t → without (e ∷ l) n ≡ cond t l (e ∷ without l n)
-unfolding without
-without-cons e l n t h = rw h
 
 -- ---- numbers below a bound
 

@@ -12,7 +12,7 @@ use Prim.Native.Nat.{ℕ, _+_, _≤_, _<_}
 use native.Mathlib.Omega.{arith}
 use lib.Dec.{eqb}
 use borrow.Author.Tests.{eqb-true, eqb-false}
-use Rattle.layout.specs.Record.{Words}
+use Rattle.layout_plan.specs.Record.{Words}
 use Rattle.store.specs.declared.Numbered.{Numbered}
 use Rattle.store.specs.declared.Lookup.the-variants.{Found, Unknown}
 use Rattle.store.specs.Plain.{Listed, Ended, find, without, added, storeOf, removed, removeOf, withUses, setOf}

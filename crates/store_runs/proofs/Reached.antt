@@ -12,7 +12,7 @@ use lib.ListN as list
 use lib.ListN.{length, length-append, length-set}
 use lib.Dec.{eqb}
 use Rattle.bits.proofs.Runs.{run-length}
-use Rattle.layout.specs.Record.{Words}
+use Rattle.layout_plan.specs.Record.{Words}
 use Rattle.store.specs.declared.Numbered.{Numbered}
 use Rattle.store.specs.Plain.{Listed, Ended, empty, known, without, added, storeOf, removed, removeOf, withUses, setOf}
 use Rattle.store.specs.Saved.{numberAt, loaded, allKnown, loadOf}

@@ -11,7 +11,7 @@ use lib.ListN.{length}
 use lib.Dec.{eqb}
 use Rattle.layout.specs.declared.Acceptance.{Acceptance}
 use Rattle.layout.specs.declared.Acceptance.the-variants.{Accepted, Refused}
-use Rattle.layout.specs.Record.{Words}
+use Rattle.layout_plan.specs.Record.{Words}
 use Rattle.layout.specs.Acceptance.{acceptance}
 use Rattle.store.specs.declared.Store.{Store}
 use Rattle.store.specs.Plain.{Listed, Ended, empty, addReply, addOf, storeFor, storeOf, removeReply, removeOf, setReply, setOf}

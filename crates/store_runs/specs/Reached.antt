@@ -11,10 +11,10 @@ use mathlib.Core.Bool.{true, false}
 use mathlib.Core.List.{List, [], _∷_}
 use Prim.Native.Nat.{ℕ, _≤_, _<_}
 use lib.ListN.{length}
-use Rattle.layout.specs.declared.Layout.{Layout}
+use Rattle.layout_plan.specs.declared.Layout.{Layout}
 use Rattle.layout.specs.declared.Acceptance.the-variants as answer
-use Rattle.layout.specs.Record.{Words}
-use Rattle.layout.specs.Plan.{planOf}
+use Rattle.layout_plan.specs.Record.{Words}
+use Rattle.layout_plan.specs.Plan.{planOf}
 use Rattle.layout.specs.Acceptance.{acceptance}
 use Rattle.store.specs.declared.Numbered.{Numbered}
 use Rattle.store.specs.Plain.{Listed, holds}

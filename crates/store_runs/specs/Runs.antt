@@ -13,7 +13,7 @@ use Prim.Native.Nat.{ℕ}
 use Rattle.layout.specs.declared.Acceptance.{Acceptance}
 use Rattle.layout.specs.declared.Acceptance.the-variants.{Accepted, Refused}
 use Rattle.layout.specs.declared.Refusal.the-variants as refusal
-use Rattle.layout.specs.Record.{Words}
+use Rattle.layout_plan.specs.Record.{Words}
 use Rattle.page_theory.specs.Calls.{Written, writeFor, Looked, lookFor, Taken, takeFor, Judged, judgeFor, Claimed, claimFor}
 use Rattle.store.specs.declared.Lookup.{Lookup}
 use Rattle.store.specs.declared.Lookup.the-variants.{Found, Unknown}

@@ -3,8 +3,8 @@
 -- Names s v w q        at the state s the version v is the layout of the words w, which are accepted and have the plan q
 use mathlib.Core.Path.{_≡_}
 use Prim.Native.Nat.{ℕ}
-use Rattle.layout.specs.declared.Plan.{Plan}
-use Rattle.layout.specs.Record.{Words}
+use Rattle.layout_plan.specs.declared.Plan.{Plan}
+use Rattle.layout_plan.specs.Record.{Words}
 use Rattle.layout.specs.Acceptance.{acceptance}
 use Rattle.page_theory.specs.Damage.{Accepts}
 use Rattle.store.specs.declared.Numbered.{Numbered}

@@ -1,7 +1,7 @@
 // The command write of the tool: a page, or an image of many, from files that hold the metadata and the data of all pages, one after
 // the other.
 use arguments::Options;
-use layout::Plan;
+use layout_plan::Plan;
 use libc::ENOENT;
 use page_write::WriteAnswer;
 use plans::Planned;

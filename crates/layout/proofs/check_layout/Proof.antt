@@ -2,11 +2,11 @@
 use mathlib.Core.Path.{sym, ap, ap₂, _∙_}
 use borrow.Author.Tests.{not-true, not-false}
 use borrow.Author.Needs.{needs}
-use Rattle.layout.specs.Record.{layoutOf}
-use Rattle.layout.specs.Plan.{layoutFor, planOf}
+use Rattle.layout_plan.specs.Record.{layoutOf}
+use Rattle.layout_plan.specs.Plan.{layoutFor, planOf}
 use Rattle.layout.specs.Acceptance.{findingOf, acceptance}
 use Rattle.layout.proofs.Findings.{kept-accepted, broken-refused}
-use Rattle.layout.proofs.Records.{record-long}
+use Rattle.layout_plan.proofs.Records.{record-long}
 use Rattle.layout.proofs.check_layout.Statement.{statement}
 use Rattle.layout.proofs.check_layout.Tie as tie
 

@@ -2,7 +2,7 @@
 use mathlib.Core.Path.{refl}
 use native.Mathlib.Omega.{arith}
 use borrow.Author.Needs.{needs}
-use Rattle.layout.proofs.Plans.{product-le}
+use Rattle.layout_plan.proofs.Plans.{product-le}
 use Rattle.page_plan.proofs.messages.Statement.{statement}
 use Rattle.page_plan.proofs.messages.Tie as tie
 

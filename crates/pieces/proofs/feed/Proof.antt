@@ -40,17 +40,17 @@ use denote.Triple.Table.{entered, cited}
 use denote.Triple.Walked.{says, Stays, stay-ref, stay-none-slice, walkOf, goes-ref, goes-none-slice, Walks, ends-at, walked, walk-meets}
 use denote.Exit.{yes}
 use denote.Triple.Clauses.{ensured, lasts}
-use Rattle.pieces.specs.Calls.{feedOf}
-use Rattle.pieces.specs.declared.State.{State}
-use Rattle.pieces.specs.declared.Answered.{Answered}
-use Rattle.pieces.proofs.State as T
-use Rattle.pieces.proofs.State.Laws as T′
-use Rattle.pieces.proofs.Answered as F
-use Rattle.pieces.proofs.Answered.Laws as F′
-use Rattle.pieces.proofs.value.feed as value
-use Rattle.pieces.proofs.value.feed.Symbol as value-def
-use Rattle.pieces.proofs.value.feed.Symbol.{name as #pieces·value·feed}
-use Rattle.pieces.proofs.value.feed.Met as value-thm
+use Rattle.piece_states.specs.Calls.{feedOf}
+use Rattle.piece_states.specs.declared.State.{State}
+use Rattle.piece_states.specs.declared.Answered.{Answered}
+use Rattle.piece_states.proofs.State as T
+use Rattle.piece_states.proofs.State.Laws as T′
+use Rattle.piece_states.proofs.Answered as F
+use Rattle.piece_states.proofs.Answered.Laws as F′
+use Rattle.piece_states.proofs.value.feed as value
+use Rattle.piece_states.proofs.value.feed.Symbol as value-def
+use Rattle.piece_states.proofs.value.feed.Symbol.{name as #piece_states·value·feed}
+use Rattle.piece_states.proofs.value.feed.Met as value-thm
 use Rattle.pieces.proofs.feed.Key.{name as #pieces·feed}
 use Rattle.pieces.proofs.feed as feed
 use Rattle.pieces.proofs.feed.Statement as stated
@@ -118,7 +118,7 @@ module _ {M : Type 1} (𝓤 : URA M) (H : Heap 𝓤) (A : Atoms 𝓤) (W : Given
       move ! (2 ∷ 3 ∷ []) $ join ! $ frame ! $ feqI ! (List Val) (vptr b o ∷ []) (vptr b o ∷ []) refl $ fjoin3 ! $ nothing ! $ move ! (2 ∷ 0 ∷ []) $ fjoin ! $ move ! (1 ∷ 0 ∷ []) $ fjoin ! $ frame ! $
       owned ! u8 (Is u8) (uint-makes 𝓤 H A W w8) (r .reply) _ is $ done !
 
-  module _ (C : Calls 𝓤 H) (Λ : Loops 𝓤 H) (fm : FmC 𝓤 H (W .laws) C) (known : Triple 𝓤 (C #pieces·value·feed) (Value 𝓤 H A at-mem run)) where
+  module _ (C : Calls 𝓤 H) (Λ : Loops 𝓤 H) (fm : FmC 𝓤 H (W .laws) C) (known : Triple 𝓤 (C #piece_states·value·feed) (Value 𝓤 H A at-mem run)) where
     walk : Is (ShrSlice (named 1) κ′ u8) p (v ∷ []) → ent 𝓤 (onEntry 𝓤 H A feed.signature (κ, (κ′, tt)) (q, (q′, tt)) x at) (WpFn 𝓤 H C Λ code.function (vptr b o ∷ v ∷ []) Post)
     walk isp =
         qed W ((‵ (flft κ q) ⊛ ‵ (flft κ′ q′) ⊛ ‵ ftrue) ∷ ‵ (owns (MutRef (named 0) κ T.the-row ∷ ShrSlice (named 1) κ′ u8 ∷ []) x at) ∷ []) ∵ enter ! C Λ code.function (vptr b o ∷ v ∷ []) _ $
@@ -147,11 +147,11 @@ module _ {M : Type 1} (𝓤 : URA M) (H : Heap 𝓤) (A : Atoms 𝓤) (W : Given
         keep ! (0 ∷ 1 ∷ 2 ∷ 3 ∷ 4 ∷ []) $ by ! (exits r e (replied r u is)))))))))))))
 
 module _ {M : Type 1} (𝓤 : URA M) (H : Heap 𝓤) (A : Atoms 𝓤) (W : Given 𝓤 H A) (mem : Memory → SProp 𝓤) (run : Routine → Fun 𝓤) where
-  feed-walks : (C : Calls 𝓤 H) (Λ : Loops 𝓤 H) → FmC 𝓤 H (W .laws) C → Triple 𝓤 (C #pieces·value·feed) (Value 𝓤 H A mem run) → Walks 𝓤 H A feed.ended stayed (WpFn 𝓤 H C Λ code.function) (feed.clauses 𝓤 H A mem run)
+  feed-walks : (C : Calls 𝓤 H) (Λ : Loops 𝓤 H) → FmC 𝓤 H (W .laws) C → Triple 𝓤 (C #piece_states·value·feed) (Value 𝓤 H A mem run) → Walks 𝓤 H A feed.ended stayed (WpFn 𝓤 H C Λ code.function) (feed.clauses 𝓤 H A mem run)
   feed-walks C Λ fm known = walked 𝓤 H A feed.ended stayed (feed.clauses 𝓤 H A mem run) (WpFn 𝓤 H C Λ code.function) (λ κs. (ptr-vals, (slice-vals, tt))) (λ κs. (mut-tells (named 0) (κs .0) T.the-row, (shr-slice-tells (named 1) (κs .1 .0) u8, tt)))
       (λ κs qs bounds a _ are. via 𝓤 _ (fst∗ 𝓤 _ (emp 𝓤)) (walk 𝓤 H A W mem run (κs .0) (κs .1 .0) (qs .0) (qs .1 .0) (a .0 .ptr .0) (a .0 .ptr .1) (a .0 .name) (a .0 .now) (a .1 .0) C Λ fm known (are .1 .0)))
 
-feed-meets : {M : Type 1} (𝓤 : URA M) (H : Heap 𝓤) (A : Atoms 𝓤) (W : Given 𝓤 H A) (mem : Memory → SProp 𝓤) (run : Routine → Fun 𝓤) (𝓣 : Tables 𝓤 H) → Triple 𝓤 (𝓣 .C #pieces·value·feed) (Value 𝓤 H A mem run)
+feed-meets : {M : Type 1} (𝓤 : URA M) (H : Heap 𝓤) (A : Atoms 𝓤) (W : Given 𝓤 H A) (mem : Memory → SProp 𝓤) (run : Routine → Fun 𝓤) (𝓣 : Tables 𝓤 H) → Triple 𝓤 (𝓣 .C #piece_states·value·feed) (Value 𝓤 H A mem run)
     → Meets 𝓤 H A feed.signature (WpFn 𝓤 H (𝓣 .C) (𝓣 .Λ) code.function) (feed.spec 𝓤 H A mem run)
 feed-meets 𝓤 H A W mem run 𝓣 known = walk-meets 𝓤 H A feed.ended stayed W (goes-ref 𝓤 H A W 2 0 tt (plain (λ _. T.the-row)), (goes-none-slice 𝓤 H A W 2 (1 ∷ []) tt (plain (λ _. u8)) yes, tt)) (feed.clauses 𝓤 H A mem run)
     (WpFn 𝓤 H (𝓣 .C) (𝓣 .Λ) code.function) (WpFn-mono 𝓤 H (W .laws) 𝓣 code.function) (feed-walks 𝓤 H A W mem run (𝓣 .C) (𝓣 .Λ) (fmOf 𝓤 H (W .laws) 𝓣) known)
@@ -162,4 +162,4 @@ feed-spec 𝓤 H 𝓜 𝓖 𝓡 =
     entered 𝓤 H (tripleOf 𝓤 H (𝓖 .A) feed.signature (feed.spec 𝓤 H (𝓖 .A) (𝓜 .mem) (𝓡 .run)))
     (tables 𝓤 H 𝓜 𝓡 code.env .C) (tables 𝓤 H 𝓜 𝓡 code.env .Λ) #pieces·feed code.function (code.unfolded 𝓤 H 𝓜 𝓡)
     (feed-meets 𝓤 H (𝓖 .A) (givenOf 𝓤 H 𝓜 𝓖) (𝓜 .mem) (𝓡 .run) (tablesOf 𝓤 H 𝓜 (tables 𝓤 H 𝓜 𝓡 code.env))
-    (cited 𝓤 H (Value 𝓤 H (𝓖 .A) (𝓜 .mem) (𝓡 .run)) 𝓜 𝓡 code.env #pieces·value·feed value-def.routine code.calls-pieces·value·feed (value-thm.met 𝓤 H 𝓜 𝓖 𝓡)))
+    (cited 𝓤 H (Value 𝓤 H (𝓖 .A) (𝓜 .mem) (𝓡 .run)) 𝓜 𝓡 code.env #piece_states·value·feed value-def.routine code.calls-piece-states·value·feed (value-thm.met 𝓤 H 𝓜 𝓖 𝓡)))

@@ -3,7 +3,7 @@ use native.Mathlib.Omega.{arith}
 use borrow.Author.Needs.{needs}
 use Rattle.page_plan.proofs.Asking.{told-passed, told-number, reply-asked}
 use Rattle.page_claim.specs.Answers.{claimNumber}
-use Rattle.page_claim.proofs.Claims.{claim-refused}
+use Rattle.page_claim.proofs.Ends.{claim-refused}
 use Rattle.page_claim.proofs.claim.claim_in.Statement.{statement}
 use Rattle.page_claim.proofs.claim.claim_in.Tie as tie
 

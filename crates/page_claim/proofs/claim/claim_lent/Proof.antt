@@ -3,7 +3,7 @@ use borrow.Author.Needs.{needs}
 use Rattle.replies.specs.Replies.{number}
 use Rattle.page_plan.proofs.Plans.{shape-stored, shape-fits, block-inside}
 use Rattle.page_claim.specs.Answers.{claimNumber}
-use Rattle.page_claim.proofs.Claims.{claim-accepted, claim-rejected}
+use Rattle.page_claim.proofs.Ends.{claim-accepted, claim-rejected}
 use Rattle.page_claim.proofs.claim.claim_lent.Statement.{statement}
 use Rattle.page_claim.proofs.claim.claim_lent.Tie as tie
 

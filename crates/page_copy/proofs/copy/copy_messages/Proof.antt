@@ -5,7 +5,7 @@ use mathlib.Core.List.{_++_}
 use native.Mathlib.Omega.{arith}
 use borrow.Author.Needs.{needs}
 use Rattle.bits.specs.Bits.{placed}
-use Rattle.layout.specs.declared.Shape.{Shape}
+use Rattle.layout_plan.specs.declared.Shape.{Shape}
 use Rattle.payload.specs.Payload.{Joined}
 use Rattle.page_copy.specs.Copying.{texts}
 use Rattle.page_copy.proofs.Messages.{joined-start, joined-texts, message-room}

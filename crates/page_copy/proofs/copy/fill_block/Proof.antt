@@ -2,8 +2,8 @@
 use mathlib.Core.Path.{ap}
 use native.Mathlib.Omega.{arith}
 use borrow.Author.Needs.{needs}
-use Rattle.layout.specs.declared.Shape.{Shape}
-use Rattle.layout.specs.Plan.{payload}
+use Rattle.layout_plan.specs.declared.Shape.{Shape}
+use Rattle.layout_plan.specs.Plan.{payload}
 use Rattle.page_plan.proofs.Plans.{message-inside}
 use Rattle.page_copy.proofs.Flipping.{filled-message}
 use Rattle.page_copy.proofs.copy.fill_block.Statement.{statement}

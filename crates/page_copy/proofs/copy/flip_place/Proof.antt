@@ -1,7 +1,7 @@
 -- `page_copy::copy::flip_place` meets its contract: the bit lies in the message, or in the parity.
 use mathlib.Core.Path.{ap}
 use borrow.Author.Needs.{needs}
-use Rattle.layout.specs.declared.Shape.{Shape}
+use Rattle.layout_plan.specs.declared.Shape.{Shape}
 use Rattle.page_copy.proofs.Flipping.{flipped-message, flipped-parity}
 use Rattle.page_copy.proofs.copy.flip_place.Statement.{statement}
 use Rattle.page_copy.proofs.copy.flip_place.Tie as tie

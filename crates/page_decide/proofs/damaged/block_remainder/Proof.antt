@@ -3,8 +3,8 @@ use mathlib.Core.Path.{_≡_, refl, _∙_, ap, sym}
 use native.Mathlib.Omega.{arith}
 use borrow.Author.Needs.{needs}
 use denote.Ref.{now}
-use Rattle.layout.specs.declared.Shape.{Shape}
-use Rattle.layout.specs.Plan.{level}
+use Rattle.layout_plan.specs.declared.Shape.{Shape}
+use Rattle.layout_plan.specs.Plan.{level}
 use Rattle.page_plan.proofs.Plans.{block-inside}
 use Rattle.page_theory.specs.Page.{blockWord}
 use Rattle.page_decide.specs.Scanning.{remainderAt}

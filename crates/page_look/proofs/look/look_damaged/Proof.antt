@@ -3,7 +3,7 @@ use native.Mathlib.Omega.{arith}
 use borrow.Author.Needs.{needs}
 use Rattle.replies.specs.Replies.{number, block}
 use Rattle.page_look.specs.Answers.{lookNumber, lookBlock}
-use Rattle.page_look.proofs.Looking.{first-lowest, first-sound}
+use Rattle.page_counts.proofs.Looking.{first-lowest, first-sound}
 use Rattle.page_look.proofs.Ends.{look-done, look-ruined}
 use Rattle.page_look.proofs.look.look_damaged.Statement.{statement}
 use Rattle.page_look.proofs.look.look_damaged.Tie as tie

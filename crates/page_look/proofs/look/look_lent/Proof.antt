@@ -3,7 +3,7 @@ use mathlib.Core.Path.{_∙_}
 use native.Mathlib.Omega.{arith}
 use borrow.Author.Needs.{needs}
 use Rattle.page_look.specs.Answers.{lookNumber, lookBlock}
-use Rattle.page_look.proofs.Looking.{underway-start, underway-end, clean-sound}
+use Rattle.page_counts.proofs.Looking.{underway-start, underway-end, clean-sound}
 use Rattle.page_look.proofs.Ends.{look-lent, look-done}
 use Rattle.page_look.proofs.look.look_lent.Statement.{statement}
 use Rattle.page_look.proofs.look.look_lent.Tie as tie

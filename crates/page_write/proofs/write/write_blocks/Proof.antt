@@ -4,7 +4,7 @@ use mathlib.Core.Path.{_≡_, refl, _∙_}
 use mathlib.Core.List.{_++_}
 use native.Mathlib.Omega.{arith}
 use borrow.Author.Needs.{needs}
-use Rattle.layout.specs.Plan.{room, from}
+use Rattle.layout_plan.specs.Plan.{room, from}
 use Rattle.page_plan.proofs.Plans.{shape-zero, pads-inside}
 use Rattle.page_plan.proofs.Tables.{table-shape}
 use Rattle.page_write.proofs.Writing.{message-lent, from-one, from-next, page-put, Streamed, streamed-first, streamed-size, streamed-next, streamed-end}

@@ -2,7 +2,7 @@
 use mathlib.Core.Path.{refl}
 use native.Mathlib.Omega.{arith}
 use borrow.Author.Needs.{needs}
-use Rattle.layout.specs.Plan.{start, from}
+use Rattle.layout_plan.specs.Plan.{start, from}
 use Rattle.page_plan.proofs.Plans.{shape-zero, pads-inside}
 use Rattle.page_write.proofs.Writing.{message-lent}
 use Rattle.page_write.proofs.write.write_first.Statement.{statement}

@@ -1,7 +1,7 @@
 -- `roundtrip::round::round_in` meets its contract.
 use mathlib.Core.Path.{sym, _∙_}
 use borrow.Author.Tests.{not-true, not-false}
-use Rattle.layout.specs.Record.{wordsOf}
+use Rattle.layout_plan.specs.Record.{wordsOf}
 use Rattle.roundtrip.proofs.Trips.{trip-unwritten, trip-written, trip-masked, trip-sizes, trip-done, trip-refused}
 use borrow.Author.Needs.{needs}
 use Rattle.roundtrip.proofs.round.round_in.Statement.{statement}

@@ -40,13 +40,13 @@ use denote.Triple.Table.{entered, cited}
 use denote.Triple.Walked.{says, Stays, stay-ref, stay-none-slice, walkOf, goes-ref, goes-none-slice, Walks, ends-at, walked, walk-meets}
 use denote.Exit.{yes}
 use denote.Triple.Clauses.{ensured, lasts}
-use Rattle.pieces.specs.Calls.{feedOf}
-use Rattle.pieces.specs.declared.State.{State}
-use Rattle.pieces.specs.declared.Answered.{Answered}
+use Rattle.piece_states.specs.Calls.{feedOf}
+use Rattle.piece_states.specs.declared.State.{State}
+use Rattle.piece_states.specs.declared.Answered.{Answered}
 use Rattle.rudderfig.specs.declared.parity.Worded.{Worded}
 use Rattle.rudderfig.specs.Pieces.{StateReturns}
-use Rattle.pieces.proofs.State as T
-use Rattle.pieces.proofs.State.Laws as T′
+use Rattle.piece_states.proofs.State as T
+use Rattle.piece_states.proofs.State.Laws as T′
 use Rattle.rudderfig.proofs.parity.Worded as F
 use Rattle.rudderfig.proofs.parity.Worded.Laws as F′
 use Rattle.rudderfig.proofs.parity.fed as value

@@ -40,12 +40,12 @@ use denote.Triple.Spec.{Meets, tripleOf}
 use denote.Triple.Table.{entered, cited}
 use denote.Triple.Walked.{says, Stays, stay-ref, gave-slice, walkOf, goes-ref, goes-gave-slice, Walks, ends-at, walked, walk-meets}
 use denote.Triple.Clauses.{ensured, lasts}
-use Rattle.pieces.specs.Calls.{finishOf}
-use Rattle.pieces.specs.declared.State.{State}
+use Rattle.piece_states.specs.Calls.{finishOf}
+use Rattle.piece_states.specs.declared.State.{State}
 use Rattle.rudderfig.specs.declared.parity.Worded.{Worded}
 use Rattle.rudderfig.specs.Pieces.{ParityReturns}
-use Rattle.pieces.proofs.State as T
-use Rattle.pieces.proofs.State.Laws as T′
+use Rattle.piece_states.proofs.State as T
+use Rattle.piece_states.proofs.State.Laws as T′
 use Rattle.rudderfig.proofs.parity.Worded as F
 use Rattle.rudderfig.proofs.parity.Worded.Laws as F′
 use Rattle.rudderfig.proofs.parity.finished as value

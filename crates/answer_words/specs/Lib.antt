@@ -1,0 +1,2 @@
+-- What every call of the C interface returns.
+pub mod Answer

@@ -1,0 +1,2 @@
+-- The laws behind the claim check.
+pub mod Claims

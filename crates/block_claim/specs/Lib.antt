@@ -1,0 +1,2 @@
+-- The parts of a right claim.
+pub mod Claims

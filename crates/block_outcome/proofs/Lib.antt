@@ -1,0 +1,2 @@
+-- The laws behind the count of a block.
+pub mod Counts

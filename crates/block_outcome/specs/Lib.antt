@@ -1,0 +1,2 @@
+-- What becomes of one block.
+pub mod Counts

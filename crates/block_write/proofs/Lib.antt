@@ -1,0 +1,2 @@
+-- The laws behind writing a block.
+pub mod Encoding

@@ -1,0 +1,2 @@
+-- What is written for one block.
+pub mod Encoded

@@ -1,0 +1,4 @@
+-- Laws of plans and of records.
+pub mod Plans
+pub mod SectorPlans
+pub mod Records

@@ -1,0 +1,2 @@
+-- The replies of the calls about a layout, in order: what a reader must believe.
+pub mod ReplyRules

@@ -1,0 +1,2 @@
+-- The laws behind the counts, block after block.
+pub mod Looking

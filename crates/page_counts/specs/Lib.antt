@@ -1,0 +1,2 @@
+-- What the steps of counting promise.
+pub mod Looking
