@@ -5,9 +5,10 @@ use Prim.Native.Nat.{ℕ, zero, suc, _+_, _-_, _*_, _/_, _%_, _^_, _<_, _≤_}
 use native.Mathlib.Omega.{arith}
 use native.Mathlib.Decide.{decLt}
 use native.Mathlib.Nat.{add-zero, mul-one, suc-mul, mod-lt, mod-le, mod-eq-of-lt}
-use lib.ListN.{length, getD, drop}
+use lib.ListN.{length, getD, drop, set}
+use lib.Seq.{getD-set-same, getD-set-other}
 use lib.Pow.{pow-pos, pow-mono, shr-lt, shr-shr, shl-shr, high, mod-pow-add}
-use lib.Bits.{bitXor, xor-lt, xor-zero-l, xor-self, xor-shifted}
+use lib.Bits.{bitXor, xor-lt, xor-zero-l, xor-self, xor-shifted, xor-block}
 use Rattle.bits.specs.Bits.{bitOf, run, number, digits}
 use Rattle.bits.proofs.Numbers.{number-append, digits-number}
 use Rattle.bits.proofs.Pages.{number-run-lt}
@@ -18,7 +19,7 @@ use Rattle.code.specs.Register.{low, register}
 use Rattle.remainder.specs.Parity.{parityFrom}
 use Rattle.remainder.specs.Parity.{rest}
 use Rattle.division_table.specs.Table.{RowWords, four, nine, fourteen, digitBits, rowsOf, place, rowOf, divisorOf, Rests}
-use Rattle.remainder.proofs.Words.{Words, register-zeros, register-mod, top-digits}
+use Rattle.remainder.proofs.Words.{Words, low-lt, low-lt-next, register-zeros, register-mod, top-digits}
 use Rattle.division_table.proofs.Filling.{wide-some, row-inside, row-product, place-row}
 use Rattle.remainder.proofs.Parity.{mod-up, rest-xor, rest-zero, rest-below, parity-append, parity-digits, parity-below}
 
@@ -144,6 +145,31 @@ step-room x u en = rw en (mod-lt x (pow-pos (64 * u)))
 pub rests-below : (u : ℕ) (words : List ℕ) → Rests u words → (r : ℕ) (w : Word) → r < 2 ^ (64 * u) → parityFrom (64 * u) (divisorOf u words) r w < 2 ^ (64 * u)
 rests-below u words table r w h = let s = wide-some (table .wide) in parity-below (64 * u) (divisorOf u words) (omega arith) (table .monic) r w h
 
+-- words that are added each in its place, in whatever order
+
+low-below : (ws : List ℕ) (n : ℕ) → ((k : ℕ) → k < n → getD ws k 0 < 18446744073709551616) → low ws n < 2 ^ (64 * n)
+unfolding low
+low-below ws zero h = omega arith
+low-below ws (suc n) h =
+    let e : n + 1 ≡ suc n = omega arith in
+    subst (λ m. low ws m < 2 ^ (64 * m)) e (low-lt-next ws n (low-below ws n (λ k l. h k (omega arith))) (h n (omega arith)))
+
+pub low-added : (ws vs g : List ℕ) → Words vs → (n : ℕ) → ((k : ℕ) → k < n → getD g k 0 < 18446744073709551616)
+    → ((k : ℕ) → k < n → getD ws k 0 ≡ bitXor (getD g k 0) (getD vs k 0)) → low ws n ≡ bitXor (low g n) (low vs n)
+unfolding low
+low-added ws vs g hv zero hg h = sym (xor-zero-l 0)
+low-added ws vs g hv (suc n) hg h =
+    ap₂ (λ (a b : ℕ). a * 2 ^ (64 * n) + b) (h n (omega arith)) (low-added ws vs g hv n (λ k l. hg k (omega arith)) (λ k l. h k (omega arith)))
+    ∙ sym (xor-block (64 * n) (getD g n 0) (getD vs n 0) (low g n) (low vs n) (low-below g n (λ k l. hg k (omega arith))) (low-lt vs hv n))
+
+pub down-store : (ws vs g : List ℕ) (i u : ℕ) {x y : ℕ} → i < length ws → x ≡ getD g i 0 → y ≡ getD vs i 0
+    → ((k : ℕ) → i + 1 ≤ k → k < u → getD ws k 0 ≡ bitXor (getD g k 0) (getD vs k 0))
+    → (k : ℕ) → i ≤ k → k < u → getD (set ws i (bitXor x y)) k 0 ≡ bitXor (getD g k 0) (getD vs k 0)
+down-store ws vs g i u {x} {y} l ex ey h k a b = elim (decLt i k) [
+  | yes m ↦ getD-set-other ws i k (bitXor x y) 0 (omega arith) ∙ h k (omega arith) b
+  | no m ↦ let q : k ≡ i = omega arith in rw q (getD-set-same ws i (bitXor x y) 0 l ∙ ap₂ bitXor ex ey)
+]
+
 -- The n highest bits of a word that is read at some position.
 module _ (page : List ℕ) (s n : ℕ) (h : n ≤ 64) {w b : ℕ} (ew : w ≡ number (run (bitOf page) s 64)) (eb : b ≡ w / 2 ^ (64 - n)) where
   odd-number : b ≡ number (run (bitOf page) s n)
@@ -164,6 +190,13 @@ module _ (page : List ℕ) (s n : ℕ) (h : n ≤ 64) {w b : ℕ} (ew : w ≡ nu
   odd-digits =
       let v : Word = run (bitOf page) s n in
       ap (λ m. digits m n) odd-number ∙ ap (digits (number v)) (sym (run-length (bitOf page) s n)) ∙ digits-number v
+
+-- values of a function, stored one after the other
+pub stored-next : (f : ℕ → ℕ) (ws : List ℕ) (i : ℕ) {w : ℕ} → i < length ws → ((k : ℕ) → k < i → getD ws k 0 ≡ f k) → w ≡ f i → (k : ℕ) → k < i + 1 → getD (set ws i w) k 0 ≡ f k
+stored-next f ws i {w} l h e k m = elim (decLt k i) [
+  | yes b ↦ getD-set-other ws i k w 0 (omega arith) ∙ h k b
+  | no b ↦ let q : k ≡ i = omega arith in rw q (getD-set-same ws i w 0 l ∙ e)
+]
 
 -- runs of bits, as the loops feed them
 

@@ -2,9 +2,10 @@
 // fills: the divisor has the degree 64 used. Odd bits at the end go in one step.
 ghost use mathlib.Core.Path.{_≡_};
 ghost use Prim.Native.Nat.{ℕ, _+_, _-_, _*_, _/_, _%_, _^_, _≤_, _<_};
+ghost use lib.ListN.{length, getD, drop};
 ghost use lib.Bits.{bitXor};
-ghost use Rattle.bits.specs.Bits.{bitOf, run, digits};
-ghost use Rattle.code.specs.Register.{register};
+ghost use Rattle.bits.specs.Bits.{bitOf, run, number, digits};
+ghost use Rattle.code.specs.Register.{low, register};
 ghost use Rattle.remainder.specs.Parity.{parityFrom, rest};
 ghost use Rattle.division_table.specs.Table.{digitBits, divisorOf, Rests};
 use bits::read::word_at;
@@ -42,6 +43,22 @@ fn rows_added(state: Register, table: &[u64], used: usize, v: u64) -> Register
     r
 }
 
+// The sum of the number in the first words of a register and of the number in as many words of a slice, from `from` on. The highest word
+// comes first, since the next step waits for it.
+fn row_added_down(state: Register, words: &[u64], from: usize, used: usize) -> Register
+    requires { ⌜ (used ≤ 14) × (from + used ≤ length (now words)) × (register (state .words) < 2 ^ (64 * used)) ⌝ }
+    ensures { λ r. ⌜ register (r .words) ≡ bitXor (low (drop from (now (words .entry))) used) (register (state .words)) ⌝ }
+{
+    let mut sum = state.words;
+    let mut left = used;
+    while 0 < left {
+        let i = left - 1;
+        sum[i] = words[from + i] ^ sum[i];
+        left = i;
+    }
+    Register { words: sum }
+}
+
 // The rows of the digits of v from `from` on and below `to`, added to a register that has those of the digits before.
 fn rows_between(
     state: Register,
@@ -61,7 +78,7 @@ fn rows_between(
     let mut k = from;
     while k < to {
         let row = digit_row(bits, k, left);
-        r = row_added(r, table, row * used, used);
+        r = row_added_down(r, table, row * used, used);
         left = left >> bits;
         k += 1;
     }
@@ -131,7 +148,119 @@ fn long_step(state: Register, table: &[u64], w: u64) -> Register
     long_rows_added(next, table, v)
 }
 
-// A run of bits word by word: `count` words from position `at` on, wherever that lies in a byte.
+// Up to 16 words of a run of bits from position `at` on, wherever that lies in a byte. They are read before any is fed, so that no call
+// stands among the steps, and the compiler keeps the register of the parity in those of the processor.
+fn words_from(bytes: &[u8], at: usize, count: usize) -> [u64; 16]
+    requires { ⌜ (count ≤ 16) × (at + 64 * count < 18446744073709551616) ⌝ }
+    ensures { λ r. ⌜ ((k : ℕ) → k < count → getD r k 0 ≡ number (run (bitOf (now (bytes .entry))) (at + 64 * k) 64)) ⌝ }
+{
+    let mut words = [0u64; 16];
+    let mut i = 0;
+    while i < count {
+        words[i] = word_at(bytes, at + 64 * i);
+        i += 1;
+    }
+    words
+}
+
+// A run of up to 16 words, for rows of four words. The number is written out: the loops over words and digits are then unrolled.
+fn feed_four_words(
+    state: Register,
+    table: &[u64],
+    bytes: &[u8],
+    at: usize,
+    count: usize,
+) -> Register
+    requires { ⌜ (Rests 4 (now table)) × (register (state .words) < 2 ^ (64 * 4)) × (at + 64 * count < 18446744073709551616) × (count ≤ 16) ⌝ }
+    ensures { λ r. ⌜ register (r .words)
+        ≡ parityFrom (64 * 4) (divisorOf 4 (now (table .entry))) (register (state .words)) (run (bitOf (now (bytes .entry))) at (64 * count)) ⌝ }
+{
+    let words = words_from(bytes, at, count);
+    let mut r = state;
+    let mut fed = 0;
+    while fed < count {
+        let w = words[fed];
+        r = step_word(r, table, 4, w);
+        fed += 1;
+    }
+    r
+}
+
+// The same for rows of nine words, and any number of words of the run. Each is read as it is fed, which is faster here.
+fn feed_nine_words(
+    state: Register,
+    table: &[u64],
+    bytes: &[u8],
+    at: usize,
+    count: usize,
+) -> Register
+    requires { ⌜ (Rests 9 (now table)) × (register (state .words) < 2 ^ (64 * 9)) × (at + 64 * count < 18446744073709551616) ⌝ }
+    ensures { λ r. ⌜ register (r .words)
+        ≡ parityFrom (64 * 9) (divisorOf 9 (now (table .entry))) (register (state .words)) (run (bitOf (now (bytes .entry))) at (64 * count)) ⌝ }
+{
+    let mut r = state;
+    let mut fed = 0;
+    while fed < count {
+        let w = word_at(bytes, at + 64 * fed);
+        r = step_word(r, table, 9, w);
+        fed += 1;
+    }
+    r
+}
+
+// Up to 16 words for rows of fourteen words, read before they are fed.
+fn feed_long_words(
+    state: Register,
+    table: &[u64],
+    bytes: &[u8],
+    at: usize,
+    count: usize,
+) -> Register
+    requires { ⌜ (Rests 14 (now table)) × (register (state .words) < 2 ^ (64 * 14)) × (at + 64 * count < 18446744073709551616) × (count ≤ 16) ⌝ }
+    ensures { λ r. ⌜ register (r .words)
+        ≡ parityFrom (64 * 14) (divisorOf 14 (now (table .entry))) (register (state .words)) (run (bitOf (now (bytes .entry))) at (64 * count)) ⌝ }
+{
+    let words = words_from(bytes, at, count);
+    let mut r = state;
+    let mut fed = 0;
+    while fed < count {
+        let w = words[fed];
+        r = long_step(r, table, w);
+        fed += 1;
+    }
+    r
+}
+
+// Up to 16 words for rows of any width.
+fn feed_few_words(
+    state: Register,
+    table: &[u64],
+    used: usize,
+    bytes: &[u8],
+    at: usize,
+    count: usize,
+) -> Register
+    requires { ⌜ (Rests used (now table)) × (register (state .words) < 2 ^ (64 * used)) × (at + 64 * count < 18446744073709551616) × (count ≤ 16) ⌝ }
+    ensures { λ r. ⌜ register (r .words)
+        ≡ parityFrom (64 * used) (divisorOf used (now (table .entry))) (register (state .words)) (run (bitOf (now (bytes .entry))) at (64 * count)) ⌝ }
+{
+    if used == 4 {
+        return feed_four_words(state, table, bytes, at, count);
+    }
+    if used == 9 {
+        return feed_nine_words(state, table, bytes, at, count);
+    }
+    feed_long_words(state, table, bytes, at, count)
+}
+
+// How many words are fed at a time where so many are left.
+fn next_words(left: usize) -> usize
+    ensures { λ r. ⌜ (r ≤ left) × (r ≤ 16) × (0 < left → 0 < r) ⌝ }
+{
+    if left < 16 { left } else { 16 }
+}
+
+// A run of any number of words.
 fn feed_words(
     state: Register,
     table: &[u64],
@@ -147,55 +276,11 @@ fn feed_words(
     let mut r = state;
     let mut fed = 0;
     while fed < count {
-        let w = word_at(bytes, at + 64 * fed);
-        r = step_word(r, table, used, w);
-        fed += 1;
+        let few = next_words(count - fed);
+        r = feed_few_words(r, table, used, bytes, at + 64 * fed, few);
+        fed += few;
     }
     r
-}
-
-// The same for rows of fourteen words.
-fn feed_long_words(
-    state: Register,
-    table: &[u64],
-    bytes: &[u8],
-    at: usize,
-    count: usize,
-) -> Register
-    requires { ⌜ (Rests 14 (now table)) × (register (state .words) < 2 ^ (64 * 14)) × (at + 64 * count < 18446744073709551616) ⌝ }
-    ensures { λ r. ⌜ register (r .words)
-        ≡ parityFrom (64 * 14) (divisorOf 14 (now (table .entry))) (register (state .words)) (run (bitOf (now (bytes .entry))) at (64 * count)) ⌝ }
-{
-    let mut r = state;
-    let mut fed = 0;
-    while fed < count {
-        let w = word_at(bytes, at + 64 * fed);
-        r = long_step(r, table, w);
-        fed += 1;
-    }
-    r
-}
-
-// Both with the number of words in use written out: the loops over words and digits are then unrolled.
-fn feed_words_fixed(
-    state: Register,
-    table: &[u64],
-    used: usize,
-    bytes: &[u8],
-    at: usize,
-    count: usize,
-) -> Register
-    requires { ⌜ (Rests used (now table)) × (register (state .words) < 2 ^ (64 * used)) × (at + 64 * count < 18446744073709551616) ⌝ }
-    ensures { λ r. ⌜ register (r .words)
-        ≡ parityFrom (64 * used) (divisorOf used (now (table .entry))) (register (state .words)) (run (bitOf (now (bytes .entry))) at (64 * count)) ⌝ }
-{
-    if used == 4 {
-        return feed_words(state, table, 4, bytes, at, count);
-    }
-    if used == 9 {
-        return feed_words(state, table, 9, bytes, at, count);
-    }
-    feed_long_words(state, table, bytes, at, count)
 }
 
 // A run of bits of which there are fewer than 64.
@@ -254,6 +339,6 @@ pub fn feed_run(
         ≡ parityFrom (64 * used) (divisorOf used (now (table .entry))) (register (state .words)) (run (bitOf (now (bytes .entry))) at n) ⌝ }
 {
     let long = n / 64;
-    let most = feed_words_fixed(state, table, used, bytes, at, long);
+    let most = feed_words(state, table, used, bytes, at, long);
     feed_bits_fixed(most, table, used, bytes, at + 64 * long, n % 64)
 }

@@ -1,4 +1,4 @@
-use Prim.Native.Nat.{_≤_, _-_, _*_}
+use Prim.Native.Nat.{_≤_, _+_, _-_, _*_}
 use mathlib.Core.Path.{_≡_, _∙_, refl}
 use native.Mathlib.Omega.{arith}
 use borrow.Author.Needs.{needs}
@@ -6,7 +6,7 @@ use Rattle.bits.specs.Bits.{bitOf, run}
 use Rattle.code.specs.Register.{register}
 use Rattle.remainder.specs.Parity.{parityFrom}
 use Rattle.division_table.specs.Table.{divisorOf}
-use Rattle.division.proofs.Steps.{rests-below, parity-word}
+use Rattle.division.proofs.Steps.{rests-below, parity-parts}
 use Rattle.division.proofs.feed.feed_words.Statement.{statement}
 use Rattle.division.proofs.feed.feed_words.Tie as tie
 
@@ -20,31 +20,39 @@ loop-holds : tie.Need-loop-holds Inv-loop μ-loop
 unfolding run parityFrom
 loop-holds c = (search needs, refl)
 
-mul-word-at : tie.Need-mul-word-at Inv-loop μ-loop
-mul-word-at c = search needs
+sub-next-words : tie.Need-sub-next-words Inv-loop μ-loop
+sub-next-words c = search needs
 
-add-word-at : tie.Need-add-word-at Inv-loop μ-loop
-add-word-at c = search needs
+next-words-requires : tie.Need-next-words-requires Inv-loop μ-loop
+next-words-requires c κs = search needs
 
-word-at-requires : tie.Need-word-at-requires Inv-loop μ-loop
-word-at-requires c κs = search needs
+mul-feed-few-words : tie.Need-mul-feed-few-words Inv-loop μ-loop
+mul-feed-few-words c = search needs
 
-step-word-requires : tie.Need-step-word-requires Inv-loop μ-loop
-step-word-requires c κs =
+add-feed-few-words : tie.Need-add-feed-few-words Inv-loop μ-loop
+add-feed-few-words c = search needs
+
+feed-few-words-requires : tie.Need-feed-few-words-requires Inv-loop μ-loop
+feed-few-words-requires c κs =
     let s = c .before .before .loop in
     let p = c .before .before .before .before .before .pre in
-    (p .0, rw (s .inv .1) (rests-below _ _ (p .0) _ _ (p .1)))
+    let e = c .next-words .ensures in
+    (p .0, rw (s .inv .1) (rests-below _ _ (p .0) _ _ (p .1)), omega arith, e .1)
 
 add-fed : tie.Need-add-fed Inv-loop μ-loop
-add-fed c = search needs
+add-fed c = let e = c .before .next-words .ensures in omega arith
 
 loop-less : tie.Need-loop-less Inv-loop μ-loop
-loop-less c = search needs
+loop-less c =
+    let e = c .before .next-words .ensures in
+    let h = e .2 (omega arith) in
+    omega arith
 
 loop-again : tie.Need-loop-again Inv-loop μ-loop
 loop-again c =
     let s = c .before .before .before .loop in
-    (omega arith, parity-word _ _ _ _ _ (s .fed) (s .inv .1) (c .before .word-at .ensures) (c .step-word .ensures))
+    let e = c .before .next-words .ensures in
+    (omega arith, parity-parts _ _ _ _ _ (64 * s .fed) _ (omega arith) refl (s .inv .1) (c .feed-few-words .ensures))
 
 returns : tie.Need-returns Inv-loop μ-loop
 returns c =
@@ -58,10 +66,11 @@ feed-words-spec =
     Inv-loop
     μ-loop
     loop-holds
-    mul-word-at
-    add-word-at
-    word-at-requires
-    step-word-requires
+    sub-next-words
+    next-words-requires
+    mul-feed-few-words
+    add-feed-few-words
+    feed-few-words-requires
     add-fed
     loop-less
     loop-again

@@ -47,15 +47,15 @@ digit-row-requires c κs =
     let l = digit-before b (s .k) (a .args .to) some (let t = c .loop-test in omega arith) (a .pre .3) in
     (rw (s .inv .0) (bits-most (a .args .used)), digit-small b (s .k) some l)
 
-mul-row-added : tie.Need-mul-row-added Inv-loop μ-loop
-mul-row-added c =
+mul-row-added-down : tie.Need-mul-row-added-down Inv-loop μ-loop
+mul-row-added-down c =
     let t = c .before in
     let s = t .before .loop in
     let a = t .before .before .before .before in
     record { fits = row-fits (a .args .used) _ (a .pre .0) (s .inv .0) (a .args .v) (a .fits .v .fits) (s .k) (let d = t .loop-test in rw (s .inv .0) (digit-before (digitBits (a .args .used)) (s .k) (a .args .to) (bits-some (a .args .used)) (omega arith) (a .pre .3))) (s .inv .2) (c .digit-row .ensures) }
 
-row-added-requires : tie.Need-row-added-requires Inv-loop μ-loop
-row-added-requires c κs =
+row-added-down-requires : tie.Need-row-added-down-requires Inv-loop μ-loop
+row-added-down-requires c κs =
     let t = c .before in
     let s = t .before .loop in
     let a = t .before .before .before .before in
@@ -90,7 +90,7 @@ loop-again c =
       e,
       (let l = t .loop-test in omega arith),
       left-next (a .args .used) _ p e (a .args .v) f (s .k) (s .inv .2),
-      λ x h. rows-next (a .args .used) _ p e (a .args .v) f x (s .k) (let d = t .loop-test in rw (s .inv .0) (digit-before (digitBits (a .args .used)) (s .k) (a .args .to) (bits-some (a .args .used)) (omega arith) (a .pre .3))) (s .inv .2) (w .digit-row .ensures) (s .inv .3 x h) (c .row-added .ensures),
+      λ x h. rows-next (a .args .used) _ p e (a .args .v) f x (s .k) (let d = t .loop-test in rw (s .inv .0) (digit-before (digitBits (a .args .used)) (s .k) (a .args .to) (bits-some (a .args .used)) (omega arith) (a .pre .3))) (s .inv .2) (w .digit-row .ensures) (s .inv .3 x h) (c .row-added-down .ensures),
     )
 
 returns : tie.Need-returns Inv-loop μ-loop
@@ -112,8 +112,8 @@ rows-between-spec =
     shr-left
     loop-holds
     digit-row-requires
-    mul-row-added
-    row-added-requires
+    mul-row-added-down
+    row-added-down-requires
     shr-left-2
     add-k
     loop-less

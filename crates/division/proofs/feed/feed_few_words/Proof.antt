@@ -1,31 +1,31 @@
 use mathlib.Core.Path.{_∙_}
 use Rattle.division_table.proofs.Filling.{wide-last}
-use Rattle.division.proofs.feed.feed_words_fixed.Statement.{statement}
-use Rattle.division.proofs.feed.feed_words_fixed.Tie as tie
+use Rattle.division.proofs.feed.feed_few_words.Statement.{statement}
+use Rattle.division.proofs.feed.feed_few_words.Tie as tie
 
-feed-words-requires : tie.Need-feed-words-requires
-feed-words-requires c κs =
+feed-four-words-requires : tie.Need-feed-four-words-requires
+feed-four-words-requires c κs =
     let a = c .before .before .before in
     let e = c .if1 .taken in
-    (rw e at (a .pre .0), rw e at (a .pre .1), a .pre .2)
+    (rw e at (a .pre .0), rw e at (a .pre .1), a .pre .2, a .pre .3)
 
 returns : tie.Need-returns
-returns c = c .feed-words .ensures ∙ rw (c .before .if1 .taken)
+returns c = c .feed-four-words .ensures ∙ rw (c .before .if1 .taken)
 
-feed-words-requires-2 : tie.Need-feed-words-requires-2
-feed-words-requires-2 c κs =
+feed-nine-words-requires : tie.Need-feed-nine-words-requires
+feed-nine-words-requires c κs =
     let a = c .before .before .before .before in
     let e = c .if2 .taken in
     (rw e at (a .pre .0), rw e at (a .pre .1), a .pre .2)
 
 returns-2 : tie.Need-returns-2
-returns-2 c = c .feed-words2 .ensures ∙ rw (c .before .if2 .taken)
+returns-2 c = c .feed-nine-words .ensures ∙ rw (c .before .if2 .taken)
 
 feed-long-words-requires : tie.Need-feed-long-words-requires
 feed-long-words-requires c κs =
     let p = c .before .before .before .before .pre in
     let e = wide-last (p .0 .wide) (c .before .if1 .left) (c .if2 .left) in
-    (rw e at (p .0), rw e at (p .1), p .2)
+    (rw e at (p .0), rw e at (p .1), p .2, p .3)
 
 returns-3 : tie.Need-returns-3
 returns-3 c =
@@ -33,13 +33,13 @@ returns-3 c =
     let e = wide-last (b .before .before .before .before .pre .0 .wide) (b .before .if1 .left) (b .if2 .left) in
     c .feed-long-words .ensures ∙ rw e
 
-pub feed-words-fixed-spec : {M : Type 1} → statement M
-feed-words-fixed-spec =
+pub feed-few-words-spec : {M : Type 1} → statement M
+feed-few-words-spec =
     tie.close
     (tie.spec
-    feed-words-requires
+    feed-four-words-requires
     returns
-    feed-words-requires-2
+    feed-nine-words-requires
     returns-2
     feed-long-words-requires
     returns-3)

@@ -1,0 +1,67 @@
+use Prim.Native.Nat.{ℕ, _≤_, _<_, _-_, _+_, _*_}
+use mathlib.Core.Path.{_≡_}
+use native.Mathlib.Omega.{arith}
+use borrow.Author.Needs.{needs}
+use lib.ListN.{length, getD}
+use Rattle.bits.specs.Bits.{bitOf, run, number}
+use Rattle.division.proofs.Steps.{stored-next}
+use Rattle.division.proofs.feed.words_from.Statement.{statement}
+use Rattle.division.proofs.feed.words_from.Tie as tie
+
+abbrev Inv-loop : tie.InvT-loop
+Inv-loop bytes at count words₀ i₀ words i = (i ≤ count) × (length words ≡ 16) × ((k : ℕ) → k < i → getD words k 0 ≡ number (run (bitOf bytes) (at + 64 * k) 64))
+
+abbrev μ-loop : tie.MeasureT-loop
+μ-loop bytes at count words₀ i₀ words i = count - i
+
+loop-holds : tie.Need-loop-holds Inv-loop μ-loop
+loop-holds c = (search needs, search needs, λ k h. absurd (omega arith))
+
+mul-word-at : tie.Need-mul-word-at Inv-loop μ-loop
+mul-word-at c = search needs
+
+add-word-at : tie.Need-add-word-at Inv-loop μ-loop
+add-word-at c = search needs
+
+word-at-requires : tie.Need-word-at-requires Inv-loop μ-loop
+word-at-requires c κs = search needs
+
+mul-words : tie.Need-mul-words Inv-loop μ-loop
+mul-words c = search needs
+
+array-write-words : tie.Need-array-write-words Inv-loop μ-loop
+array-write-words c = search needs
+
+add-i : tie.Need-add-i Inv-loop μ-loop
+add-i c = search needs
+
+loop-less : tie.Need-loop-less Inv-loop μ-loop
+loop-less c = search needs
+
+loop-again : tie.Need-loop-again Inv-loop μ-loop
+loop-again c =
+    let s = c .before .before .loop in
+    let a = c .before .before .before .before .args in
+    (omega arith, search needs, stored-next (λ k. number (run (bitOf (a .bytes .now)) (a .at + 64 * k) 64)) (s .words) (s .i) (omega arith) (s .inv .2) (c .word-at .ensures))
+
+returns : tie.Need-returns Inv-loop μ-loop
+returns c =
+    let s = c .before .loop in
+    λ k h. s .inv .2 k (omega arith)
+
+pub words-from-spec : {M : Type 1} → statement M
+words-from-spec =
+    tie.close
+    (tie.spec
+    Inv-loop
+    μ-loop
+    loop-holds
+    mul-word-at
+    add-word-at
+    word-at-requires
+    mul-words
+    array-write-words
+    add-i
+    loop-less
+    loop-again
+    returns)
