@@ -1,6 +1,7 @@
 // The command explain of the tool (document 02, E2): why a layout is refused, or what became of a block of a page.
 //
-// What is said comes from the proved calls explain_layout, explain_block and explain_bit; the crate `explain_lines` puts it into words.
+// What is said comes from the proved calls explain_layout, explain_block and explain_bit; the crate `explain_lines` puts
+// it into words.
 use arguments::LayoutWords;
 use arguments::Options;
 use arguments::Words;

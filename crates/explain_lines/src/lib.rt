@@ -1,4 +1,5 @@
-// Explanations as lines of text (document 02, E2): what the proved calls explain_layout, explain_block and explain_bit answer, put into words.
+// Explanations as lines of text (document 02, E2): what the proved calls explain_layout, explain_block and explain_bit
+// answer, put into words.
 //
 //   rules.rt      the rule that a layout breaks, what breaks it, the two numbers compared, and what can be done
 //   refusals.rt   why a question about a layout or a block is refused
