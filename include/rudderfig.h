@@ -2,9 +2,9 @@
  * Rudderfig: NAND pages written and read through binary BCH codes.
  *
  * Link librudderfig.a, which `make lib` leaves beside this file. Nine calls answer the seven questions of the project's document 01, two more
- * hand a remainder to a hardware locator and take it back, and three take a block's message in pieces; the numbers and names below are the
- * documents'. Each call is total: any layout words, any lengths, any page content get an answer, and a caller has to have tested nothing. Each is
- * proved to return what its definition says, and to leave every lent byte as that definition says. The header is C99, and C++.
+ * hand a remainder to a hardware locator and take it back, three take a block's message in pieces, and three explain answers; the numbers and
+ * names below are the documents'. Each call is total: any layout words, any lengths, any page content get an answer, and a caller has to have
+ * tested nothing. Each is proved to return what its definition says, and to leave every lent byte as that definition says. The header is C99, and C++.
  *
  * For callers of rudderfig_read_page, which is gone: call rudderfig_look_page for the counts, then rudderfig_take_page for metadata and data, and
  * test both replies; after reply 9 the counts no longer hold what they held, but the count of every block, 255 for a ruined one.
@@ -21,6 +21,8 @@
  *     bits 8 to 23     the block that the reply is about: 0 except in reply 9 about a page
  *     bits 24 to 31    the kind of an answer: 0, except for a page bit in the tail or in the mark
  *     bits 32 to 63    the value of an answer
+ *
+ * The calls rudderfig_explain_.. put other numbers beside the reply; what takes their words apart is declared with them.
  *
  * On a refusal kind and value are 0, and every lent buffer is byte for byte as it was, but for the counts of rudderfig_look_page that replies 9:
  * document 02, E6, has amended document 01 so in this one case. Of several reasons the smallest number is given, but 11 is looked at after 3 and
@@ -106,11 +108,11 @@ enum rudderfig_reply_number {
  * looking at one or judging an undamaged block about 32,000.
  */
 #define RUDDERFIG_STACK_CHECK_LAYOUT 256
-#define RUDDERFIG_STACK_LOCATE_BIT 256
+#define RUDDERFIG_STACK_LOCATE_BIT 512
 #define RUDDERFIG_STACK_BIT_POSITION 256
 #define RUDDERFIG_STACK_WRITE_PAGE 36864
 #define RUDDERFIG_STACK_LOOK_PAGE 114688
-#define RUDDERFIG_STACK_TAKE_PAGE 147456
+#define RUDDERFIG_STACK_TAKE_PAGE 151552
 #define RUDDERFIG_STACK_JUDGE_BLOCK 114688
 #define RUDDERFIG_STACK_LOCATE_ERRORS 86016
 #define RUDDERFIG_STACK_CHECK_CLAIM 36864
@@ -119,6 +121,9 @@ enum rudderfig_reply_number {
 #define RUDDERFIG_STACK_PARITY_START 256
 #define RUDDERFIG_STACK_PARITY_FEED 36864
 #define RUDDERFIG_STACK_PARITY_FINISH 1024
+#define RUDDERFIG_STACK_EXPLAIN_LAYOUT 512
+#define RUDDERFIG_STACK_EXPLAIN_BLOCK 114688
+#define RUDDERFIG_STACK_EXPLAIN_BIT 512
 
 /* The largest of them. */
 #define RUDDERFIG_STACK RUDDERFIG_STACK_TAKE_PAGE
@@ -289,6 +294,80 @@ uint64_t rudderfig_parity_feed(struct rudderfig_parity *state, const uint8_t *pi
  * state whose numbers do not fit, which no start has made; 6 where the message is not whole yet, or the buffer has another length. No value.
  */
 uint64_t rudderfig_parity_finish(struct rudderfig_parity *state, uint8_t *parity, rudderfig_length parity_len);
+
+/*
+ * Explanations, for a boot console or a log (document 02, E2). Their words have no block, kind and value beside the reply.
+ * The word of a refusal has in bits 8 to 15 what it is about, and in bits 16 to 39 and 40 to 63 the two numbers that were compared:
+ *
+ *     1    the level field, and the highest that the edition has
+ *     2    the bits of the message, and 1
+ *     3    the bits of the block, and the bits that its field allows
+ *     4    the bits that the blocks need, and the bits that there are for them
+ *     5    the length of the lent page, and PAGE_SIZE
+ *     6    the length of the record, and 8 (12 is taken too); or the length of the list, and t
+ *     7    the edition, and 2; or the block, and the number of blocks; or the position, and 8 * PAGE_SIZE
+ *     11   mark offset plus mark length, and PAGE_SIZE; where that sum is allowed, the zero bits, and 0
+ *
+ * A number that is handed in and has more than 24 bits shows as 0xFFFFFF. The reason is the one that decided: no rule that is looked at before it is
+ * broken, and where both kinds of block break it block 0 is named.
+ */
+enum rudderfig_about_number {
+    RUDDERFIG_ABOUT_EDITION = 1,
+    RUDDERFIG_ABOUT_RECORD = 2,       /* the length of the layout record */
+    RUDDERFIG_ABOUT_BLOCK_0 = 3,      /* block 0 of the layout */
+    RUDDERFIG_ABOUT_LATER_BLOCK = 4,  /* each block after block 0 */
+    RUDDERFIG_ABOUT_PAGE = 5,         /* the page of the layout */
+    RUDDERFIG_ABOUT_LENT_PAGE = 6,    /* the length of the lent page */
+    RUDDERFIG_ABOUT_LENT_LIST = 7,    /* the length of the lent list */
+    RUDDERFIG_ABOUT_BLOCK = 8,        /* the block that is asked about; in reply 9, the ruined one */
+    RUDDERFIG_ABOUT_POSITION = 9      /* the position that is asked about */
+};
+
+static inline unsigned rudderfig_about(uint64_t explanation) { return RUDDERFIG_CAST(unsigned, explanation >> 8 & 0xFF); }
+static inline uint32_t rudderfig_found(uint64_t explanation) { return RUDDERFIG_CAST(uint32_t, explanation >> 16 & 0xFFFFFF); }
+static inline uint32_t rudderfig_limit(uint64_t explanation) { return RUDDERFIG_CAST(uint32_t, explanation >> 40); }
+
+/* Is this layout accepted, and if not, why? Reads the record. 0 where it is, else the word of a refusal: 1 to 4, 6, 7 for another edition, 11. */
+uint64_t rudderfig_explain_layout(uint64_t edition, const uint8_t *record, rudderfig_length record_len);
+
+/*
+ * What became of one block of a page? Reads record and page, of the page no other bits than the block's. Writes to `list`, which has at least t
+ * places, only where the block is repaired: the page positions of its covered bits, data and parity, in which page and codeword differ, all of them and
+ * ascending. The places behind them keep what they held.
+ * Reply 0: rudderfig_found is the number of flips, or where rudderfig_explains_erased says so, of zeros; rudderfig_limit is t.
+ * Reply 9, the block is ruined: rudderfig_found is its number, and rudderfig_limit is t.
+ * Any other reply is the word of a refusal: 1 to 7 and 11. A block that the page does not have is 7, however long the list is.
+ */
+static inline int rudderfig_explains_erased(uint64_t explanation) {
+    return rudderfig_reply(explanation) == RUDDERFIG_DONE && rudderfig_about(explanation) == 1;
+}
+
+uint64_t rudderfig_explain_block(uint64_t edition,
+                                 const uint8_t *record, rudderfig_length record_len,
+                                 const uint8_t *page, rudderfig_length page_len,
+                                 uint64_t block,
+                                 uint32_t *list, rudderfig_length list_len);
+
+/*
+ * What is the page bit at `position`? Reads the record. Reply 0: the part of the page that it belongs to, the byte of the page and the bit of that byte, 0
+ * being the lowest; of metadata, data and parity the block, of metadata and data which byte of them it belongs to, and 0 where there is none.
+ * Any other reply is the word of a refusal: 1 to 4, 6, 7 for another edition or a position of 8 * PAGE_SIZE or more, 11.
+ */
+enum rudderfig_part_number {
+    RUDDERFIG_PART_METADATA = 1,
+    RUDDERFIG_PART_DATA = 2,
+    RUDDERFIG_PART_PARITY = 3,
+    RUDDERFIG_PART_TAIL = 4,
+    RUDDERFIG_PART_MARK = 5
+};
+
+static inline unsigned rudderfig_part(uint64_t place) { return RUDDERFIG_CAST(unsigned, place >> 8 & 0xFF); }
+static inline unsigned rudderfig_part_block(uint64_t place) { return RUDDERFIG_CAST(unsigned, place >> 16 & 0xFF); }
+static inline unsigned rudderfig_page_bit(uint64_t place) { return RUDDERFIG_CAST(unsigned, place >> 24 & 0xFF); }
+static inline unsigned rudderfig_page_byte(uint64_t place) { return RUDDERFIG_CAST(unsigned, place >> 32 & 0xFFFF); }
+static inline unsigned rudderfig_part_byte(uint64_t place) { return RUDDERFIG_CAST(unsigned, place >> 48); }
+
+uint64_t rudderfig_explain_bit(uint64_t edition, const uint8_t *record, rudderfig_length record_len, uint64_t position);
 
 #undef RUDDERFIG_CAST
 

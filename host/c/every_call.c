@@ -2,7 +2,7 @@
  * Every call of rudderfig.h, with answers that another order of its arguments would change. A page of two blocks, each corrected up to 2 flips, is
  * written from 2 bytes of metadata and 8 of data, worn, looked at, taken, judged, claimed and ruined; an erased page is looked at, taken and judged;
  * each call about a page is made around a factory's mark, and in edition 2 with a level of 62; a remainder is located and handed to a hardware
- * locator; a message is taken in one piece.
+ * locator; a message is taken in one piece; layouts, blocks and page bits are explained.
  * The program is C99 and C++. The exit status is 0 where every answer and every byte is as it should be; else the first line that was not is printed.
  */
 #include <stdio.h>
@@ -219,6 +219,87 @@ static int pieces(void)
     return 0;
 }
 
+/* The word of an explanation by its numbers. */
+static int explains(uint64_t answer, unsigned reply, unsigned about, uint32_t found, uint32_t limit)
+{
+    return rudderfig_reply(answer) == reply && rudderfig_about(answer) == about && rudderfig_found(answer) == found && rudderfig_limit(answer) == limit;
+}
+
+/* An accepted layout is 0. A page of 17 bytes has 120 bits beside the mark, and the blocks need 132. */
+static int explained_layouts(void)
+{
+    uint8_t wrong[MARKED_RECORD];
+
+    CHECK(rudderfig_explain_layout(EDITION, record, RECORD) == 0 && rudderfig_explain_layout(EDITION, marked_record, MARKED_RECORD) == 0);
+    CHECK(explains(rudderfig_explain_layout(3, record, RECORD), RUDDERFIG_OUT_OF_RANGE, RUDDERFIG_ABOUT_EDITION, 3, 2));
+    CHECK(explains(rudderfig_explain_layout(EDITION, record, 7), RUDDERFIG_BUFFER_LENGTH, RUDDERFIG_ABOUT_RECORD, 7, 8));
+    memcpy(wrong, marked_record, MARKED_RECORD);
+    wrong[5] = PAGE;
+    CHECK(explains(rudderfig_explain_layout(EDITION, wrong, MARKED_RECORD), RUDDERFIG_PAGE_TOO_SMALL, RUDDERFIG_ABOUT_PAGE, 132, 120));
+    wrong[11] = 3;
+    CHECK(explains(rudderfig_explain_layout(EDITION, wrong, MARKED_RECORD), RUDDERFIG_MARK_OUTSIDE, RUDDERFIG_ABOUT_PAGE, 3, 0));
+    wrong[9] = PAGE;
+    CHECK(explains(rudderfig_explain_layout(EDITION, wrong, MARKED_RECORD), RUDDERFIG_MARK_OUTSIDE, RUDDERFIG_ABOUT_PAGE, PAGE + MARK, PAGE));
+    wrong[7] = 0;
+    CHECK(explains(rudderfig_explain_layout(EDITION, wrong, MARKED_RECORD), RUDDERFIG_EMPTY_MESSAGE, RUDDERFIG_ABOUT_LATER_BLOCK, 0, 1));
+    wrong[2] = 0xA8;
+    CHECK(explains(rudderfig_explain_layout(EDITION, wrong, MARKED_RECORD), RUDDERFIG_LEVEL_TOO_HIGH, RUDDERFIG_ABOUT_BLOCK_0, 21, 20));
+    return 0;
+}
+
+/* Block 1 with flips at positions 74 and 79, in byte 9; erased with one zero; and ruined. */
+static int explained_blocks(void)
+{
+    uint8_t page[PAGE];
+    uint32_t list[3] = {7, 7, 7};
+    uint64_t answer;
+
+    CHECK(rudderfig_write_page(EDITION, record, RECORD, metadata, METADATA, data, DATA, page, PAGE) == RUDDERFIG_DONE);
+    page[9] = page[9] ^ 0x21;
+    answer = rudderfig_explain_block(EDITION, record, RECORD, page, PAGE, 1, list, 1);
+    CHECK(explains(answer, RUDDERFIG_BUFFER_LENGTH, RUDDERFIG_ABOUT_LENT_LIST, 1, 2));
+    answer = rudderfig_explain_block(EDITION, record, RECORD, page, PAGE, 2, list, 0);
+    CHECK(explains(answer, RUDDERFIG_OUT_OF_RANGE, RUDDERFIG_ABOUT_BLOCK, 2, 2));
+    answer = rudderfig_explain_block(EDITION, record, RECORD, page, PAGE - 1, UINT64_C(0x100000000), list, 3);
+    CHECK(explains(answer, RUDDERFIG_PAGE_LENGTH, RUDDERFIG_ABOUT_LENT_PAGE, PAGE - 1, PAGE));
+    answer = rudderfig_explain_block(EDITION, record, RECORD, page, PAGE, UINT64_C(0x100000000), list, 3);
+    CHECK(explains(answer, RUDDERFIG_OUT_OF_RANGE, RUDDERFIG_ABOUT_BLOCK, 0xFFFFFF, 2));
+    CHECK(list[0] == 7 && list[1] == 7 && list[2] == 7);
+    answer = rudderfig_explain_block(EDITION, record, RECORD, page, PAGE, 1, list, 3);
+    CHECK(explains(answer, RUDDERFIG_DONE, 0, 2, 2) && !rudderfig_explains_erased(answer));
+    CHECK(list[0] == 74 && list[1] == 79 && list[2] == 7);
+
+    memset(page, 0xFF, PAGE);
+    page[10] = 0xFE;
+    answer = rudderfig_explain_block(EDITION, record, RECORD, page, PAGE, 1, list, 2);
+    CHECK(rudderfig_explains_erased(answer) && rudderfig_found(answer) == 1 && rudderfig_limit(answer) == 2);
+    page[15] = 0xFC;
+    answer = rudderfig_explain_block(EDITION, record, RECORD, page, PAGE, 1, list, 2);
+    CHECK(explains(answer, RUDDERFIG_UNCORRECTABLE, RUDDERFIG_ABOUT_BLOCK, 1, 2) && !rudderfig_explains_erased(answer));
+    CHECK(list[0] == 74 && list[1] == 79);
+    return 0;
+}
+
+/* A page bit by the numbers of its place. */
+static int is_place(uint64_t answer, unsigned part, unsigned block, unsigned page_byte, unsigned page_bit, unsigned part_byte)
+{
+    return rudderfig_reply(answer) == RUDDERFIG_DONE && rudderfig_part(answer) == part && rudderfig_part_block(answer) == block &&
+           rudderfig_page_byte(answer) == page_byte && rudderfig_page_bit(answer) == page_bit && rudderfig_part_byte(answer) == part_byte;
+}
+
+/* The message of block 1 starts at position 74, behind 26 bits of parity, with byte 4 of the data. The mark moves it on by 16. */
+static int explained_bits(void)
+{
+    CHECK(is_place(rudderfig_explain_bit(EDITION, record, RECORD, 9), RUDDERFIG_PART_METADATA, 0, 1, 6, 1));
+    CHECK(is_place(rudderfig_explain_bit(EDITION, record, RECORD, 50), RUDDERFIG_PART_PARITY, 0, 6, 5, 0));
+    CHECK(is_place(rudderfig_explain_bit(EDITION, record, RECORD, 74), RUDDERFIG_PART_DATA, 1, 9, 5, 4));
+    CHECK(is_place(rudderfig_explain_bit(EDITION, record, RECORD, 132), RUDDERFIG_PART_TAIL, 0, 16, 3, 0));
+    CHECK(explains(rudderfig_explain_bit(EDITION, record, RECORD, 136), RUDDERFIG_OUT_OF_RANGE, RUDDERFIG_ABOUT_POSITION, 136, 136));
+    CHECK(is_place(rudderfig_explain_bit(EDITION, marked_record, MARKED_RECORD, 8), RUDDERFIG_PART_MARK, 0, 1, 7, 0));
+    CHECK(is_place(rudderfig_explain_bit(EDITION, marked_record, MARKED_RECORD, 90), RUDDERFIG_PART_DATA, 1, 11, 5, 4));
+    return 0;
+}
+
 /* Edition 2: one block of 4 bytes with m = 14 and t = 62, so 868 bits of parity. */
 enum { STRONG_EDITION = 2, LEVEL_FIELD = 31, STRONG = 62, STRONG_DATA = 4, STRONG_PARITY = 109, STRONG_PAGE = 113 };
 
@@ -304,6 +385,8 @@ static int strong_pages(void)
 int main(void)
 {
     if (layouts() || pages() || erased() || marked_layouts() || marked_pages() || strong_layouts() || strong_pages() || remainders() || pieces())
+        return 1;
+    if (explained_layouts() || explained_blocks() || explained_bits())
         return 1;
     printf("every call of version %s answers as it should\n", RUDDERFIG_VERSION);
     return 0;

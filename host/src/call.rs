@@ -88,10 +88,26 @@ pub enum Call {
         state: Vec<u64>,
         parity: Vec<u8>,
     },
+    ExplainLayout {
+        edition: u64,
+        record: Vec<u8>,
+    },
+    ExplainBlock {
+        edition: u64,
+        record: Vec<u8>,
+        page: Vec<u8>,
+        block: u64,
+        list: Vec<u32>,
+    },
+    ExplainBit {
+        edition: u64,
+        record: Vec<u8>,
+        position: u64,
+    },
 }
 
 /// How many kinds of calls there are.
-pub const KINDS: usize = 14;
+pub const KINDS: usize = 17;
 
 /// The replies that each kind of call can give.
 pub const POSSIBLE: [&[usize]; KINDS] = [
@@ -109,6 +125,9 @@ pub const POSSIBLE: [&[usize]; KINDS] = [
     &[0, 1, 2, 3, 7],
     &[0, 6, 7],
     &[0, 6, 7],
+    &[0, 1, 2, 3, 4, 6, 7, 11],
+    &[0, 1, 2, 3, 4, 5, 6, 7, 9, 11],
+    &[0, 1, 2, 3, 4, 6, 7, 11],
 ];
 
 /// An argument of a call: a number, or a buffer of so many elements of so many bytes each, the lowest
@@ -122,7 +141,7 @@ pub enum Argument {
 
 const GUARD_BYTE: u8 = 0x5C;
 const GUARD_PLACE: u16 = 0x5C5C;
-const GUARD_FRAGMENT: u32 = 0x5C5C_5C5C;
+const GUARD_NUMBER: u32 = 0x5C5C_5C5C;
 const GUARD_WORD: u64 = 0x5C5C_5C5C_5C5C_5C5C;
 
 impl Call {
@@ -143,6 +162,9 @@ impl Call {
             Call::ParityStart { .. } => 11,
             Call::ParityFeed { .. } => 12,
             Call::ParityFinish { .. } => 13,
+            Call::ExplainLayout { .. } => 14,
+            Call::ExplainBlock { .. } => 15,
+            Call::ExplainBit { .. } => 16,
         }
     }
 
@@ -163,6 +185,9 @@ impl Call {
             Call::ParityStart { .. } => "rudderfig_parity_start",
             Call::ParityFeed { .. } => "rudderfig_parity_feed",
             Call::ParityFinish { .. } => "rudderfig_parity_finish",
+            Call::ExplainLayout { .. } => "rudderfig_explain_layout",
+            Call::ExplainBlock { .. } => "rudderfig_explain_block",
+            Call::ExplainBit { .. } => "rudderfig_explain_bit",
         }
     }
 
@@ -185,8 +210,15 @@ impl Call {
         };
         let number = |number: &u64| Argument::Number(*number);
         match self {
-            Call::CheckLayout { edition, record } => vec![number(edition), bytes(record)],
+            Call::CheckLayout { edition, record } | Call::ExplainLayout { edition, record } => {
+                vec![number(edition), bytes(record)]
+            }
             Call::LocateBit {
+                edition,
+                record,
+                position,
+            }
+            | Call::ExplainBit {
                 edition,
                 record,
                 position,
@@ -293,6 +325,19 @@ impl Call {
             ],
             Call::ParityFeed { state, piece } => vec![held(state), bytes(piece)],
             Call::ParityFinish { state, parity } => vec![held(state), bytes(parity)],
+            Call::ExplainBlock {
+                edition,
+                record,
+                page,
+                block,
+                list,
+            } => vec![
+                number(edition),
+                bytes(record),
+                bytes(page),
+                number(block),
+                words(list),
+            ],
         }
     }
 
@@ -301,7 +346,9 @@ impl Call {
         match self {
             Call::CheckLayout { record, .. }
             | Call::LocateBit { record, .. }
-            | Call::BitPosition { record, .. } => vec![record],
+            | Call::BitPosition { record, .. }
+            | Call::ExplainLayout { record, .. }
+            | Call::ExplainBit { record, .. } => vec![record],
             Call::WritePage {
                 record,
                 metadata,
@@ -322,9 +369,9 @@ impl Call {
                 data,
                 ..
             } => vec![record, page, metadata, data],
-            Call::JudgeBlock { record, page, .. } | Call::CheckClaim { record, page, .. } => {
-                vec![record, page]
-            }
+            Call::JudgeBlock { record, page, .. }
+            | Call::CheckClaim { record, page, .. }
+            | Call::ExplainBlock { record, page, .. } => vec![record, page],
             Call::LocateErrors { remainder, .. }
             | Call::ExportFragments { remainder, .. }
             | Call::ImportFragments { remainder, .. } => vec![remainder],
@@ -344,12 +391,16 @@ impl Call {
         }
     }
 
-    /// The fragments of a remainder.
-    fn fragments(&mut self) -> Option<&mut Vec<u32>> {
+    /// The fragments of a remainder, or the list of page positions.
+    fn words(&mut self) -> Option<&mut Vec<u32>> {
         match self {
-            Call::ExportFragments { fragments, .. } | Call::ImportFragments { fragments, .. } => {
-                Some(fragments)
+            Call::ExportFragments {
+                fragments: words, ..
             }
+            | Call::ImportFragments {
+                fragments: words, ..
+            }
+            | Call::ExplainBlock { list: words, .. } => Some(words),
             _ => None,
         }
     }
@@ -377,11 +428,11 @@ impl Call {
         }
         let content = self.list().cloned().unwrap_or_default();
         let mut list = Guarded::new(&content, GUARD_PLACE, random);
-        let content = self.fragments().cloned().unwrap_or_default();
-        let mut fragments = Guarded::new(&content, GUARD_FRAGMENT, random);
+        let content = self.words().cloned().unwrap_or_default();
+        let mut words = Guarded::new(&content, GUARD_NUMBER, random);
         let content = self.state().cloned().unwrap_or_default();
         let mut state = Guarded::new(&content, GUARD_WORD, random);
-        let lists = (list.lend(), fragments.lend(), state.lend());
+        let lists = (list.lend(), words.lend(), state.lend());
         let answer = self.lend_to(library, &mut bytes, lists);
         for (buffer, guarded) in self.bytes().into_iter().zip(bytes) {
             *buffer = guarded.content()?;
@@ -390,9 +441,9 @@ impl Call {
         if let Some(list) = self.list() {
             *list = content;
         }
-        let content = fragments.content()?;
-        if let Some(fragments) = self.fragments() {
-            *fragments = content;
+        let content = words.content()?;
+        if let Some(words) = self.words() {
+            *words = content;
         }
         let content = state.content()?;
         if let Some(state) = self.state() {
@@ -405,7 +456,7 @@ impl Call {
         &self,
         library: &dyn Library,
         bytes: &mut [Guarded<u8>],
-        (list, fragments, state): (&mut [u16], &mut [u32], &mut [u64]),
+        (list, words, state): (&mut [u16], &mut [u32], &mut [u64]),
     ) -> u64 {
         let mut lent = bytes.iter_mut().map(Guarded::lend);
         let mut next = || lent.next().unwrap();
@@ -441,10 +492,10 @@ impl Call {
                 library.check_claim(edition, next(), next(), block, list)
             }
             Call::ExportFragments { level_field, .. } => {
-                library.export_fragments(level_field, next(), fragments)
+                library.export_fragments(level_field, next(), words)
             }
             Call::ImportFragments { level_field, .. } => {
-                library.import_fragments(level_field, fragments, next())
+                library.import_fragments(level_field, words, next())
             }
             Call::ParityStart {
                 edition,
@@ -455,6 +506,13 @@ impl Call {
             } => library.parity_start(state, edition, level_field, field_choice, length),
             Call::ParityFeed { .. } => library.parity_feed(state, next()),
             Call::ParityFinish { .. } => library.parity_finish(state, next()),
+            Call::ExplainLayout { edition, .. } => library.explain_layout(edition, next()),
+            Call::ExplainBlock { edition, block, .. } => {
+                library.explain_block(edition, next(), next(), block, words)
+            }
+            Call::ExplainBit {
+                edition, position, ..
+            } => library.explain_bit(edition, next(), position),
         }
     }
 
@@ -476,6 +534,10 @@ impl Call {
                 fragments
                     .iter_mut()
                     .for_each(|fragment| *fragment = random.number() as u32);
+            }
+            Call::ExplainBlock { list, .. } => {
+                list.iter_mut()
+                    .for_each(|place| *place = random.number() as u32);
             }
             Call::ImportFragments { remainder, .. } => *remainder = random.bytes(remainder.len()),
             Call::ParityFinish { parity, .. } => *parity = random.bytes(parity.len()),

@@ -115,6 +115,10 @@ impl<'a> Comparison<'a> {
             edition,
             record: record.to_vec(),
         })?;
+        self.perform(Call::ExplainLayout {
+            edition,
+            record: record.to_vec(),
+        })?;
         let (positions, code_bits) = match check_layout(edition, record) {
             Ok(layout) => (
                 positions(&layout, &mut self.random),
@@ -125,6 +129,11 @@ impl<'a> Comparison<'a> {
         let first = self.random.below(4);
         for position in positions.into_iter().skip(first).step_by(4) {
             self.perform(Call::LocateBit {
+                edition,
+                record: record.to_vec(),
+                position,
+            })?;
+            self.perform(Call::ExplainBit {
                 edition,
                 record: record.to_vec(),
                 position,
@@ -217,7 +226,9 @@ impl<'a> Comparison<'a> {
     /// Calls about one page: each by itself, some spoilt, then several on the same buffers.
     fn page(&mut self, record: LayoutRecord) -> Result<(), Box<Difference>> {
         let written = WrittenPage::new(record, &mut self.random);
-        for call in written.calls(&mut self.random) {
+        let mut calls = written.calls(&mut self.random);
+        calls.extend(written.explanations(&mut self.random));
+        for call in calls {
             let mut spoilt = call.clone();
             self.perform_filled(call)?;
             for _ in 0..self.random.within(1, 3) {

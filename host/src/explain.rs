@@ -161,6 +161,27 @@ pub fn page_parts(layout: &Layout) -> Vec<BitPart> {
     parts
 }
 
+/// The part of a bit of the stream, counted through the blocks up to it.
+fn stream_part(layout: &Layout, mut at: usize) -> BitPart {
+    let mut payload_bits = 0;
+    for block in 0..layout.blocks() {
+        let shape = layout.block(block);
+        if at < shape.message_bits {
+            let byte = (payload_bits + at) / 8;
+            return match byte.checked_sub(layout.metadata_length) {
+                None => BitPart::Metadata { block, byte },
+                Some(byte) => BitPart::Data { block, byte },
+            };
+        }
+        if at < shape.covered_bits() {
+            return BitPart::Parity { block };
+        }
+        at -= shape.covered_bits();
+        payload_bits += shape.message_bits;
+    }
+    BitPart::Tail
+}
+
 /// What is the page bit at a position?
 pub fn explain_bit(edition: u64, record: &[u8], position: u64) -> Result<BitPart, Why> {
     let layout = explain_layout(edition, record)?;
@@ -168,5 +189,6 @@ pub fn explain_bit(edition: u64, record: &[u8], position: u64) -> Result<BitPart
     if position >= bits {
         return Err(Why::new(Reply::OutOfRange, About::Position, position, bits));
     }
-    Ok(page_parts(&layout)[position as usize])
+    let in_stream = layout.stream().position(|place| place as u64 == position);
+    Ok(in_stream.map_or(BitPart::Mark, |at| stream_part(&layout, at)))
 }

@@ -119,4 +119,24 @@ unsafe extern "C" {
     pub fn rudderfig_parity_feed(state: *mut Parity, piece: *const u8, piece_len: usize) -> u64;
 
     pub fn rudderfig_parity_finish(state: *mut Parity, parity: *mut u8, parity_len: usize) -> u64;
+
+    pub fn rudderfig_explain_layout(edition: u64, record: *const u8, record_len: usize) -> u64;
+
+    pub fn rudderfig_explain_block(
+        edition: u64,
+        record: *const u8,
+        record_len: usize,
+        page: *const u8,
+        page_len: usize,
+        block: u64,
+        list: *mut u32,
+        list_len: usize,
+    ) -> u64;
+
+    pub fn rudderfig_explain_bit(
+        edition: u64,
+        record: *const u8,
+        record_len: usize,
+        position: u64,
+    ) -> u64;
 }

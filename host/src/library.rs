@@ -1,5 +1,6 @@
 //! The library as its C interface shows it, and the model in that form.
 
+use crate::explain::{BitPart, Explained, Why, explain_bit, explain_block, explain_layout};
 use crate::fragments::{export_fragments, import_fragments};
 use crate::layout::{BitPlace, bit_position, check_layout, locate_bit};
 use crate::locate::locate_errors;
@@ -78,6 +79,23 @@ pub trait Library {
     fn parity_feed(&self, state: &mut [u64], piece: &[u8]) -> u64;
 
     fn parity_finish(&self, state: &mut [u64], parity: &mut [u8]) -> u64;
+
+    /// 0, or a refusal: what it is about in bits 8 to 15, and the two numbers in bits 16 to 39 and 40 to 63.
+    fn explain_layout(&self, edition: u64, record: &[u8]) -> u64;
+
+    /// A refusal in the same form; flips (0) or zeros (1) and t; on reply 9 the block and t.
+    fn explain_block(
+        &self,
+        edition: u64,
+        record: &[u8],
+        page: &[u8],
+        block: u64,
+        list: &mut [u32],
+    ) -> u64;
+
+    /// A refusal in the same form; or the part in bits 8 to 15, its block in bits 16 to 23, bit and byte of the page in
+    /// bits 24 to 31 and 32 to 47, and the byte of metadata or data in bits 48 to 63.
+    fn explain_bit(&self, edition: u64, record: &[u8], position: u64) -> u64;
 }
 
 /// The answer word of a call that is done with a kind and a value, or refused.
@@ -86,6 +104,40 @@ fn answer(outcome: Result<(u8, usize), Refusal>) -> u64 {
         Ok((kind, value)) => (kind as u64) << 24 | (value as u64) << 32,
         Err(refusal) => refusal.number() as u64 | (refusal.block as u64) << 8,
     }
+}
+
+/// The word of an explanation; a number of more than 24 bits shows as the largest.
+pub fn explanation(reply: u64, about: u64, found: u64, limit: u64) -> u64 {
+    let shown = |number: u64| number.min(0xFF_FFFF);
+    reply | about << 8 | shown(found) << 16 | shown(limit) << 40
+}
+
+/// The word of a refusal with its two numbers.
+fn refused(why: Why) -> u64 {
+    explanation(why.reply as u64, why.about as u64, why.found, why.limit)
+}
+
+/// The word of what became of a block.
+fn explained(explained: Explained) -> u64 {
+    match explained {
+        Explained::Flips { count, t } => explanation(0, 0, count as u64, t as u64),
+        Explained::Erased { zeros, t } => explanation(0, 1, zeros as u64, t as u64),
+        Explained::Ruined { block, t } => explanation(9, 8, block as u64, t as u64),
+    }
+}
+
+/// The word of a page bit's part.
+fn placed(part: BitPart, position: u64) -> u64 {
+    let (kind, block, byte) = match part {
+        BitPart::Metadata { block, byte } => (1, block, byte),
+        BitPart::Data { block, byte } => (2, block, byte),
+        BitPart::Parity { block } => (3, block, 0),
+        BitPart::Tail => (4, 0, 0),
+        BitPart::Mark => (5, 0, 0),
+    };
+    let page_bit = 7 - position % 8;
+    let of_part = kind << 8 | (block as u64) << 16 | (byte as u64) << 48;
+    of_part | page_bit << 24 | (position / 8) << 32
 }
 
 /// The model of documents 01 and 02.
@@ -189,5 +241,24 @@ impl Library for Model {
 
     fn parity_finish(&self, state: &mut [u64], parity: &mut [u8]) -> u64 {
         answer(finish_state(state, parity).map(|()| (0, 0)))
+    }
+
+    fn explain_layout(&self, edition: u64, record: &[u8]) -> u64 {
+        explain_layout(edition, record).map_or_else(refused, |_| 0)
+    }
+
+    fn explain_block(
+        &self,
+        edition: u64,
+        record: &[u8],
+        page: &[u8],
+        block: u64,
+        list: &mut [u32],
+    ) -> u64 {
+        explain_block(edition, record, page, block, list).map_or_else(refused, explained)
+    }
+
+    fn explain_bit(&self, edition: u64, record: &[u8], position: u64) -> u64 {
+        explain_bit(edition, record, position).map_or_else(refused, |part| placed(part, position))
     }
 }

@@ -141,6 +141,10 @@ fn the_parts_of_a_written_page_are_what_they_are_called() {
                     .all(|part| matches!(part, BitPart::Parity { .. }))
             );
         }
+        for (position, &part) in parts.iter().enumerate() {
+            let told = explain_bit(written.edition, &written.record, position as u64);
+            assert_eq!(told, Ok(part), "position {position}");
+        }
         let bits = 8 * written.page.len() as u64;
         let past = explain_bit(written.edition, &written.record, bits).unwrap_err();
         assert_eq!(

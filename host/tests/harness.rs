@@ -80,6 +80,17 @@ fn faulty_libraries_are_found_out() {
         Fault::MarkAsTail,
         Fault::MarkAsCovered,
         Fault::PositionInStream,
+        Fault::RuleByBlock,
+        Fault::LaterBlockNamed,
+        Fault::NumbersSwapped,
+        Fault::SumAfterZeroBits,
+        Fault::ExplainedEditionCut,
+        Fault::LengthWantedLeftOut,
+        Fault::ParityAsData,
+        Fault::MetadataAsData,
+        Fault::BitFromTheOtherEnd,
+        Fault::ByteOfThePage,
+        Fault::PositionOfTheStream,
     ];
     let remainders = [
         Fault::LocateForgetsEdition,
@@ -149,6 +160,19 @@ fn faulty_libraries_are_found_out() {
         Fault::ZerosOfMessageAlone,
         Fault::ZerosWithoutEcc,
         Fault::EqualClaimsAccepted,
+        Fault::FlipLeftOut,
+        Fault::FlipsDescending,
+        Fault::FlipsAsExponents,
+        Fault::FlipOfTheTail,
+        Fault::ListClearedBehind,
+        Fault::ListWrittenForErased,
+        Fault::ListWrittenForRuined,
+        Fault::ListWrittenForShort,
+        Fault::ShortListTaken,
+        Fault::ListBeforeBlock,
+        Fault::ErasedExplainedAsFlips,
+        Fault::ZerosOneMore,
+        Fault::RuinedWithoutBlock,
     ];
     assert_eq!(not_found(&layouts, |c| c.layouts().is_err()), []);
     assert_eq!(not_found(&remainders, |c| c.remainders().is_err()), []);

@@ -28,7 +28,7 @@ fn library_text() -> String {
 #[test]
 fn header_declarations_and_library_agree() {
     let header = header_calls(&read("include/rudderfig.h"));
-    assert!(header.len() >= 14);
+    assert!(header.len() >= 17);
     assert_eq!(header, test_calls(&read("host/src/interface.rs")));
     assert_eq!(header, library_calls(&library_text()));
 }

@@ -1,4 +1,4 @@
--- The answer word: what every call of the C interface returns, four numbers in 64 bits.
+-- The answer word: what every call of the C interface returns but those that explain, four numbers in 64 bits.
 --
 -- answerWord reply block kind value   reply in bits 0 to 7, the reply's block in bits 8 to 23, kind in bits 24 to 31, value in bits 32 to 63
 -- doneWord kind value                 the word of reply 0

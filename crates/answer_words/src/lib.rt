@@ -1,4 +1,4 @@
-// The answer word, which every call of the C interface returns: four numbers in 64 bits.
+// The answer word, which every call of the C interface returns but those that explain: four numbers in 64 bits.
 ghost use mathlib.Core.Path.{_≡_};
 use replies::Refusal;
 use replies::refusal_block;

@@ -3,7 +3,7 @@
 pub fn unknown(out: &mut [u8; 32768]) {
     say::error(
         out,
-        b"the commands are layout, bits, write, read, look, salvage, compare, judge, claim, locate and fragments; nandpage --help says more",
+        b"the commands are layout, bits, write, read, look, salvage, compare, judge, explain, claim, locate and fragments; nandpage --help says more",
     );
 }
 
@@ -49,6 +49,14 @@ fn other_commands(out: &mut [u8; 32768]) {
     );
     say::put(
         out,
+        b"  nandpage explain WORD0 WORD1                    why a layout is refused: the rule, what breaks it, the numbers compared\n",
+    );
+    say::put(
+        out,
+        b"  nandpage explain WORD0 WORD1 PAGE BLOCK         what became of one block, flip by flip, and what can be done\n",
+    );
+    say::put(
+        out,
         b"  nandpage claim WORD0 WORD1 PAGE BLOCK EXPONENT..   are these the wrong bits of the block?\n",
     );
     say::put(
@@ -89,11 +97,11 @@ fn options(out: &mut [u8; 32768]) {
     );
     say::put(
         out,
-        b"bits, judge and claim: --page K, page K of a dump. Of compare: --map, a character a block, which shows how much of its level is\n",
+        b"bits, judge, explain and claim: --page K, page K of a dump. Of compare: --map, a character a block, which shows how much of its\n",
     );
     say::put(
         out,
-        b"used up (. none, 1 to 9 tenths, # all, X ruined, - erased), a line a page, of one dump or of two beside each other.\n",
+        b"level is used up (. none, 1 to 9 tenths, # all, X ruined, - erased), a line a page, of one dump or of two beside each other.\n",
     );
 }
 

@@ -3,9 +3,9 @@
 //   main.rt   which command is asked for
 //   help.rt   the help
 //
-// The commands are libraries: layout_commands, page_commands, write_command, read_command, compare_command and locator_commands. They stand on `arguments`
-// (what the arguments say), `files` and `streams` (files, read into buffers and written from them), `plans` (the plan of a page under the
-// layout words), `page_lines` (a page's line), `say` (what is printed) and `text`.
+// The commands are libraries: layout_commands, page_commands, write_command, read_command, compare_command, explain_command and
+// locator_commands. They stand on `arguments` (what the arguments say), `files` and `streams` (files, read into buffers and written from
+// them), `plans` (the plan of a page under the layout words), `page_lines` (a page's line), `say` (what is printed) and `text`.
 //
 // Each command prints one answer that starts with `reply` and document 01's number, or one error line and no reply. What is
 // answered comes from the proved calls; here it is only put into words. scripts/nandpage is told the exit status.
@@ -21,6 +21,7 @@ enum Command {
     Salvage,
     Compare,
     Judge,
+    Explain,
     Locate,
     Fragments,
     Claim,
@@ -57,6 +58,9 @@ fn other_command(name: &[u8]) -> Command {
     if check::same(name, b"judge") {
         return Command::Judge;
     }
+    if check::same(name, b"explain") {
+        return Command::Explain;
+    }
     if check::same(name, b"locate") {
         return Command::Locate;
     }
@@ -88,6 +92,7 @@ fn run(out: &mut [u8; 32768], command: Command) {
         Command::Salvage => read_command::salvage(out),
         Command::Compare => compare_command::compare(out),
         Command::Judge => page_commands::judge(out),
+        Command::Explain => explain_command::explain(out),
         Command::Locate => locator_commands::locate(out),
         Command::Fragments => locator_commands::fragments(out),
         Command::Claim => page_commands::claim(out),

@@ -5,7 +5,7 @@
 //   claiming.rt   the command claim
 mod claiming;
 mod judging;
-mod loading;
+pub mod loading;
 
 pub use claiming::claim;
 pub use judging::judge;

@@ -19,8 +19,12 @@ use Rattle.page_judge.specs.declared.JudgeAnswer.the-variants as judge
 use Rattle.page_look.specs.Answers.{lookNumber, lookBlock}
 use Rattle.page_take.specs.Answers.{takeNumber, takeBlock}
 use Rattle.page_judge.specs.Answers.{judgeNumber, judgeBlock, judgeFlips}
+use Rattle.page_explain.specs.declared.BlockAnswer.{BlockAnswer}
+use Rattle.page_explain.specs.Explain.{Explained, explained}
+use Rattle.explain_words.specs.Words.{blockWord}
 use Rattle.page_theory.specs.Calls.{Written, writeEnded, Looked, lookEnded, Taken, takeEnded, Judged, judgeEnded, Claimed, claimEnded}
 use Rattle.answer_words.specs.Answer.{doneWord, refusedWord}
+use Rattle.rudderfig.specs.Explaining.{ExplainReturns}
 use Rattle.rudderfig.specs.Pages.{WriteReturns, LookReturns, TakeReturns, judgeWord, claimWord}
 
 module _ {a : WriteAnswer} {w : Written} {p : List ℕ} {r : ℕ} (e : writeEnded (writeNumber a) (writeBlock a) p ≡ w) where
@@ -67,3 +71,6 @@ module _ {a : ClaimAnswer} {w : Claimed} {r : ℕ} (e : claimEnded (claimNumber 
   pub claim-refused : {x : Refusal} {n : ℕ} → a ≡ claim.Refused x → n ≡ number x → r ≡ refusedWord n 0 → r ≡ claimWord w
   unfolding refusedWord claimWord claimNumber
   claim-refused h l k = k ∙ simp (l, sym e, h)
+
+pub explain-returns : {a : BlockAnswer} {w : Explained} {l : List ℕ} {r : ℕ} → explained a l ≡ w → r ≡ blockWord a → ExplainReturns w r l
+explain-returns e k = record { word = k ∙ ap (λ w. blockWord (w .answer)) e; list = ap (λ w. w .list) e }

@@ -4,3 +4,4 @@ pub mod Pages
 pub mod Locating
 pub mod Fragments
 pub mod Pieces
+pub mod Explaining

@@ -11,10 +11,12 @@
 //   rudderfig_locate_errors    from a remainder alone, which bits are wrong?
 //   locator.rt has two more, which hand a remainder to a hardware locator and take it back
 //   parity.rt has three more, which take one block's message in pieces
+//   explaining.rt has three more, which explain layouts, blocks and page bits in words of their own
 //
 // Each passes its arguments on to the call of the crate that answers the question, and puts the answer into a word (crate `answer_words`):
 // reply, the reply's block, a kind and a value. None asks anything of its caller but that a slice is one: include/rudderfig.h
 // says what that means in C.
+mod explaining;
 mod locator;
 mod parity;
 

@@ -85,6 +85,17 @@ impl WrittenPage {
         }
     }
 
+    /// Explaining a block, with t places in the list or some more.
+    pub fn explain(&self, page: Vec<u8>, block: usize, more: usize) -> Call {
+        Call::ExplainBlock {
+            edition: self.edition,
+            record: self.record.clone(),
+            page,
+            block: block as u64,
+            list: vec![0; self.layout.block(block).t() + more],
+        }
+    }
+
     pub fn claim(&self, page: Vec<u8>, block: usize, claims: Vec<u16>) -> Call {
         Call::CheckClaim {
             edition: self.edition,
@@ -113,6 +124,25 @@ impl WrittenPage {
         calls.extend(self.erased_calls(random));
         calls.extend(self.read(self.ruined(random)));
         calls
+    }
+
+    /// Explaining blocks of this page: as written, damaged within t and past it, erased, and of random bytes.
+    pub fn explanations(&self, random: &mut Random) -> Vec<Call> {
+        let any = random.below(self.layout.blocks());
+        let mut asked = vec![
+            (self.page.clone(), any),
+            (random.bytes(self.page.len()), any),
+        ];
+        let damaged = self.damaged(random);
+        for _ in 0..2 {
+            asked.push((damaged.clone(), random.below(self.layout.blocks())));
+            asked.push(self.overdamaged(random));
+            asked.push(self.erased(random));
+        }
+        let asked = asked.into_iter();
+        asked
+            .map(|(page, block)| self.explain(page, block, random.pick(&[0, 0, 1, 9])))
+            .collect()
     }
 
     fn claims(&self, random: &mut Random) -> Vec<Call> {
@@ -269,6 +299,20 @@ pub fn spoil(call: &mut Call, random: &mut Random) {
             0 => spoil_record(record, random),
             1 => spoil_length(page, random),
             2 => spoil_edition(edition, random),
+            _ => spoil_block(block, record, random),
+        },
+        Call::ExplainBlock {
+            edition,
+            record,
+            page,
+            block,
+            list,
+        } => match random.below(6) {
+            0 => spoil_record(record, random),
+            1 => spoil_length(page, random),
+            2 => spoil_edition(edition, random),
+            3 => drop(list.pop()),
+            4 => list.truncate(random.below(list.len() + 1)),
             _ => spoil_block(block, record, random),
         },
         _ => (),

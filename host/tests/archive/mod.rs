@@ -221,4 +221,36 @@ impl Library for Archive {
         let state = state.as_mut_ptr().cast();
         unsafe { interface::rudderfig_parity_finish(state, self.of_mut(parity), parity.len()) }
     }
+
+    fn explain_layout(&self, edition: u64, record: &[u8]) -> u64 {
+        unsafe { interface::rudderfig_explain_layout(edition, self.of(record), record.len()) }
+    }
+
+    fn explain_block(
+        &self,
+        edition: u64,
+        record: &[u8],
+        page: &[u8],
+        block: u64,
+        list: &mut [u32],
+    ) -> u64 {
+        unsafe {
+            interface::rudderfig_explain_block(
+                edition,
+                self.of(record),
+                record.len(),
+                self.of(page),
+                page.len(),
+                block,
+                self.of_mut(list),
+                list.len(),
+            )
+        }
+    }
+
+    fn explain_bit(&self, edition: u64, record: &[u8], position: u64) -> u64 {
+        unsafe {
+            interface::rudderfig_explain_bit(edition, self.of(record), record.len(), position)
+        }
+    }
 }

@@ -1,8 +1,9 @@
 //! Libraries that do one thing wrongly.
 
 use model::bits::put;
+use model::explain::About;
 use model::layout::{Layout, LayoutRecord};
-use model::library::{Library, Model};
+use model::library::{Library, Model, explanation};
 use model::outcome::zeros;
 use model::page::{RUINED, block_word};
 use model::{Reply, check_layout};
@@ -91,6 +92,30 @@ pub enum Fault {
     StateWrittenOnRefusal,
     StateWrittenByFinish,
     PieceTakenInPart,
+    RuleByBlock,
+    LaterBlockNamed,
+    NumbersSwapped,
+    SumAfterZeroBits,
+    ExplainedEditionCut,
+    LengthWantedLeftOut,
+    ParityAsData,
+    MetadataAsData,
+    BitFromTheOtherEnd,
+    ByteOfThePage,
+    PositionOfTheStream,
+    FlipLeftOut,
+    FlipsDescending,
+    FlipsAsExponents,
+    FlipOfTheTail,
+    ListClearedBehind,
+    ListWrittenForErased,
+    ListWrittenForRuined,
+    ListWrittenForShort,
+    ShortListTaken,
+    ListBeforeBlock,
+    ErasedExplainedAsFlips,
+    ZerosOneMore,
+    RuinedWithoutBlock,
 }
 
 /// The model with a fault, and what it answered to the last look.
@@ -110,6 +135,7 @@ const MARK_OUTSIDE: u64 = Reply::MarkOutside as u64;
 const START_BIT: u32 = 0x1_0000;
 const IN_TAIL: u64 = 1 << 24;
 const IN_MARK: u64 = 2 << 24;
+const NUMBER: u64 = 0xFF_FFFF;
 
 /// The counts of a page by the model.
 fn counts_of(edition: u64, record: &[u8], page: &[u8]) -> Vec<u8> {
@@ -144,6 +170,23 @@ fn mark_is_bad(edition: u64, record: &[u8], page: &[u8]) -> bool {
     page[mark.start / 8..mark.end / 8]
         .iter()
         .any(|&byte| byte != 0xFF)
+}
+
+/// The explanation of a record whose later blocks are left out, if it is refused.
+fn block0_alone(edition: u64, record: &[u8]) -> Option<u64> {
+    let mut alone = record.to_vec();
+    alone[0] = 0;
+    let answer = Model.explain_layout(edition, &alone);
+    (answer >> 8 & 0xFF == About::Block0 as u64).then_some(answer)
+}
+
+/// The explanation of a record whose block 0 has the later blocks' fields, about these, if it gives the same reply.
+fn later_alone(edition: u64, record: &[u8], reply: u64) -> Option<u64> {
+    let mut alone = record.to_vec();
+    (alone[1], alone[2], alone[3]) = (0, record[6], record[7]);
+    let answer = Model.explain_layout(edition, &alone);
+    let block0 = answer >> 8 & 0xFF == About::Block0 as u64;
+    (record[0] > 0 && block0 && answer & 0xFF == reply).then_some(answer + (1 << 8))
 }
 
 impl Faulty {
@@ -489,5 +532,97 @@ impl Library for Faulty {
             state[3] = 0;
         }
         answer
+    }
+
+    fn explain_layout(&self, edition: u64, record: &[u8]) -> u64 {
+        let answer = Model.explain_layout(edition, record);
+        let (about, found, limit) = (answer >> 8 & 0xFF, answer >> 16 & NUMBER, answer >> 40);
+        let layout = || Layout::from(LayoutRecord::unpack(record).unwrap());
+        match self.fault {
+            Fault::NumbersSwapped => explanation(answer & 0xFF, about, limit, found),
+            Fault::LengthWantedLeftOut if about == About::Record as u64 => answer & (1 << 40) - 1,
+            Fault::ExplainedEditionCut => Model.explain_layout(edition & 0xFF, record),
+            Fault::RuleByBlock if about == About::LaterBlock as u64 => {
+                block0_alone(edition, record).unwrap_or(answer)
+            }
+            Fault::LaterBlockNamed if about == About::Block0 as u64 => {
+                later_alone(edition, record, answer & 0xFF).unwrap_or(answer)
+            }
+            Fault::SumAfterZeroBits if answer & 0xFF == MARK_OUTSIDE => {
+                let zero_bits = layout().mark.zero_bits as u64;
+                match zero_bits {
+                    0 => answer,
+                    _ => explanation(MARK_OUTSIDE, about, zero_bits, 0),
+                }
+            }
+            _ => answer,
+        }
+    }
+
+    fn explain_block(
+        &self,
+        edition: u64,
+        record: &[u8],
+        page: &[u8],
+        block: u64,
+        list: &mut [u32],
+    ) -> u64 {
+        let answer = Model.explain_block(edition, record, page, block, list);
+        let (reply, kind, found) = (answer & 0xFF, answer >> 8 & 0xFF, answer >> 16 & NUMBER);
+        let t = answer >> 40;
+        let count = found as usize;
+        let flips = (reply, kind) == (0, 0) && count > 0;
+        match self.fault {
+            Fault::FlipLeftOut if flips => return explanation(0, 0, found - 1, t),
+            Fault::FlipsDescending if flips => list[..count].reverse(),
+            Fault::FlipsAsExponents if flips => {
+                for place in &mut list[..count] {
+                    *place = Model.locate_bit(edition, record, *place as u64) as u32;
+                }
+            }
+            Fault::FlipOfTheTail if flips => list[count - 1] = 8 * page.len() as u32 - 1,
+            Fault::ListClearedBehind if reply == 0 && kind == 0 => list[count..].fill(0),
+            Fault::ListWrittenForErased if (reply, kind) == (0, 1) => list.fill(0),
+            Fault::ListWrittenForRuined if reply == UNCORRECTABLE => list.fill(0),
+            Fault::ListWrittenForShort if reply == BUFFER_LENGTH => list.fill(0),
+            Fault::ShortListTaken if reply == BUFFER_LENGTH && kind == About::LentList as u64 => {
+                let mut long = vec![0; 64];
+                let answer = Model.explain_block(edition, record, page, block, &mut long);
+                list.copy_from_slice(&long[..list.len()]);
+                return answer;
+            }
+            Fault::ListBeforeBlock if kind == About::BlockNumber as u64 && list.is_empty() => {
+                return explanation(BUFFER_LENGTH, About::LentList as u64, 0, 1);
+            }
+            Fault::ErasedExplainedAsFlips if (reply, kind) == (0, 1) => {
+                return explanation(0, 0, found, t);
+            }
+            Fault::ZerosOneMore if (reply, kind) == (0, 1) => {
+                return explanation(0, 1, found + 1, t);
+            }
+            Fault::RuinedWithoutBlock if reply == UNCORRECTABLE => {
+                return explanation(reply, kind, 0, t);
+            }
+            _ => (),
+        }
+        answer
+    }
+
+    fn explain_bit(&self, edition: u64, record: &[u8], position: u64) -> u64 {
+        let answer = Model.explain_bit(edition, record, position);
+        if answer & 0xFF != 0 {
+            return answer;
+        }
+        let (part, page_bit) = (answer >> 8 & 0xFF, answer >> 24 & 0xFF);
+        match (self.fault, part) {
+            (Fault::ParityAsData, 3) => answer ^ 1 << 8,
+            (Fault::MetadataAsData, 1) => answer ^ 3 << 8,
+            (Fault::BitFromTheOtherEnd, _) => answer ^ (page_bit ^ (7 - page_bit)) << 24,
+            (Fault::ByteOfThePage, 1 | 2) => answer & (1 << 48) - 1 | (answer >> 32 & 0xFFFF) << 48,
+            (Fault::PositionOfTheStream, 1..=4) => {
+                Model.explain_bit(edition, &record[..8], position)
+            }
+            _ => answer,
+        }
     }
 }

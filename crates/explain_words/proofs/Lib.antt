@@ -1,0 +1,3 @@
+-- The laws behind words of explanations.
+pub mod Shown
+pub mod Apart

@@ -1,0 +1,2 @@
+-- Explanations in words of 64 bits.
+pub mod Words
