@@ -1,8 +1,10 @@
-//! The store of layouts with version numbers, and the version in use at each chip select (document 02, E11).
+//! The store of layouts with version numbers, the version in use at each chip select, and the page calls that name a
+//! version (document 02, E11).
 //!
 //! Like the other calls of the model each takes any arguments, and a refused call changes nothing.
 
 use crate::layout::check_layout;
+use crate::page::{check_claim, judge_block, look_page, take_page, write_page};
 use crate::reply::{Refusal, Reply};
 use std::collections::BTreeMap;
 
@@ -43,6 +45,12 @@ impl From<Reply> for StoreRefusal {
     }
 }
 
+impl From<Refusal> for StoreRefusal {
+    fn from(refusal: Refusal) -> StoreRefusal {
+        StoreRefusal::Table(refusal)
+    }
+}
+
 /// An edition and a record, as they were handed in.
 #[derive(Clone, Debug, PartialEq, Eq)]
 pub struct Stored {
@@ -69,7 +77,7 @@ impl Store {
     }
 
     /// What a version was stored with; an unknown version is 7.
-    pub fn layout(&self, version: u64) -> Result<&Stored, StoreRefusal> {
+    pub fn layout(&self, version: u64) -> Result<&Stored, Refusal> {
         self.layouts.get(&version).ok_or(Reply::OutOfRange.into())
     }
 
@@ -83,10 +91,10 @@ impl Store {
 
     /// A version that may be put to use: 0 for none, or one of the store's.
     fn usable(&self, version: u64) -> Result<u64, StoreRefusal> {
-        if version == 0 {
-            return Ok(0);
+        if version != 0 {
+            self.layout(version)?;
         }
-        self.layout(version).map(|_| version)
+        Ok(version)
     }
 
     pub fn store_layout(&mut self, edition: u64, record: &[u8]) -> Result<u64, StoreRefusal> {
@@ -148,5 +156,57 @@ impl Store {
         }
         self.in_use = loaded;
         Ok(())
+    }
+}
+
+/// The page calls: the call with what the version was stored with. An unknown version is looked at before everything
+/// else.
+impl Store {
+    pub fn write_version(
+        &self,
+        version: u64,
+        metadata: &[u8],
+        data: &[u8],
+        page: &mut [u8],
+    ) -> Result<(), Refusal> {
+        let Stored { edition, record } = self.layout(version)?;
+        write_page(*edition, record, metadata, data, page)
+    }
+
+    pub fn look_version(
+        &self,
+        version: u64,
+        page: &[u8],
+        counts: &mut [u8],
+    ) -> Result<(), Refusal> {
+        let Stored { edition, record } = self.layout(version)?;
+        look_page(*edition, record, page, counts)
+    }
+
+    pub fn take_version(
+        &self,
+        version: u64,
+        page: &[u8],
+        metadata: &mut [u8],
+        data: &mut [u8],
+    ) -> Result<(), Refusal> {
+        let Stored { edition, record } = self.layout(version)?;
+        take_page(*edition, record, page, metadata, data)
+    }
+
+    pub fn judge_version(&self, version: u64, page: &[u8], block: u64) -> Result<usize, Refusal> {
+        let Stored { edition, record } = self.layout(version)?;
+        judge_block(*edition, record, page, block)
+    }
+
+    pub fn claim_version(
+        &self,
+        version: u64,
+        page: &[u8],
+        block: u64,
+        claims: &[u16],
+    ) -> Result<(), Refusal> {
+        let Stored { edition, record } = self.layout(version)?;
+        check_claim(*edition, record, page, block, claims)
     }
 }

@@ -102,3 +102,44 @@ fn a_load_sets_all_or_nothing_and_undoes_a_write() {
     assert_eq!(store.load_versions(&bytes), Ok(()));
     assert_eq!(store, before);
 }
+
+#[test]
+fn a_page_call_under_an_unknown_version_is_7_before_everything_else() {
+    let mut store = filled(2);
+    assert_eq!(store.remove_version(1), Ok(()));
+    let unknown = Err(Reply::OutOfRange.into());
+    for version in [0, 1, 3, 65_538, u64::MAX] {
+        let (mut page, mut counts) = ([0xA5; 3], [0xA5; 5]);
+        let lent = (page, counts);
+        assert_eq!(store.write_version(version, &[], &[], &mut page), unknown);
+        assert_eq!(store.look_version(version, &page, &mut counts), unknown);
+        assert_eq!(
+            store.take_version(version, &[], &mut page, &mut counts),
+            unknown
+        );
+        assert_eq!(
+            store.judge_version(version, &page, 9),
+            unknown.map(|()| 0usize)
+        );
+        assert_eq!(store.claim_version(version, &page, 9, &[7, 7]), unknown);
+        assert_eq!((page, counts), lent);
+    }
+}
+
+#[test]
+fn a_page_is_read_under_the_version_it_was_written_under_or_one_of_the_same_layout() {
+    let mut store = filled(1);
+    let data = [1, 2, 3, 4, 5, 6, 7, 8];
+    let mut page = [0; 15];
+    assert_eq!(store.write_version(1, &[], &data, &mut page), Ok(()));
+    page[0] ^= 0x80;
+    assert_eq!(store.judge_version(1, &page, 0), Ok(1));
+    assert_eq!(store.claim_version(1, &page, 0, &[57]), Ok(()));
+    assert_eq!(store.store_layout(2, &ACCEPTED), Ok(2));
+    assert_eq!(store.remove_version(1), Ok(()));
+    let (mut counts, mut taken) = ([0xA5; 2], [0xA5; 8]);
+    assert_eq!(store.look_version(2, &page, &mut counts), Ok(()));
+    assert_eq!(counts, [1, 0]);
+    assert_eq!(store.take_version(2, &page, &mut [], &mut taken), Ok(()));
+    assert_eq!(taken, data);
+}

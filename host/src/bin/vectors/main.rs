@@ -12,6 +12,7 @@ mod pages;
 mod roots;
 mod sectors;
 mod store;
+mod store_pages;
 
 use model::store::NUMBERS;
 use model::{Refusal, Reply};
@@ -89,6 +90,12 @@ impl From<Refusal> for Answer {
 impl From<Reply> for Answer {
     fn from(reply: Reply) -> Answer {
         Refusal::from(reply).into()
+    }
+}
+
+impl From<Result<(), Refusal>> for Answer {
+    fn from(outcome: Result<(), Refusal>) -> Answer {
+        outcome.map_or_else(Answer::from, |()| Answer::done())
     }
 }
 

@@ -9,7 +9,7 @@ use model::samples::erased::edge_layouts;
 use model::samples::layouts::{CASE_A, accepted_words, strong_words};
 use model::samples::marks::marked;
 use model::samples::pages::{WrittenPage, spoil};
-use model::{Refusal, check_claim, check_layout, judge_block, look_page, take_page, write_page};
+use model::{check_claim, check_layout, judge_block, look_page, take_page, write_page};
 
 pub fn vectors() -> Vectors {
     let mut vectors = Vectors::default();
@@ -215,7 +215,7 @@ fn add(vectors: &mut Vectors, call: &Call) {
             input.extend([0; 4]);
             input.extend([metadata.as_slice(), &data].concat());
             let reply = write_page(edition, &record, &metadata, &data, &mut page);
-            vectors.add(&input, answer(reply).with_bytes(&page));
+            vectors.add(&input, Answer::from(reply).with_bytes(&page));
         }
         Call::LookPage {
             edition,
@@ -227,7 +227,7 @@ fn add(vectors: &mut Vectors, call: &Call) {
             input.extend([0; 8]);
             input.extend(&page);
             let reply = look_page(edition, &record, &page, &mut counts);
-            vectors.add(&input, answer(reply).with_bytes(&counts));
+            vectors.add(&input, Answer::from(reply).with_bytes(&counts));
         }
         Call::TakePage {
             edition,
@@ -240,8 +240,9 @@ fn add(vectors: &mut Vectors, call: &Call) {
             input.extend((data.len() as u32).to_be_bytes());
             input.extend([0; 4]);
             input.extend(&page);
-            let answer = answer(take_page(edition, &record, &page, &mut metadata, &mut data));
-            vectors.add(&input, answer.with_bytes(&metadata).with_bytes(&data));
+            let reply = take_page(edition, &record, &page, &mut metadata, &mut data);
+            let answer = Answer::from(reply).with_bytes(&metadata).with_bytes(&data);
+            vectors.add(&input, answer);
         }
         Call::JudgeBlock {
             edition,
@@ -269,19 +270,10 @@ fn add(vectors: &mut Vectors, call: &Call) {
             input.extend(block.to_be_bytes());
             input.extend(&page);
             input.extend(claims.iter().flat_map(|claim| claim.to_be_bytes()));
-            vectors.add(
-                &input,
-                answer(check_claim(edition, &record, &page, block, &claims)),
-            );
+            let reply = check_claim(edition, &record, &page, block, &claims);
+            vectors.add(&input, reply.into());
         }
         other => panic!("no call about a page: {other:?}"),
-    }
-}
-
-fn answer(reply: Result<(), Refusal>) -> Answer {
-    match reply {
-        Ok(()) => Answer::done(),
-        Err(refusal) => refusal.into(),
     }
 }
 

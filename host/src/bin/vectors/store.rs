@@ -1,4 +1,4 @@
-//! Vectors of the store: sequences of calls, one a line.
+//! Vectors of the store: sequences of calls, one a line. `store_pages.rs` has the page calls that name a version.
 
 use crate::{Answer, Vectors};
 use model::random::Random;
@@ -22,13 +22,14 @@ pub fn vectors() -> Vectors {
         }
     }
     run.to_the_last_number(&mut random);
+    run.page_calls();
     run.vectors
 }
 
 /// A sequence of calls, the model's store, and the records that are handed in.
-struct Run {
-    vectors: Vectors,
-    store: Store,
+pub struct Run {
+    pub vectors: Vectors,
+    pub store: Store,
     records: Vec<Vec<u8>>,
 }
 
@@ -44,11 +45,9 @@ impl Run {
     }
 
     /// Makes a call, and adds its line and the model's answer.
-    fn call(&mut self, kind: u8, first: u64, second: u64, bytes: &[u8]) {
+    pub fn call(&mut self, kind: u8, first: u64, second: u64, bytes: &[u8]) {
         let answer = self.answer(kind, first, second, bytes);
-        let digits: String = bytes.iter().map(|byte| format!("{byte:02x}")).collect();
-        let (kind, length, width) = (kind as char, bytes.len(), 2 * ROOM);
-        let line = format!("{kind} {first:016x} {second:016x} {length:02x} {digits:.<width$}\n");
+        let line = format!("{}\n", start(kind, first, second, bytes));
         self.vectors.add(line.as_bytes(), answer);
     }
 
@@ -126,7 +125,7 @@ impl Run {
     }
 
     /// A version that the store holds, mostly, or any number.
-    fn version(&self, random: &mut Random) -> u64 {
+    pub fn version(&self, random: &mut Random) -> u64 {
         let versions = self.store.versions();
         if versions.is_empty() || random.chance(6) {
             return random.pick(&[0, 1, 33, 65_535, 65_536, 65_537, u64::MAX]);
@@ -134,7 +133,7 @@ impl Run {
         random.pick(&versions)
     }
 
-    fn random_call(&mut self, random: &mut Random) {
+    pub fn random_call(&mut self, random: &mut Random) {
         let version = self.version(random);
         let chip = random.within(0, CHIP_SELECTS) as u64;
         let edition = random.pick(&[1, 1, 2, 2, 2, 3]);
@@ -201,6 +200,18 @@ impl Run {
         }
         self.call(b'C', 1, 3, &ACCEPTED);
     }
+}
+
+/// What every line starts with.
+pub fn start(kind: u8, first: u64, second: u64, bytes: &[u8]) -> String {
+    let digits = digits(bytes);
+    let (kind, length, width) = (kind as char, bytes.len(), 2 * ROOM);
+    format!("{kind} {first:016x} {second:016x} {length:02x} {digits:.<width$}")
+}
+
+/// The bytes as hexadecimal digits.
+pub fn digits(bytes: &[u8]) -> String {
+    bytes.iter().map(|byte| format!("{byte:02x}")).collect()
 }
 
 /// Stores a layout and removes its version, so many times: the last answer to storing.

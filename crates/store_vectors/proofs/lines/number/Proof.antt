@@ -1,8 +1,8 @@
--- `store_vectors::number` meets its contract.
+-- `store_vectors::lines::number` meets its contract.
 use Prim.Native.Nat.{_-_, _≤_}
 use borrow.Author.Needs.{needs}
-use Rattle.store_vectors.proofs.number.Statement.{statement}
-use Rattle.store_vectors.proofs.number.Tie as tie
+use Rattle.store_vectors.proofs.lines.number.Statement.{statement}
+use Rattle.store_vectors.proofs.lines.number.Tie as tie
 
 abbrev Inv-loop : tie.InvT-loop
 Inv-loop line at count v₀ i₀ v i = i ≤ count

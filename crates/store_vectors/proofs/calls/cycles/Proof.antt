@@ -1,8 +1,8 @@
--- `store_vectors::cycles` meets its contract.
+-- `store_vectors::calls::cycles` meets its contract.
 use Prim.Native.Nat.{_≤_}
 use borrow.Author.Needs.{needs}
-use Rattle.store_vectors.proofs.cycles.Statement.{statement}
-use Rattle.store_vectors.proofs.cycles.Tie as tie
+use Rattle.store_vectors.proofs.calls.cycles.Statement.{statement}
+use Rattle.store_vectors.proofs.calls.cycles.Tie as tie
 
 abbrev Inv-loop : tie.InvT-loop
 Inv-loop edition times «record» last₀ left₀ last left = left ≤ times

@@ -1,10 +1,10 @@
--- `store_vectors::bytes_in` meets its contract.
+-- `store_vectors::lines::bytes_in` meets its contract.
 use mathlib.Core.Path.{_≡_}
 use Prim.Native.Nat.{_-_, _≤_}
 use lib.ListN.{length}
 use borrow.Author.Needs.{needs}
-use Rattle.store_vectors.proofs.bytes_in.Statement.{statement}
-use Rattle.store_vectors.proofs.bytes_in.Tie as tie
+use Rattle.store_vectors.proofs.lines.bytes_in.Statement.{statement}
+use Rattle.store_vectors.proofs.lines.bytes_in.Tie as tie
 
 abbrev Inv-loop : tie.InvT-loop
 Inv-loop line bytes₀ i₀ bytes i = (i ≤ 36) × (length bytes ≡ 36)

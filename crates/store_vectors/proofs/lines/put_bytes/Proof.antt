@@ -1,10 +1,10 @@
--- `store_vectors::put_bytes` meets its contract.
+-- `store_vectors::lines::put_bytes` meets its contract.
 use mathlib.Core.Path.{_≡_}
 use Prim.Native.Nat.{_-_, _≤_}
 use lib.ListN.{length}
 use borrow.Author.Needs.{needs}
-use Rattle.store_vectors.proofs.put_bytes.Statement.{statement}
-use Rattle.store_vectors.proofs.put_bytes.Tie as tie
+use Rattle.store_vectors.proofs.lines.put_bytes.Statement.{statement}
+use Rattle.store_vectors.proofs.lines.put_bytes.Tie as tie
 
 abbrev Inv-loop : tie.InvT-loop
 Inv-loop line₀ at bytes n p₀ i₀ line p i = (i ≤ n) × (length line ≡ length line₀)

@@ -1,0 +1,3 @@
+-- Laws of plans whose numbers hold together.
+pub mod Shapes
+pub mod Together

@@ -1,0 +1,2 @@
+-- Whether the numbers of a plan hold together.
+pub mod Together
