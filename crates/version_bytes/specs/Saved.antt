@@ -13,8 +13,8 @@ use lib.ListN.{length, getD}
 use lib.Dec.{eqb}
 use Rattle.bits.specs.Bits.{run}
 use Rattle.replies.specs.Replies.{unless}
-use Rattle.store.specs.declared.Numbered.{Numbered}
-use Rattle.store.specs.Plain.{Listed, Ended, ended, known, withUses}
+use Rattle.version_list.specs.declared.Numbered.{Numbered}
+use Rattle.version_list.specs.Plain.{Listed, Ended, ended, known, withUses}
 
 unfoldable pub bytesFrom : List ℕ → ℕ → List ℕ
 bytesFrom uses zero = []

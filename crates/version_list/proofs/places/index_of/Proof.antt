@@ -1,14 +1,14 @@
--- `store::places::index_of` meets its contract.
+-- `version_list::places::index_of` meets its contract.
 use mathlib.Core.Path.{_≡_, sym, _∙_}
 use Prim.Native.Nat.{_+_, _-_, _≤_}
 use native.Mathlib.Omega.{arith}
 use native.Mathlib.Nat.{zero-add}
 use lib.ListN.{length, take, drop}
-use Rattle.store.specs.Places.{indexOf, vacant}
-use Rattle.store.proofs.Lookups.{search-next, search-here, search-end}
+use Rattle.version_list.specs.Places.{indexOf, vacant}
+use Rattle.version_list.proofs.Lookups.{search-next, search-here, search-end}
 use borrow.Author.Needs.{needs}
-use Rattle.store.proofs.places.index_of.Statement.{statement}
-use Rattle.store.proofs.places.index_of.Tie as tie
+use Rattle.version_list.proofs.places.index_of.Statement.{statement}
+use Rattle.version_list.proofs.places.index_of.Tie as tie
 
 abbrev Inv-loop : tie.InvT-loop
 Inv-loop count version layouts i₀ i = (i ≤ count) × (indexOf (take count layouts) version ≡ i + indexOf (drop i (take count layouts)) version)

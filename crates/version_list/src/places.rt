@@ -3,8 +3,7 @@ use crate::Numbered;
 ghost use mathlib.Core.Path.{_≡_};
 ghost use Prim.Native.Nat.{_-_, _≤_, _<_};
 ghost use lib.ListN.{length, take};
-ghost use Rattle.store.specs.Answers.{held};
-ghost use Rattle.store.specs.Places.{indexOf, closed};
+ghost use Rattle.version_list.specs.Places.{held, indexOf, closed};
 
 // How many layouts the places hold.
 pub fn held(layouts: [Numbered; 32], count: usize) -> usize

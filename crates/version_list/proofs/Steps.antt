@@ -5,16 +5,15 @@
 -- add-full, add-used-up, add-done, store-accepted, store-refused           storing
 -- remove-unknown, remove-used, remove-done                                 removing
 -- known-zero, known-held, set-outside, set-unknown, set-done               the version in use
--- load-length, load-unknown, load-done                                     loading
 use mathlib.Core.Path.{_≡_, refl, sym, ap, _∙_}
-use mathlib.Core.Bool.{Bool, true, false, cond}
+use mathlib.Core.Bool.{Bool, true, false}
 use mathlib.Core.List.{List, [], _∷_, _++_}
-use Prim.Native.Nat.{ℕ, suc, _+_, _-_, _≤_, _<_}
+use Prim.Native.Nat.{ℕ, _+_, _-_, _≤_, _<_}
 use native.Mathlib.Numerals.{add-one}
 use native.Mathlib.Omega.{arith}
 use lib.ListN.{length, getD, take, set}
 use lib.Seq.{take-suc-set, length-take-le, getD-take}
-use lib.Dec.{eqb, ltb}
+use lib.Dec.{ltb}
 use borrow.Author.Tests.{lt-ltb, le-ltb, ltb-true, ltb-false, eq-eqb, ne-eqb}
 use Rattle.replies.specs.declared.Refusal as table
 use Rattle.replies.specs.Replies.{number, among}
@@ -25,14 +24,12 @@ use Rattle.layout.specs.declared.Acceptance.the-variants.{Accepted, Refused}
 use Rattle.layout_plan.specs.Record.{Words}
 use Rattle.layout_plan.specs.Plan.{planOf}
 use Rattle.layout.specs.Acceptance.{acceptance, refusalOf, refusalReply}
-use Rattle.store.specs.declared.Numbered.{Numbered}
-use Rattle.store.specs.declared.Lookup.the-variants.{Found, Unknown}
-use Rattle.store.specs.Plain.{Listed, ended, find, holds, known, without, numbered, added, addReply, addOf, storeFor, storeOf}
-use Rattle.store.specs.Plain.{removeReply, removed, removeOf, withUses, setReply, setOf}
-use Rattle.store.specs.Saved.{loaded, allKnown, loadReply, loadOf}
-use Rattle.store.specs.Answers.{held}
-use Rattle.store.specs.Places.{indexOf, closed}
-use Rattle.store.proofs.Lookups.{find-index, find-none, holds-index, holds-none, without-index, closed-end, held-small, held-same}
+use Rattle.version_list.specs.declared.Numbered.{Numbered}
+use Rattle.version_list.specs.declared.Lookup.the-variants.{Found, Unknown}
+use Rattle.version_list.specs.Plain.{Listed, ended, find, holds, known, without, numbered, added, addReply, addOf, storeFor, storeOf}
+use Rattle.version_list.specs.Plain.{removeReply, removed, removeOf, withUses, setReply, setOf}
+use Rattle.version_list.specs.Places.{held, indexOf, closed}
+use Rattle.version_list.proofs.Lookups.{find-index, find-none, holds-index, holds-none, without-index, closed-end, held-small, held-same}
 
 -- ---- the first places of an array
 
@@ -151,18 +148,3 @@ module _ (s : Listed) (c n : ℕ) where
   pub set-done : c < 16 → known (s .layouts) n ≡ true → ended 0 0 (withUses s (set (s .uses) c n)) ≡ setOf s c n
   unfolding setOf setReply
   set-done h k = rw (lt-ltb c 16 h, k)
-
--- ---- loading
-
-module _ (s : Listed) (bytes : List ℕ) where
-  pub load-length : (length bytes ≡ 32 → ⊥) → ended 6 0 s ≡ loadOf s bytes
-  unfolding loadOf loadReply
-  load-length h = rw (ne-eqb (length bytes) 32 h)
-
-  pub load-unknown : length bytes ≡ 32 → allKnown (s .layouts) (loaded bytes) ≡ false → ended 7 0 s ≡ loadOf s bytes
-  unfolding loadOf loadReply
-  load-unknown h k = rw (eq-eqb (length bytes) 32 h, k)
-
-  pub load-done : length bytes ≡ 32 → allKnown (s .layouts) (loaded bytes) ≡ true → ended 0 0 (withUses s (loaded bytes)) ≡ loadOf s bytes
-  unfolding loadOf loadReply
-  load-done h k = rw (eq-eqb (length bytes) 32 h, k)

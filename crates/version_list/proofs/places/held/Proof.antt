@@ -1,9 +1,9 @@
--- `store::places::held` meets its contract.
+-- `version_list::places::held` meets its contract.
 use borrow.Author.Tests.{lt-ltb, le-ltb}
-use Rattle.store.specs.Answers.{held}
+use Rattle.version_list.specs.Places.{held}
 use borrow.Author.Needs.{needs}
-use Rattle.store.proofs.places.held.Statement.{statement}
-use Rattle.store.proofs.places.held.Tie as tie
+use Rattle.version_list.proofs.places.held.Statement.{statement}
+use Rattle.version_list.proofs.places.held.Tie as tie
 
 returns : tie.Need-returns
 unfolding held

@@ -27,9 +27,9 @@ use Rattle.layout.specs.declared.Acceptance.the-variants.{Accepted, Refused}
 use Rattle.layout_plan.specs.Record.{Words}
 use Rattle.layout_plan.specs.Plan.{planOf}
 use Rattle.layout.specs.Acceptance.{acceptance, refusalReply}
-use Rattle.store.specs.declared.Numbered.{Numbered}
-use Rattle.store.specs.declared.Lookup.{Lookup}
-use Rattle.store.specs.declared.Lookup.the-variants.{Found, Unknown}
+use Rattle.version_list.specs.declared.Numbered.{Numbered}
+use Rattle.version_list.specs.declared.Lookup.{Lookup}
+use Rattle.version_list.specs.declared.Lookup.the-variants.{Found, Unknown}
 
 pub record Listed : Type 0 where
   pub layouts : List Numbered

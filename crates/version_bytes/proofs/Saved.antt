@@ -1,67 +1,22 @@
--- The versions in use on flash: how they are written and read, number by number.
+-- The versions in use on flash: how they are written and read, number by number, and what loading them comes to, case by case.
 --
--- among-next, among-here, among-end        how a search finds a number among the versions in use
--- known-next, known-here, known-end        how all of them are looked up
 -- put-none, put-next, put-end              how 16 numbers are written from chip select 0 up
 -- read-next, read-end                      how they are read
-use mathlib.Core.Path.{_≡_, refl, sym, ap, ap₂, _∙_}
-use mathlib.Core.Bool.{Bool, true, false, cond}
+-- load-length, load-unknown, load-done     loading
+use mathlib.Core.Path.{_≡_, sym, ap, ap₂, _∙_}
+use mathlib.Core.Bool.{true, false}
 use mathlib.Core.List.{List, [], _∷_, _++_, append-assoc, append-nil}
-use Prim.Native.Nat.{ℕ, zero, suc, _+_, _-_, _*_, _/_, _%_, _≤_, _<_}
+use Prim.Native.Nat.{ℕ, suc, _+_, _-_, _*_, _/_, _%_, _<_}
 use native.Mathlib.Nat.{zero-add}
 use native.Mathlib.Numerals.{add-one}
 use native.Mathlib.Omega.{arith}
-use lib.ListN.{length, getD, take, drop, set, length-append, drop-of-length-le}
+use lib.ListN.{length, getD, take, set, length-append}
 use lib.Seq.{drop-cons, take-suc-set, take-add, take-all, append-snoc, set-at, length-take-le}
-use lib.Dec.{eqb}
 use borrow.Author.Tests.{eq-eqb, ne-eqb}
 use Rattle.bits.specs.Bits.{run}
 use Rattle.bits.proofs.Runs.{run-append}
-use Rattle.replies.specs.Replies.{among}
-use Rattle.store.specs.declared.Numbered.{Numbered}
-use Rattle.store.specs.Plain.{known}
-use Rattle.store.specs.Saved.{bytesFrom, saved, numberAt, loaded, allKnown}
-
--- ---- one number among the versions in use
-
-among-cons : (n x : ℕ) (xs : List ℕ) (t : Bool) → eqb n x ≡ t → among n (x ∷ xs) ≡ cond t true (among n xs)
-unfolding among
-among-cons n x xs t e = rw e
-
-among-nil : (n : ℕ) → among n [] ≡ false
-unfolding among
-among-nil n = refl
-
-module _ (n : ℕ) (l : List ℕ) (i : ℕ) (so-far : among n l ≡ among n (drop i l)) where
-  pub among-next : i < length l → (getD l i 0 ≡ n → ⊥) → among n l ≡ among n (drop (i + 1) l)
-  among-next h other =
-      so-far ∙ ap (among n) (drop-cons l i 0 h) ∙ among-cons n _ _ false (ne-eqb n _ (λ e. other (sym e))) ∙ rw (add-one i)
-
-  pub among-here : i < length l → getD l i 0 ≡ n → true ≡ among n l
-  among-here h same = sym (so-far ∙ ap (among n) (drop-cons l i 0 h) ∙ among-cons n _ _ true (eq-eqb n _ (sym same)))
-
-  pub among-end : length l ≤ i → false ≡ among n l
-  among-end h = sym (so-far ∙ ap (among n) (drop-of-length-le l h) ∙ among-nil n)
-
--- ---- all of them looked up
-
-all-cons : (s : List Numbered) (n : ℕ) (ns : List ℕ) (t : Bool) → known s n ≡ t → allKnown s (n ∷ ns) ≡ cond t (allKnown s ns) false
-unfolding allKnown
-all-cons s n ns t e = rw e
-
-all-nil : (s : List Numbered) → allKnown s [] ≡ true
-unfolding allKnown
-all-nil s = refl
-
-module _ (s : List Numbered) (l : List ℕ) (i : ℕ) (so-far : allKnown s l ≡ allKnown s (drop i l)) where
-  pub known-next : i < length l → known s (getD l i 0) ≡ true → allKnown s l ≡ allKnown s (drop (i + 1) l)
-  known-next h e = so-far ∙ ap (allKnown s) (drop-cons l i 0 h) ∙ all-cons s _ _ true e ∙ rw (add-one i)
-
-  pub known-here : i < length l → known s (getD l i 0) ≡ false → false ≡ allKnown s l
-  known-here h e = sym (so-far ∙ ap (allKnown s) (drop-cons l i 0 h) ∙ all-cons s _ _ false e)
-
-  pub known-end : length l ≤ i → true ≡ allKnown s l
-  known-end h = sym (so-far ∙ ap (allKnown s) (drop-of-length-le l h) ∙ all-nil s)
+use Rattle.version_list.specs.Plain.{Listed, ended, withUses}
+use Rattle.version_bytes.specs.Saved.{bytesFrom, saved, numberAt, loaded, allKnown, loadReply, loadOf}
 
 -- ---- writing
 
@@ -114,3 +69,18 @@ read-next bytes numbers c v h e w =
 pub read-end : (bytes numbers : List ℕ) (c : ℕ) → c ≡ 16 → length numbers ≡ 16 → take c numbers ≡ run (numberAt bytes) 0 c → numbers ≡ loaded bytes
 unfolding loaded
 read-end bytes numbers c h n e = sym (take-all c numbers (omega arith)) ∙ e ∙ rw h
+
+-- ---- loading
+
+module _ (s : Listed) (bytes : List ℕ) where
+  pub load-length : (length bytes ≡ 32 → ⊥) → ended 6 0 s ≡ loadOf s bytes
+  unfolding loadOf loadReply
+  load-length h = rw (ne-eqb (length bytes) 32 h)
+
+  pub load-unknown : length bytes ≡ 32 → allKnown (s .layouts) (loaded bytes) ≡ false → ended 7 0 s ≡ loadOf s bytes
+  unfolding loadOf loadReply
+  load-unknown h k = rw (eq-eqb (length bytes) 32 h, k)
+
+  pub load-done : length bytes ≡ 32 → allKnown (s .layouts) (loaded bytes) ≡ true → ended 0 0 (withUses s (loaded bytes)) ≡ loadOf s bytes
+  unfolding loadOf loadReply
+  load-done h k = rw (eq-eqb (length bytes) 32 h, k)

@@ -1,5 +1,6 @@
 -- Inner promises: places of the store's array.
 --
+-- held count           how many layouts the places hold
 -- vacant               what a place without a layout holds
 -- indexOf l n          the place of the first layout with the number n, and the length of the list where there is none
 -- closed l at i        the list l after the layouts behind the place `at` were moved one place forward, up to the place i
@@ -7,10 +8,14 @@ use mathlib.Core.Bool.{cond}
 use mathlib.Core.List.{List, [], _∷_, _++_}
 use Prim.Native.Nat.{ℕ, zero, suc, _-_}
 use lib.ListN.{take, drop}
-use lib.Dec.{eqb}
+use lib.Dec.{eqb, ltb}
 use Rattle.field.specs.declared.Field.the-variants.{Thirteen}
 use Rattle.layout_plan.specs.declared.Shape.{Shape}
-use Rattle.store.specs.declared.Numbered.{Numbered}
+use Rattle.version_list.specs.declared.Numbered.{Numbered}
+
+-- The first places of a store hold its layouts, oldest first. It has 32 places.
+unfoldable pub held : ℕ → ℕ
+held count = cond (ltb count 32) count 32
 
 abbrev pub noShape : Shape
 noShape = record { message = 0; covered = 0; pads = 0; field = Thirteen; level = 0 }

@@ -1,15 +1,15 @@
--- `store::places::close_gap` meets its contract.
+-- `version_list::places::close_gap` meets its contract.
 use mathlib.Core.Path.{_≡_, ap, ap₂, _∙_}
 use Prim.Native.Nat.{ℕ, _+_, _-_, _≤_, _<_}
 use native.Mathlib.Omega.{arith}
 use mathlib.Core.List.{List}
 use lib.ListN.{length, getD, set}
-use Rattle.store.specs.declared.Numbered.{Numbered}
-use Rattle.store.specs.Places.{closed, vacant}
-use Rattle.store.proofs.Lookups.{closed-none, closed-ahead, closed-next}
+use Rattle.version_list.specs.declared.Numbered.{Numbered}
+use Rattle.version_list.specs.Places.{closed, vacant}
+use Rattle.version_list.proofs.Lookups.{closed-none, closed-ahead, closed-next}
 use borrow.Author.Needs.{needs}
-use Rattle.store.proofs.places.close_gap.Statement.{statement}
-use Rattle.store.proofs.places.close_gap.Tie as tie
+use Rattle.version_list.proofs.places.close_gap.Statement.{statement}
+use Rattle.version_list.proofs.places.close_gap.Tie as tie
 
 abbrev Inv-loop : tie.InvT-loop
 Inv-loop count at moved₀ i₀ moved i = (at ≤ i) × (i < count) × (moved ≡ closed moved₀ at i)

@@ -1,14 +1,14 @@
--- `store::numbers::numbers_in` meets its contract.
+-- `version_bytes::numbers_in` meets its contract.
 use mathlib.Core.Path.{_≡_, refl}
 use Prim.Native.Nat.{_-_, _*_, _≤_}
 use native.Mathlib.Omega.{arith}
 use lib.ListN.{length, take, length-set}
 use Rattle.bits.specs.Bits.{run}
-use Rattle.store.specs.Saved.{numberAt}
-use Rattle.store.proofs.Saved.{read-next, read-end}
+use Rattle.version_bytes.specs.Saved.{numberAt}
+use Rattle.version_bytes.proofs.Saved.{read-next, read-end}
 use borrow.Author.Needs.{needs}
-use Rattle.store.proofs.numbers.numbers_in.Statement.{statement}
-use Rattle.store.proofs.numbers.numbers_in.Tie as tie
+use Rattle.version_bytes.proofs.numbers_in.Statement.{statement}
+use Rattle.version_bytes.proofs.numbers_in.Tie as tie
 
 abbrev Inv-loop : tie.InvT-loop
 Inv-loop buffer numbers₀ chip₀ numbers chip = (chip ≤ 16) × (length numbers ≡ 16) × (take chip numbers ≡ run (numberAt buffer) 0 chip)

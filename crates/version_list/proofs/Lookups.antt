@@ -3,8 +3,8 @@
 -- search-next, search-here, search-end    how a search finds the place of a number
 -- find-index, find-none, holds-index, holds-none, without-index    what the list's functions are by that place
 -- find-number, find-holds, find-unknown    a layout that is found has the number
--- closed-none, closed-next, closed-end     how layouts are moved one place forward
--- held-small, held-less, held-next, held-taken     the first places of a store
+-- closed-none, closed-ahead, closed-next, closed-end     how layouts are moved one place forward
+-- held-small, held-same    the first places of a store
 use mathlib.Core.Path.{_≡_, refl, sym, ap, ap₂, _∙_}
 use mathlib.Core.Bool.{Bool, true, false, cond}
 use mathlib.Core.List.{List, [], _∷_, _++_, append-assoc}
@@ -16,12 +16,11 @@ use lib.ListN.{length, getD, take, drop, set, length-drop, drop-of-length-le, le
 use lib.Seq.{drop-cons, take-suc, append-snoc, set-at, take-at, drop-at, take-add, take-take, length-take-le, getD-take, getD-drop, getD-append-add}
 use lib.Dec.{eqb, ltb}
 use borrow.Author.Tests.{eqb-true, eq-eqb, ne-eqb, lt-ltb, le-ltb, ltb-true, ltb-false}
-use Rattle.store.specs.declared.Numbered.{Numbered}
-use Rattle.store.specs.declared.Lookup.{Lookup}
-use Rattle.store.specs.declared.Lookup.the-variants.{Found, Unknown}
-use Rattle.store.specs.Plain.{find, holds, without}
-use Rattle.store.specs.Answers.{held}
-use Rattle.store.specs.Places.{indexOf, closed}
+use Rattle.version_list.specs.declared.Numbered.{Numbered}
+use Rattle.version_list.specs.declared.Lookup.{Lookup}
+use Rattle.version_list.specs.declared.Lookup.the-variants.{Found, Unknown}
+use Rattle.version_list.specs.Plain.{find, holds, without}
+use Rattle.version_list.specs.Places.{held, indexOf, closed}
 
 -- ---- the place of a number
 

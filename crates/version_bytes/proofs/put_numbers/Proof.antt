@@ -1,14 +1,14 @@
--- `store::numbers::put_numbers` meets its contract.
+-- `version_bytes::put_numbers` meets its contract.
 use mathlib.Core.Path.{_≡_}
 use mathlib.Core.List.{_++_}
 use Prim.Native.Nat.{_-_, _*_, _≤_}
 use native.Mathlib.Omega.{arith}
 use lib.ListN.{length, take, length-set}
-use Rattle.store.specs.Saved.{bytesFrom}
-use Rattle.store.proofs.Saved.{put-none, put-next, put-end}
+use Rattle.version_bytes.specs.Saved.{bytesFrom}
+use Rattle.version_bytes.proofs.Saved.{put-none, put-next, put-end}
 use borrow.Author.Needs.{needs}
-use Rattle.store.proofs.numbers.put_numbers.Statement.{statement}
-use Rattle.store.proofs.numbers.put_numbers.Tie as tie
+use Rattle.version_bytes.proofs.put_numbers.Statement.{statement}
+use Rattle.version_bytes.proofs.put_numbers.Tie as tie
 
 abbrev Inv-loop : tie.InvT-loop
 Inv-loop buffer₀ numbers chip₀ buffer chip = (chip ≤ 16) × (length buffer ≡ 32) × (buffer ≡ take (32 - 2 * chip) buffer₀ ++ bytesFrom numbers chip)
