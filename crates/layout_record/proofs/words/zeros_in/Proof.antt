@@ -1,10 +1,10 @@
--- `layout_plan::words::zeros_in` meets its contract.
+-- `layout_record::words::zeros_in` meets its contract.
 use mathlib.Core.Path.{sym}
 use native.Mathlib.Omega.{arith}
 use borrow.Author.Needs.{needs}
-use Rattle.layout_plan.proofs.Records.{record-three, no-byte}
-use Rattle.layout_plan.proofs.words.zeros_in.Statement.{statement}
-use Rattle.layout_plan.proofs.words.zeros_in.Tie as tie
+use Rattle.layout_record.proofs.Records.{record-three, no-byte}
+use Rattle.layout_record.proofs.words.zeros_in.Statement.{statement}
+use Rattle.layout_record.proofs.words.zeros_in.Tie as tie
 
 returns : tie.Need-returns
 returns c = sym (no-byte (c .before .args .words .now) 11 (c .if1 .taken) (omega arith))

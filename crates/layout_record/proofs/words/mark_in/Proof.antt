@@ -1,10 +1,10 @@
--- `layout_plan::words::mark_in` meets its contract.
+-- `layout_record::words::mark_in` meets its contract.
 use native.Mathlib.Omega.{arith}
 use borrow.Author.Needs.{needs}
 use Rattle.layout_plan.specs.Record.{markAt, markIn}
-use Rattle.layout_plan.proofs.Records.{record-three, no-byte}
-use Rattle.layout_plan.proofs.words.mark_in.Statement.{statement}
-use Rattle.layout_plan.proofs.words.mark_in.Tie as tie
+use Rattle.layout_record.proofs.Records.{record-three, no-byte}
+use Rattle.layout_record.proofs.words.mark_in.Statement.{statement}
+use Rattle.layout_record.proofs.words.mark_in.Tie as tie
 
 returns : tie.Need-returns
 unfolding markIn markAt

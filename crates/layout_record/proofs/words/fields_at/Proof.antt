@@ -1,8 +1,8 @@
--- `layout_plan::words::fields_at` meets its contract.
+-- `layout_record::words::fields_at` meets its contract.
 use borrow.Author.Needs.{needs}
 use Rattle.layout_plan.specs.Record.{fieldsAt}
-use Rattle.layout_plan.proofs.words.fields_at.Statement.{statement}
-use Rattle.layout_plan.proofs.words.fields_at.Tie as tie
+use Rattle.layout_record.proofs.words.fields_at.Statement.{statement}
+use Rattle.layout_record.proofs.words.fields_at.Tie as tie
 
 block-fields-requires : tie.Need-block-fields-requires
 block-fields-requires c κs = search needs

@@ -1,11 +1,11 @@
--- `layout_plan::words::fields_of` meets its contract.
+-- `layout_record::words::fields_of` meets its contract.
 use mathlib.Core.Path.{_≡_}
 use lib.ListN.{length}
 use native.Mathlib.Omega.{arith}
 use borrow.Author.Needs.{needs}
 use Rattle.layout_plan.specs.Record.{recordLength}
-use Rattle.layout_plan.proofs.words.fields_of.Statement.{statement}
-use Rattle.layout_plan.proofs.words.fields_of.Tie as tie
+use Rattle.layout_record.proofs.words.fields_of.Statement.{statement}
+use Rattle.layout_record.proofs.words.fields_of.Tie as tie
 
 fields-in-requires : tie.Need-fields-in-requires
 unfolding recordLength

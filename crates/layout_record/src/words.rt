@@ -1,23 +1,13 @@
 // The bytes of a layout record, taken apart.
-use crate::BlockFields;
-use crate::Fields;
-use field::Field;
+use layout_plan::BlockFields;
+use layout_plan::Fields;
+use layout_plan::field_of;
 use mark::Mark;
 ghost use mathlib.Core.Path.{_≡_};
 ghost use Prim.Native.Nat.{_≤_};
 ghost use lib.ListN.{length, getD};
 ghost use mathlib.Core.Bool.{true};
-ghost use Rattle.layout_plan.specs.Record.{fieldOf, blockFields, markAt, markIn, fieldsAt, fieldsUnder, recordLength};
-
-// The field that a bit of a layout word chooses.
-pub fn field_of(bit: u8) -> Field
-    ensures { λ r. ⌜ r ≡ fieldOf bit ⌝ }
-{
-    if bit == 0 {
-        return Field::Thirteen;
-    }
-    Field::Fourteen
-}
+ghost use Rattle.layout_plan.specs.Record.{blockFields, markAt, markIn, fieldsAt, fieldsUnder, recordLength};
 
 // Level field, field choice and data size, from the low half of a layout word.
 pub fn block_fields(high: u8, low: u8) -> BlockFields

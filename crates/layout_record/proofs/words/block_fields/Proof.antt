@@ -1,8 +1,8 @@
--- `layout_plan::words::block_fields` meets its contract.
+-- `layout_record::words::block_fields` meets its contract.
 use borrow.Author.Needs.{needs}
 use Rattle.layout_plan.specs.Record.{blockFields}
-use Rattle.layout_plan.proofs.words.block_fields.Statement.{statement}
-use Rattle.layout_plan.proofs.words.block_fields.Tie as tie
+use Rattle.layout_record.proofs.words.block_fields.Statement.{statement}
+use Rattle.layout_record.proofs.words.block_fields.Tie as tie
 
 field-of-requires : tie.Need-field-of-requires
 field-of-requires c κs = search needs

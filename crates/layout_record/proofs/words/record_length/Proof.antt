@@ -1,8 +1,8 @@
--- `layout_plan::words::record_length` meets its contract.
+-- `layout_record::words::record_length` meets its contract.
 use borrow.Author.Tests.{eq-eqb, ne-eqb}
 use Rattle.layout_plan.specs.Record.{recordLength}
-use Rattle.layout_plan.proofs.words.record_length.Statement.{statement}
-use Rattle.layout_plan.proofs.words.record_length.Tie as tie
+use Rattle.layout_record.proofs.words.record_length.Statement.{statement}
+use Rattle.layout_record.proofs.words.record_length.Tie as tie
 
 returns : tie.Need-returns
 unfolding recordLength

@@ -1,9 +1,9 @@
--- `layout_plan::words::mark_at` meets its contract.
+-- `layout_record::words::mark_at` meets its contract.
 use mathlib.Core.Path.{refl}
 use borrow.Author.Needs.{needs}
 use Rattle.layout_plan.specs.Record.{markAt}
-use Rattle.layout_plan.proofs.words.mark_at.Statement.{statement}
-use Rattle.layout_plan.proofs.words.mark_at.Tie as tie
+use Rattle.layout_record.proofs.words.mark_at.Statement.{statement}
+use Rattle.layout_record.proofs.words.mark_at.Tie as tie
 
 mul-t5 : tie.Need-mul-t5
 mul-t5 c = search needs

@@ -1,8 +1,8 @@
--- `layout_plan::words::field_of` meets its contract.
+-- `layout_plan::choice::field_of` meets its contract.
 use borrow.Author.Tests.{eq-eqb, ne-eqb}
 use Rattle.layout_plan.specs.Record.{fieldOf}
-use Rattle.layout_plan.proofs.words.field_of.Statement.{statement}
-use Rattle.layout_plan.proofs.words.field_of.Tie as tie
+use Rattle.layout_plan.proofs.choice.field_of.Statement.{statement}
+use Rattle.layout_plan.proofs.choice.field_of.Tie as tie
 
 returns : tie.Need-returns
 unfolding fieldOf

@@ -1,9 +1,9 @@
--- `layout_plan::words::fields_in` meets its contract.
+-- `layout_record::words::fields_in` meets its contract.
 use mathlib.Core.Path.{sym}
 use borrow.Author.Needs.{needs}
 use Rattle.layout_plan.specs.Record.{fieldsUnder}
-use Rattle.layout_plan.proofs.words.fields_in.Statement.{statement}
-use Rattle.layout_plan.proofs.words.fields_in.Tie as tie
+use Rattle.layout_record.proofs.words.fields_in.Statement.{statement}
+use Rattle.layout_record.proofs.words.fields_in.Tie as tie
 
 mark-in-requires : tie.Need-mark-in-requires
 mark-in-requires c κs = search needs
