@@ -1,11 +1,11 @@
 use Prim.Native.Nat.{_*_}
 use native.Mathlib.Omega.{arith}
 use Rattle.remainder.proofs.Fold.{parity-bits-below}
-use Rattle.piece_states.proofs.Replies.{reply-level, reply-empty, reply-plain, reply-long, reply-right, longest-most}
+use Rattle.piece_rules.proofs.Replies.{reply-level, reply-empty, reply-plain, reply-long, reply-right, longest-most}
 use borrow.Author.Needs.{needs}
 use Rattle.replies.proofs.Editions.{highest-small}
-use Rattle.piece_states.proofs.rules.start_reply.Statement.{statement}
-use Rattle.piece_states.proofs.rules.start_reply.Tie as tie
+use Rattle.piece_rules.proofs.start_reply.Statement.{statement}
+use Rattle.piece_rules.proofs.start_reply.Tie as tie
 
 highest-requires : tie.Need-highest-requires
 highest-requires c κs = search needs

@@ -1,5 +1,10 @@
-// Which blocks can be started, and which states can be gone on with.
-use crate::State;
+// The rules of a block whose message arrives in pieces (document 02, E4), over the state that is carried from call to call.
+//
+//   start_reply      which blocks can be started
+//   is_usable        which states can be gone on with, though they may have come from anywhere
+//   finish_reply     which can be finished, into which buffer
+//
+// The crate `piece_states` has the calls that give these replies.
 use field::Field;
 use remainder::Register;
 use remainder::coefficients::bytes_for;
@@ -7,7 +12,18 @@ use remainder::coefficients::is_below;
 use remainder::coefficients::parity_bits;
 use replies::highest;
 ghost use mathlib.Core.Path.{_≡_};
-ghost use Rattle.piece_states.specs.Calls.{startReply, usable, finishReply};
+ghost use Rattle.piece_rules.specs.Rules.{startReply, usable, finishReply};
+
+// A block whose message is arriving: its level field, field choice and message bytes, the bytes fed so far, and the parity of
+// these in fourteen words of 64 bits, the lowest first.
+#[repr(C)]
+pub struct State {
+    pub level: u64,
+    pub choice: u64,
+    pub size: u64,
+    pub fed: u64,
+    pub words: [u64; 14],
+}
 
 // The reply about starting a block of this level field under an edition with a message of so many bytes: 1, 2 or 3 as a layout's rules give it, else 0.
 pub fn start_reply(edition: u64, f: Field, level_field: u64, size: u64) -> u8

@@ -3,10 +3,10 @@ use mathlib.Core.Path.{sym, _∙_}
 use native.Mathlib.Omega.{arith}
 use Rattle.replies.proofs.Editions.{highest-small}
 use Rattle.remainder.proofs.Fold.{parity-bits-below}
-use Rattle.piece_states.proofs.Replies.{right-level, usable-refused, usable-past, usable-below}
+use Rattle.piece_rules.proofs.Replies.{right-level, usable-refused, usable-past, usable-below}
 use borrow.Author.Needs.{needs}
-use Rattle.piece_states.proofs.rules.is_usable.Statement.{statement}
-use Rattle.piece_states.proofs.rules.is_usable.Tie as tie
+use Rattle.piece_rules.proofs.is_usable.Statement.{statement}
+use Rattle.piece_rules.proofs.is_usable.Tie as tie
 
 start-reply-requires : tie.Need-start-reply-requires
 start-reply-requires c κs = search needs

@@ -4,10 +4,10 @@ use native.Mathlib.Omega.{arith}
 use borrow.Author.Tests.{not-true, not-false}
 use Rattle.remainder.proofs.Fold.{parity-bits-below}
 use Rattle.remainder.specs.Remainder.{bytesFor}
-use Rattle.piece_states.proofs.Replies.{usable-level, finish-unusable, finish-early, finish-bytes, finish-right}
+use Rattle.piece_rules.proofs.Replies.{usable-level, finish-unusable, finish-early, finish-bytes, finish-right}
 use borrow.Author.Needs.{needs}
-use Rattle.piece_states.proofs.rules.finish_reply.Statement.{statement}
-use Rattle.piece_states.proofs.rules.finish_reply.Tie as tie
+use Rattle.piece_rules.proofs.finish_reply.Statement.{statement}
+use Rattle.piece_rules.proofs.finish_reply.Tie as tie
 
 is-usable-requires : tie.Need-is-usable-requires
 is-usable-requires c κs = search needs
