@@ -18,13 +18,13 @@ use bit_reader::steps::bit_or_zero;
 use division_table::divisor_row;
 use division_table::row_words;
 use field::Field;
+use register_shifts::lowered;
+use register_shifts::pushed;
+use register_shifts::raised;
 use remainder::Register;
 use remainder::add::row_added;
 use remainder::coefficients::coefficient;
 use remainder::coefficients::parity_bits;
-use remainder::shift::lowered;
-use remainder::shift::pushed;
-use remainder::shift::raised;
 
 // One more coefficient b, by the divisor of degree 64 used whose other coefficients are in the first words of `row`.
 fn bit_taken(state: Register, row: [u64; 14], used: usize, b: u64) -> Register

@@ -17,9 +17,9 @@ ghost use Rattle.remainder.specs.Parity.{parityFrom, rest};
 ghost use Rattle.division_table.specs.Table.{digitBits, divisorOf, Rests};
 use division_table::digits::digit_bits;
 use division_table::digits::digit_row;
+use register_shifts::pushed;
 use remainder::Register;
 use remainder::add::row_added;
-use remainder::shift::pushed;
 
 // The k highest digits of the number in the first words of a register.
 fn top(state: Register, used: usize, k: usize) -> u64
