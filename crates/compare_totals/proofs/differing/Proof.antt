@@ -1,8 +1,8 @@
--- `compare_command::totals::differing` meets its contract.
+-- `compare_totals::differing` meets its contract.
 use Prim.Native.Nat.{_≤_, _-_}
 use borrow.Author.Needs.{needs}
-use Rattle.compare_command.proofs.totals.differing.Statement.{statement}
-use Rattle.compare_command.proofs.totals.differing.Tie as tie
+use Rattle.compare_totals.proofs.differing.Statement.{statement}
+use Rattle.compare_totals.proofs.differing.Tie as tie
 
 abbrev Inv-loop : tie.InvT-loop
 Inv-loop blocks first second t₀ b₀ t b = b ≤ 256
