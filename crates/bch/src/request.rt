@@ -14,11 +14,11 @@ use decoder::Found;
 use decoder::find_errors;
 use field::Field;
 use powers::fill_tables;
+use register_digits::from_bytes;
 use remainder::Register;
 use remainder::coefficients::is_below;
 use remainder::coefficients::is_zero;
 use remainder::coefficients::parity_bits;
-use remainder::digits::from_bytes;
 use replies::Refusal;
 use replies::highest;
 

@@ -1,9 +1,9 @@
 // The command.
 use crate::running;
-use crate::totals::Failed;
-use crate::totals::Run;
 use arguments::Options;
 use arguments::Words;
+use compare_totals::Failed;
+use compare_totals::Run;
 use layout::Acceptance;
 use layout_plan::Plan;
 

@@ -1,9 +1,8 @@
 // The pages of two dumps, one after the other.
 use crate::paging;
-use crate::totals;
-use crate::totals::Failed;
-use crate::totals::Run;
-use crate::totals::Totals;
+use compare_totals::Failed;
+use compare_totals::Run;
+use compare_totals::Totals;
 use layout_plan::Plan;
 use streams::Filled;
 
@@ -38,7 +37,7 @@ fn filled(
 ) -> Totals {
     if n == 0 {
         if m == 0 {
-            return totals::ended(totals);
+            return compare_totals::ended(totals);
         }
     }
     paging::page(
@@ -62,13 +61,13 @@ fn next(
     second: &mut [u8; 65536],
 ) -> Totals {
     if run.most <= totals.pages {
-        return totals::ended(totals);
+        return compare_totals::ended(totals);
     }
     let Filled::Bytes(n) = fill(run.first, first, plan.size as usize) else {
-        return totals::broken(totals, Failed::First);
+        return compare_totals::broken(totals, Failed::First);
     };
     let Filled::Bytes(m) = fill(run.second, second, plan.size as usize) else {
-        return totals::broken(totals, Failed::Second);
+        return compare_totals::broken(totals, Failed::Second);
     };
     filled(out, run, record, plan, totals, first, second, n, m)
 }

@@ -1,14 +1,14 @@
 // The command compare of the tool (document 02, E10).
 //
-//   totals.rt      what a run has to do, and what it came to so far
 //   paging.rt      one page of each dump
 //   dumping.rt     the pages of two dumps, one after the other
 //   running.rt     two files of one page each, or two dumps
 //   commands.rt    the command
+//
+// What a run has to do, and what it came to so far, is in `compare_totals`.
 mod commands;
 mod dumping;
 mod paging;
 mod running;
-mod totals;
 
 pub use commands::compare;

@@ -1,9 +1,8 @@
 // One page of each dump.
-use crate::totals;
-use crate::totals::Run;
-use crate::totals::Totals;
 use compare::CompareAnswer;
 use compare::DifferenceAnswer;
+use compare_totals::Run;
+use compare_totals::Totals;
 use layout_plan::Plan;
 use page_look::LookAnswer;
 use replies::Refusal;
@@ -12,7 +11,7 @@ use replies::refusal_number;
 // A page that is refused ends the run.
 fn refused(out: &mut [u8; 32768], totals: Totals, refusal: Refusal) -> Totals {
     compare_lines::refused(out, refusal_number(refusal));
-    totals::ended(totals)
+    compare_totals::ended(totals)
 }
 
 // The number of a page in the dumps.
@@ -38,7 +37,7 @@ fn differs(
                 page_number(out, run, totals);
                 compare_lines::report(out, run.edition, record, plan, first, second, &a, &b);
             }
-            totals::differing(totals, plan.blocks, &a, &b)
+            compare_totals::differing(totals, plan.blocks, &a, &b)
         }
         CompareAnswer::Refused(refusal) => refused(out, totals, refusal),
     }
@@ -56,7 +55,7 @@ fn compared(
 ) -> Totals {
     match compare::next_difference(run.edition, record, first, second, 0) {
         DifferenceAnswer::At(_) => differs(out, run, record, plan, totals, first, second),
-        DifferenceAnswer::Alike => totals::passed(totals),
+        DifferenceAnswer::Alike => compare_totals::passed(totals),
         DifferenceAnswer::Refused(refusal) => {
             page_number(out, run, totals);
             refused(out, totals, refusal)
@@ -68,7 +67,7 @@ fn mapped(out: &mut [u8; 32768], plan: Plan, totals: Totals, counts: &[u8; 256])
     compare_lines::map(out, plan, counts);
     say::put(out, b"\n");
     say::flush(out);
-    totals::passed(totals)
+    compare_totals::passed(totals)
 }
 
 // The map of a page of one dump, which is not too large.

@@ -1,10 +1,9 @@
 // Two files: of one page each, or two dumps of many.
 use crate::dumping;
 use crate::paging;
-use crate::totals;
-use crate::totals::Failed;
-use crate::totals::Run;
-use crate::totals::Totals;
+use compare_totals::Failed;
+use compare_totals::Run;
+use compare_totals::Totals;
 use files::Passed;
 use layout_plan::Plan;
 use streams::Filled;
@@ -48,7 +47,7 @@ fn first_two(
         run,
         record,
         plan,
-        totals::start(run.began),
+        compare_totals::start(run.began),
         text::front(first, size),
         text::front(second, size),
     );
@@ -81,7 +80,7 @@ fn probed(
         if is_dump(plan.size, m) {
             let begun = first_two(out, run, record, plan, first, second);
             let all = dumping::pages(out, run, record, plan, begun, first, second);
-            totals::summary(out, all);
+            compare_totals::summary(out, all);
             return all;
         }
     }
@@ -93,7 +92,7 @@ fn probed(
         text::front(first, n),
         text::front(second, m),
     );
-    totals::start(run.began)
+    compare_totals::start(run.began)
 }
 
 fn whole(
@@ -104,13 +103,13 @@ fn whole(
     first: &mut [u8; 65536],
     second: &mut [u8; 65536],
 ) -> Totals {
-    let start = totals::start(run.began);
+    let start = compare_totals::start(run.began);
     let most = probe(plan.size);
     let Filled::Bytes(n) = dumping::fill(run.first, first, most) else {
-        return totals::broken(start, Failed::First);
+        return compare_totals::broken(start, Failed::First);
     };
     let Filled::Bytes(m) = dumping::fill(run.second, second, most) else {
-        return totals::broken(start, Failed::Second);
+        return compare_totals::broken(start, Failed::Second);
     };
     probed(out, run, record, plan, first, second, n, m)
 }
@@ -130,7 +129,7 @@ fn pass(run: Run, plan: Plan, fd: i32, page: &mut [u8]) -> Passed {
 
 fn no_page(out: &mut [u8; 32768], totals: Totals) -> Totals {
     say::error(out, b"a dump has no such page");
-    totals::ended(totals)
+    compare_totals::ended(totals)
 }
 
 // The pages of the second dump before the first that is asked for, where those of the first were passed over.
@@ -142,17 +141,17 @@ fn range_second(
     first: &mut [u8; 65536],
     second: &mut [u8; 65536],
 ) -> Totals {
-    let start = totals::start(run.began);
+    let start = compare_totals::start(run.began);
     match pass(run, plan, run.second, second) {
         Passed::All => {
             let all = dumping::pages(out, run, record, plan, start, first, second);
             if !run.map {
-                totals::summary(out, all);
+                compare_totals::summary(out, all);
             }
             all
         }
         Passed::Short => no_page(out, start),
-        Passed::Failed => totals::broken(start, Failed::Second),
+        Passed::Failed => compare_totals::broken(start, Failed::Second),
     }
 }
 
@@ -165,11 +164,11 @@ fn range(
     first: &mut [u8; 65536],
     second: &mut [u8; 65536],
 ) -> Totals {
-    let start = totals::start(run.began);
+    let start = compare_totals::start(run.began);
     match pass(run, plan, run.first, first) {
         Passed::All => range_second(out, run, record, plan, first, second),
         Passed::Short => no_page(out, start),
-        Passed::Failed => totals::broken(start, Failed::First),
+        Passed::Failed => compare_totals::broken(start, Failed::First),
     }
 }
 

@@ -4,13 +4,11 @@
 // so far, and the highest power comes first. The remainder of a block is the parity of its message plus its last mt bits. A message can be
 // fed in one piece or in several: the parity is a fold over the bits.
 //
-//   runs       the remainder of a run by the table of a level, and the parity of a message and of more of it
-//   feed       runs of bits of a byte slice fed by a table: words of 64 bits, and the odd bits at the end in one step
-//   bitwise    the same bit by bit, with no table
+//   runs    the remainder of a run by the table of a level, and the parity of a message and of more of it
+//   feed    runs of bits of a byte slice fed by a table: words of 64 bits, and the odd bits at the end in one step
 //
-// Both ways the register is moved up so that it fills four, nine or fourteen words, and moved down at the end. What a remainder is stands
-// in the crates `remainder` and `code`, what a table is in `division_table`; proofs/ has the laws: Steps (the steps by a table), Single (the
-// steps bit by bit), Level (what is moved up to whole words).
-pub mod bitwise;
+// The register is moved up so that it fills four, nine or fourteen words, and moved down at the end. What a remainder is stands in the
+// crates `remainder` and `code`, what a table is in `division_table`; the steps and the laws are in `division_steps`, and
+// `bitwise_division` does the same bit by bit, with no table.
 mod feed;
 pub mod runs;

@@ -13,13 +13,13 @@ ghost use Rattle.division_table.specs.Table.{Table};
 use crate::feed::feed_run;
 use division_table::row_words;
 use field::Field;
+use register_digits::number_at;
+use register_shifts::lowered;
+use register_shifts::raised;
 use remainder::Register;
 use remainder::add::added;
 use remainder::coefficients::parity_bits;
 use remainder::coefficients::zero;
-use remainder::digits::number_at;
-use remainder::shift::lowered;
-use remainder::shift::raised;
 
 // The parity of n more bits of a message, from the parity of those before on.
 pub fn parity_more(

@@ -10,11 +10,11 @@ use crate::digits::power;
 use crate::digits::power_row;
 use crate::row::add_words;
 use crate::row::clear_row;
+use register_shifts::pushed;
 use remainder::Register;
 use remainder::add::row_added;
 use remainder::coefficients::coefficient;
 use remainder::coefficients::zero;
-use remainder::shift::pushed;
 
 // The remainder of twice a number from that of the number: the double, plus the divisor where a digit leaves it. The divisor is row 1 of
 // the table and row 0 is zero, so the digit is the number of the row that is added.

@@ -29,9 +29,9 @@ ghost use Rattle.code.specs.Register.{low};
 use field::Field;
 use fill::fill;
 use generators::generator_row;
+use register_shifts::raised;
 use remainder::Register;
 use remainder::coefficients::parity_bits;
-use remainder::shift::raised;
 
 // How many words a row of the table has.
 pub fn row_words(degree: usize) -> usize

@@ -5,7 +5,7 @@
 // remainder of the run by the table of the level, and then those of its parity as a message, worked out bit by bit, the lowest word first.
 ghost use mathlib.Core.Path.{_≡_};
 ghost use Prim.Native.Nat.{_%_, _≤_, _<_};
-use division::bitwise::parity_by_bits;
+use bitwise_division::parity_by_bits;
 use division::runs::remainder_of;
 use division_table::make_table;
 use field::Field;

@@ -18,7 +18,7 @@ fn of_layout(out: &mut [u8; 32768], edition: u64, record: &[u8; 12]) {
     match explain::explain_layout(edition, record) {
         LayoutAnswer::Accepted => explain_lines::accepted(out),
         LayoutAnswer::Refused(why) => {
-            explain_lines::refused(out, layout_plan::fields_of(edition, record), why)
+            explain_lines::refused(out, layout_record::fields_of(edition, record), why)
         }
     }
 }
@@ -40,7 +40,7 @@ fn of_block(out: &mut [u8; 32768], edition: u64, record: &[u8; 12], page: &[u8],
         BlockAnswer::Erased { zeros, level } => explain_lines::erased(out, block, zeros, level),
         BlockAnswer::Ruined { block: b, level } => explain_lines::ruined(out, b as u64, level),
         BlockAnswer::Refused(why) => {
-            explain_lines::refused(out, layout_plan::fields_of(edition, record), why)
+            explain_lines::refused(out, layout_record::fields_of(edition, record), why)
         }
     }
 }

@@ -8,7 +8,7 @@ use borrow.Author.Tests.{eq-eqb, ne-eqb}
 use lib.ListN.{length}
 use Rattle.bits.specs.Bits.{Bytes}
 use Rattle.remainder.specs.Remainder.{numberOf}
-use Rattle.remainder.proofs.Bytes.{bytesOf-length}
+use Rattle.register_digits.proofs.Bytes.{bytesOf-length}
 use Rattle.replies.specs.declared.Refusal.{Refusal}
 use Rattle.replies.specs.Replies.{number, block}
 use Rattle.replies.proofs.Given.{number-positive}

@@ -8,7 +8,7 @@ use lib.ListN.{length}
 use lib.Pow.{pow-mono}
 use Rattle.bits.specs.Bits.{Bytes}
 use Rattle.remainder.specs.Remainder.{numberOf, bytesOf}
-use Rattle.remainder.proofs.Bytes.{bytesOf-length, numberOf-bytesOf, bytesOf-numberOf}
+use Rattle.register_digits.proofs.Bytes.{bytesOf-length, numberOf-bytesOf, bytesOf-numberOf}
 use Rattle.fragments.specs.declared.FragmentsAnswer.the-variants.{Done}
 use Rattle.register_fragments.specs.Fragments.{fragmentsOf, joined, Fragments}
 use Rattle.remainder.specs.Remainder.{bytesFor}

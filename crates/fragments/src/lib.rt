@@ -14,11 +14,11 @@
 pub mod answers;
 mod request;
 
+use register_digits::from_bytes;
+use register_digits::to_bytes;
 use register_fragments::from_fragments;
 use register_fragments::to_fragments;
 use remainder::coefficients::is_below;
-use remainder::digits::from_bytes;
-use remainder::digits::to_bytes;
 use replies::Refusal;
 use request::has_lengths;
 use request::is_offered;

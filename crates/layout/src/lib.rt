@@ -3,7 +3,7 @@
 //   check_layout     is this layout acceptable? The layout, or the reason why not
 //
 // check_layout takes the edition and the layout record as bytes of any length, and asks nothing of its caller. The steps:
-// 1. The crate `layout_plan` takes the record apart into fields and works the sums out, which are kept with the layout.
+// 1. The crate `layout_record` takes the record apart into fields, and `layout_plan` works the sums out, which are kept with the layout.
 // 2. rules.rt looks for the first rule that the layout breaks (`Finding`), block 0 before the later blocks.
 // 3. answers.rt gives the case of document 01's table that a refusal is, and its number.
 mod answers;
@@ -13,10 +13,10 @@ pub use answers::acceptance_reply;
 pub use answers::refusal_of;
 pub use answers::refusal_reply;
 use layout_plan::Layout;
-use layout_plan::fields_in;
 use layout_plan::layout_for;
 use layout_plan::plan_of;
-use layout_plan::record_length;
+use layout_record::fields_in;
+use layout_record::record_length;
 use replies::offered;
 ghost use mathlib.Core.Path.{_≡_};
 ghost use Rattle.layout_plan.specs.Record.{wordsOf};

@@ -129,7 +129,7 @@ fn tail(out: &mut [u8; 32768], plan: Plan) {
 fn accepted(out: &mut [u8; 32768], edition: u64, record: &[u8; 12], plan: Plan) {
     say::reply(out, 0);
     say::put(out, b"this layout is accepted\n");
-    all_words(out, layout_plan::fields_of(edition, record));
+    all_words(out, layout_record::fields_of(edition, record));
     say::fact(out, b"page: ", plan.size as u64, b" bytes");
     say::fact(out, b" in ", plan.blocks as u64, b" blocks");
     say::fact(out, b", of them ", plan.metadata as u64, b" metadata");

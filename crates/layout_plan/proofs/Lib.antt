@@ -1,4 +1,3 @@
--- Laws of plans and of records.
+-- Laws of plans.
 pub mod Plans
 pub mod SectorPlans
-pub mod Records

@@ -1,18 +1,18 @@
 // Layouts and the plan of a page that each comes to (document 01, "Layout words"; document 02, E7, E8 and E12).
 //
-//   fields_in, fields_of     the fields of a record
 //   layout_for               the layout of the fields of a record, accepted or not; the crate `layout` says whether it is
 //   sectors_layout           the layout of a page of sectors, accepted or not; the crate `sectors` says whether it is
 //   plan_of                  the plan of a page under a layout
 //
-// words.rt takes the eight or twelve bytes of a record apart into the fields of document 01 and the mark of document 02 (`Fields`). sums.rt
-// works the sums out (`Plan`): number of blocks, data length, used bits, lengths of block 0 and of a later block. They are kept
-// (`Layout`), and nothing adds them up again. Code and definitions above know a plan and no layout words; block b starts where block b - 1
-// ends with its pads, at any bit. sector_sums.rt does the same for sectors.
+// The crate `layout_record` takes a record apart into its fields (`Fields`); what they are stands here, in specs/Record.antt. sums.rt works
+// the sums out (`Plan`): number of blocks, data length, used bits, lengths of block 0 and of a later block. They are kept (`Layout`), and
+// nothing adds them up again. Code and definitions above know a plan and no layout words; block b starts where block b - 1 ends with its
+// pads, at any bit. sector_sums.rt does the same for sectors. choice.rt has the field that both choose.
+mod choice;
 mod sector_sums;
 mod sums;
-mod words;
 
+pub use choice::field_of;
 use field::Field;
 use mark::Mark;
 pub use sector_sums::sectors_layout;
@@ -23,10 +23,6 @@ pub use sums::layout_for;
 pub use sums::page_room;
 pub use sums::pitch;
 pub use sums::plan_of;
-pub use words::field_of;
-pub use words::fields_in;
-pub use words::fields_of;
-pub use words::record_length;
 
 // What a layout word stores of one kind of block: the level field, of which t is twice, the field choice, and the data in
 // units of 4 bytes. Document 01 calls them ECC0, GF and DATA0_SIZE in word 0, ECCN, GF and DATAN_SIZE in word 1.

@@ -3,7 +3,7 @@ use crate::Layout;
 use crate::Plan;
 use crate::Sectors;
 use crate::Shape;
-use crate::words::field_of;
+use crate::choice::field_of;
 use field::Field;
 use mark::Mark;
 ghost use mathlib.Core.Path.{_≡_};

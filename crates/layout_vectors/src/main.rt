@@ -75,7 +75,7 @@ fn put_accepted(line: &mut [u8], at: usize, edition: u64, words: &[u8], layout: 
     let stored_at = put_stored(
         line,
         at,
-        layout_plan::fields_of(edition, &twelve_bytes(words)),
+        layout_record::fields_of(edition, &twelve_bytes(words)),
     );
     let sums_at = put_sums(line, stored_at, layout);
     put_mark(line, sums_at, layout)

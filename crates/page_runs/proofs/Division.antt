@@ -15,7 +15,7 @@ use Rattle.code.specs.Generator.{generator, remainder}
 use Rattle.code.proofs.Remainder.{remainder-below}
 use Rattle.remainder.specs.Parity.{parityFrom}
 use Rattle.remainder.proofs.Parity.{parity-append}
-use Rattle.division.proofs.Level.{message-parity, remainder-none, remainder-number, remainder-parts}
+use Rattle.division_steps.proofs.Level.{message-parity, remainder-none, remainder-number, remainder-parts}
 use Rattle.mark.specs.declared.Mark.{Mark}
 use Rattle.mark.specs.Mark.{place, streamBit, near, InStream}
 use Rattle.page_runs.proofs.Parts.{run-before, run-after, run-parts}

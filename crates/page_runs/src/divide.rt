@@ -18,10 +18,10 @@ use field::Field;
 use mark::Mark;
 use mark::near;
 use mark::place;
+use register_digits::number_at;
 use remainder::Register;
 use remainder::add::added;
 use remainder::coefficients::parity_bits;
-use remainder::digits::number_at;
 
 // The remainder of n bits of the stream from position `at` on times x^(mt), whose digits are the parity of a message.
 pub fn parity_in(

@@ -12,8 +12,8 @@ use mark::Mark;
 use mark::near;
 use mark::place;
 use payload::copy_from;
+use register_digits::place_parity;
 use remainder::Register;
-use remainder::digits::place_parity;
 
 // Copies n bits of the payload, from its position `at` on, to a position of the stream.
 pub fn copy_in(

@@ -21,7 +21,7 @@ use Rattle.remainder.specs.Remainder.{remainderFrom}
 use Rattle.remainder.specs.Parity.{parityFrom}
 use Rattle.remainder.proofs.Fold.{remainderFrom-below, remainder-from}
 use Rattle.remainder.proofs.Parity.{parity-sum, parity-append}
-use Rattle.division.proofs.Level.{degree-some, message-parity}
+use Rattle.division_steps.proofs.Level.{degree-some, message-parity}
 use Rattle.piece_parity.specs.Carried.{carried}
 
 -- ---- zeros leave nothing

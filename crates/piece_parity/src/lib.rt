@@ -2,7 +2,7 @@
 // that pages are written by, a short one bit by bit, since making the table takes longer.
 //
 //   carried    the parity of some bits and of the bits of a piece after them
-use division::bitwise::parity_by_bits;
+use bitwise_division::parity_by_bits;
 use division::runs::parity_more;
 use division_table::make_table;
 use field::Field;

@@ -16,7 +16,7 @@ use Rattle.field.specs.Field.{degree}
 use Rattle.code.specs.Generator.{remainder}
 use Rattle.code.specs.Register.{register}
 use Rattle.piece_parity.specs.Carried.{bitsOf, carried}
-use Rattle.piece_states.specs.declared.State.{State}
+use Rattle.piece_rules.specs.declared.State.{State}
 
 unfoldable pub wordsOf : ℕ → List ℕ
 wordsOf x = run (λ i. x / 2 ^ (64 * i) % 2 ^ 64) 0 14

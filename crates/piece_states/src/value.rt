@@ -1,21 +1,22 @@
 // The calls by value: a state goes in, a reply and a state come out.
 use crate::Answered;
-use crate::State;
-use crate::rules::finish_reply;
-use crate::rules::is_usable;
-use crate::rules::start_reply;
 use field::Choice;
 use field::Field;
 use piece_parity::carried;
+use piece_rules::State;
+use piece_rules::finish_reply;
+use piece_rules::is_usable;
+use piece_rules::start_reply;
+use register_digits::to_bytes;
 use remainder::Register;
-use remainder::digits::to_bytes;
 use replies::offered;
 ghost use mathlib.Core.Path.{_≡_};
 ghost use Prim.Native.Nat.{_+_, _≤_};
 ghost use mathlib.Core.Bool.{true};
 ghost use lib.ListN.{length};
 ghost use Rattle.piece_states.specs.State.{choiceOf, after};
-ghost use Rattle.piece_states.specs.Calls.{usable, startIn, startOf, feedIn, feedOf, finished, finishIn, finishOf};
+ghost use Rattle.piece_rules.specs.Rules.{usable};
+ghost use Rattle.piece_states.specs.Calls.{startIn, startOf, feedIn, feedOf, finished, finishIn, finishOf};
 
 // The number of a field choice.
 fn choice_of(f: Field) -> u64

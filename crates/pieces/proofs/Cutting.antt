@@ -37,13 +37,15 @@ use Rattle.code.proofs.Remainder.{remainder-below}
 use Rattle.remainder.specs.Remainder.{bytesFor, bytesOf}
 use Rattle.remainder.proofs.Fold.{parity-bits-below}
 use Rattle.piece_parity.specs.Carried.{bitsOf, carried}
-use Rattle.piece_states.specs.declared.State.{State}
+use Rattle.piece_rules.specs.declared.State.{State}
 use Rattle.piece_states.specs.State.{wordsOf, choiceOf, stateOf, after}
-use Rattle.piece_states.specs.Calls.{startReply, usable, answered, finished, startFor, startOf, feedIn, feedFor, feedOf, finishIn, finishFor, finishOf}
+use Rattle.piece_rules.specs.Rules.{startReply, usable}
+use Rattle.piece_states.specs.Calls.{answered, finished, startFor, startOf, feedIn, feedFor, feedOf, finishIn, finishFor, finishOf}
 use Rattle.pieces.specs.Cutting.{joined, feeds, parityIn}
 use Rattle.piece_states.proofs.Words.{register-words}
 use Rattle.piece_parity.proofs.Carrying.{carried-start, carried-append, carried-below}
-use Rattle.piece_states.proofs.Replies.{right-level, right-second, Going, usable-going, going-usable, start-done, feed-past, feed-taken, finish-early, finish-bytes, finish-right, finish-refused, finish-done}
+use Rattle.piece_rules.proofs.Replies.{right-level, right-second, Going, usable-going, going-usable, finish-early, finish-bytes, finish-right}
+use Rattle.piece_states.proofs.Replies.{start-done, feed-past, feed-taken, finish-refused, finish-done}
 
 append-assoc : (u v w : List ℕ) → (u ++ v) ++ w ≡ u ++ (v ++ w)
 append-assoc [] v w = refl

@@ -21,13 +21,14 @@ use Rattle.field.specs.Field.{degree, longest, chosen}
 use Rattle.layout_plan.specs.Record.{fieldOf}
 use Rattle.layout_plan.specs.Plan.{shapeWith}
 use Rattle.layout_replies.specs.ReplyRules.{tooLong}
-use Rattle.piece_states.specs.declared.State.{State}
+use Rattle.piece_rules.specs.declared.State.{State}
 use Rattle.piece_states.specs.State.{stateOf, after}
 use Rattle.code.specs.Register.{register}
 use Rattle.remainder.specs.Remainder.{bytesFor, bytesOf}
-use Rattle.piece_states.specs.Calls.{Finished, shapeFor, startReply, usable, answered, finished, startIn, startFor, startOf, feedIn, feedFor, feedOf, finishReply, finishIn, finishFor, finishOf}
+use Rattle.piece_rules.specs.Rules.{shapeFor, startReply, usable, finishReply}
+use Rattle.piece_states.specs.Calls.{Finished, answered, finished, startIn, startFor, startOf, feedIn, feedFor, feedOf, finishIn, finishFor, finishOf}
 use Rattle.pieces.specs.ReplyRules.{blockRules, startRules, goesOn, feedRules, finishRules}
-use Rattle.piece_states.proofs.Replies.{reply-level, reply-empty, reply-plain, reply-long, reply-right}
+use Rattle.piece_rules.proofs.Replies.{reply-level, reply-empty, reply-plain, reply-long, reply-right}
 
 -- what a number chooses
 data Chose (c : ℕ) : Type 0 where

@@ -11,7 +11,7 @@ use Rattle.field.specs.Field.{degree}
 use Rattle.code.specs.Generator.{parity}
 use Rattle.remainder.specs.Remainder.{bytesFor, bytesOf}
 use Rattle.piece_parity.specs.Carried.{bitsOf}
-use Rattle.piece_states.specs.declared.State.{State}
+use Rattle.piece_rules.specs.declared.State.{State}
 use Rattle.piece_states.specs.Calls.{feedOf}
 
 unfoldable pub joined : List (List ℕ) → List ℕ

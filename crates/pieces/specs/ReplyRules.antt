@@ -17,8 +17,8 @@ use Rattle.field.specs.Field.{degree}
 use Rattle.layout_plan.specs.Record.{fieldOf}
 use Rattle.layout_replies.specs.ReplyRules.{tooLong}
 use Rattle.remainder.specs.Remainder.{bytesFor}
-use Rattle.piece_states.specs.declared.State.{State}
-use Rattle.piece_states.specs.Calls.{shapeFor, usable}
+use Rattle.piece_rules.specs.declared.State.{State}
+use Rattle.piece_rules.specs.Rules.{shapeFor, usable}
 
 unfoldable pub blockRules : ℕ → Field → ℕ → ℕ → List Rule
 blockRules edition f level n =

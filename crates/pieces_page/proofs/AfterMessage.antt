@@ -28,13 +28,14 @@ use Rattle.page_theory.specs.Calls.{writeOf}
 use Rattle.page_theory.specs.Damage.{Accepts, Payload}
 use Rattle.page_theory.proofs.Blocks.{message-length}
 use Rattle.page_theory.proofs.Demand2.{write-blocks}
-use Rattle.piece_states.specs.declared.State.{State}
+use Rattle.piece_rules.specs.declared.State.{State}
 use Rattle.piece_parity.specs.Carried.{bitsOf}
 use Rattle.piece_states.specs.State.{stateOf}
 use Rattle.piece_states.specs.Calls as calls
-use Rattle.piece_states.specs.Calls.{answered, startReply}
+use Rattle.piece_rules.specs.Rules.{startReply}
+use Rattle.piece_states.specs.Calls.{answered}
 use Rattle.pieces.specs.Cutting.{joined, parityIn}
-use Rattle.piece_states.proofs.Replies.{reply-plain, reply-right}
+use Rattle.piece_rules.proofs.Replies.{reply-plain, reply-right}
 use Rattle.pieces.proofs.Cutting.{cutting, parity-last}
 use Rattle.pieces_page.specs.InPieces.{InPieces, finished}
 

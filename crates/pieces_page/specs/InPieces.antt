@@ -11,7 +11,7 @@ use Rattle.field.specs.declared.Field.{Field}
 use Rattle.layout_plan.specs.declared.Plan.{Plan}
 use Rattle.layout_plan.specs.Plan.{level}
 use Rattle.page_theory.specs.Page.{message}
-use Rattle.piece_states.specs.declared.State.{State}
+use Rattle.piece_rules.specs.declared.State.{State}
 use Rattle.piece_parity.specs.Carried.{bitsOf}
 use Rattle.piece_states.specs.State.{choiceOf}
 use Rattle.piece_states.specs.Calls.{Finished, startOf, finishOf}

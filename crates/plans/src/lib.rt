@@ -87,7 +87,7 @@ pub fn refused(
             out,
             b"the layout record has not eight or twelve bytes\n",
         ),
-        Refusal::Rule(r) => reason(out, layout_plan::fields_of(edition, record), r),
+        Refusal::Rule(r) => reason(out, layout_record::fields_of(edition, record), r),
         Refusal::Range => say::put(out, range),
     }
 }

@@ -9,9 +9,9 @@ ghost use Prim.Native.Nat.{_*_, _%_, _<_};
 ghost use lib.ListN.{length};
 ghost use Rattle.code.specs.Register.{register};
 ghost use Rattle.register_fragments.specs.Fragments.{fragmentsOf, joined};
+use register_shifts::shifted;
 use remainder::Register;
 use remainder::coefficients::zero;
-use remainder::shift::shifted;
 
 // The number in seven fragments. Four words of 64 bits have room for it.
 pub fn from_fragments(l: &[u32]) -> Register

@@ -4,16 +4,13 @@
 // binary digit p of the number in its words is the coefficient of x^p.
 //
 //   coefficients   how many coefficients and bytes a remainder has; a register of zeros, one coefficient, tests for zero and for a degree
-//   shift          registers moved up and down by digits
 //   add            a register and a row of words, added
-//   digits         the digits of a register put into a page, highest first; bits read as a number; remainders as bytes
 //
+// Registers are moved up and down in the crate `register_shifts`, and read from bits and put into pages and bytes in `register_digits`.
 // What a remainder is stands in specs/Remainder.antt and in the crate `code`; proofs/ has the laws: Words (numbers in words of 64 bits), Fold
-// (the remainder as a fold over the bits), Parity (division is linear, and what follows), Bytes (digits in pages and bytes).
+// (the remainder as a fold over the bits), Parity (division is linear, and what follows).
 pub mod add;
 pub mod coefficients;
-pub mod digits;
-pub mod shift;
 
 // Fourteen words of 64 bits, the lowest first: room for mt = 868, at m = 14 and t = 62.
 pub struct Register {

@@ -3,7 +3,7 @@ use mathlib.Core.Path.{_≡_, refl, ap, _∙_}
 use mathlib.Core.List.{List}
 use Prim.Native.Nat.{ℕ}
 use native.Mathlib.Omega.{arith}
-use Rattle.piece_states.specs.declared.State.{State}
+use Rattle.piece_rules.specs.declared.State.{State}
 use Rattle.piece_states.specs.declared.Answered.{Answered}
 use Rattle.piece_states.specs.Calls.{Finished, finished, startOf, feedOf, finishOf}
 use Rattle.pieces.proofs.Ends.{start-small, piece-small, start-ends, feed-ends, finish-ends}

@@ -5,7 +5,7 @@
 use mathlib.Core.Path.{_≡_}
 use mathlib.Core.List.{List}
 use Prim.Native.Nat.{ℕ}
-use Rattle.piece_states.specs.declared.State.{State}
+use Rattle.piece_rules.specs.declared.State.{State}
 use Rattle.piece_states.specs.declared.Answered.{Answered}
 use Rattle.piece_states.specs.Calls.{Finished}
 use Rattle.answer_words.specs.Answer.{answerWord}

@@ -1,6 +1,6 @@
 // The calls that take one block's message in pieces (document 02, E4), on a state that the caller lends.
 use answer_words::answer_word;
-use piece_states::State;
+use piece_rules::State;
 ghost use Rattle.piece_states.specs.Calls.{startOf, feedOf, finishOf};
 ghost use Rattle.rudderfig.specs.Pieces.{StateReturns, ParityReturns};
 

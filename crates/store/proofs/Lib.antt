@@ -1,4 +1,2 @@
 -- Laws of the store.
-pub mod Lookups
-pub mod Saved
-pub mod Steps
+pub mod Searches

@@ -4,10 +4,8 @@
 -- answerReply a, answerVersion a  the reply and the version of an answer that names one
 -- verdictReply v                  the reply of a call that answers no version
 -- listed s                        the plain list that a store stands for
-use mathlib.Core.Bool.{cond}
 use Prim.Native.Nat.{ℕ}
 use lib.ListN.{take}
-use lib.Dec.{ltb}
 use Rattle.replies.specs.Replies.{number}
 use Rattle.store.specs.declared.Refusal.{Refusal}
 use Rattle.store.specs.declared.Refusal.the-variants.{Table, Full, NumbersUsedUp, InUse}
@@ -16,7 +14,8 @@ use Rattle.store.specs.declared.VersionAnswer.the-variants as answer
 use Rattle.store.specs.declared.Verdict.{Verdict}
 use Rattle.store.specs.declared.Verdict.the-variants as verdict
 use Rattle.store.specs.declared.Store.{Store}
-use Rattle.store.specs.Plain.{Listed}
+use Rattle.version_list.specs.Plain.{Listed}
+use Rattle.version_list.specs.Places.{held}
 
 unfoldable pub refusalNumber : Refusal → ℕ
 refusalNumber (Table r) = number r
@@ -35,10 +34,6 @@ answerVersion (answer.Refused r) = 0
 unfoldable pub verdictReply : Verdict → ℕ
 verdictReply verdict.Passed = 0
 verdictReply (verdict.Refused r) = refusalNumber r
-
--- The first places of a store hold its layouts, oldest first. It has 32 places.
-unfoldable pub held : ℕ → ℕ
-held count = cond (ltb count 32) count 32
 
 unfoldable pub listed : Store → Listed
 listed s = record { layouts = take (held (s .count)) (s .layouts); next = s .next; uses = s .uses }

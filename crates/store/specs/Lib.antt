@@ -1,5 +1,2 @@
--- The store of numbered layouts, as a plain list beside 16 numbers, and what its calls answer.
-pub mod Plain
-pub mod Saved
+-- What the calls of the store answer, and the plain list that it stands for.
 pub mod Answers
-pub mod Places

@@ -1,15 +1,10 @@
 // The calls on layouts and on the version in use at a chip select.
 use crate::Changed;
-use crate::Lookup;
-use crate::Numbered;
 use crate::Refusal;
 use crate::Store;
 use crate::Stored;
 use crate::Verdict;
 use crate::VersionAnswer;
-use crate::places::close_gap;
-use crate::places::held;
-use crate::places::index_of;
 use field::Field;
 use layout::Acceptance;
 use layout::check_layout;
@@ -18,12 +13,17 @@ use layout_plan::Plan;
 use layout_plan::Shape;
 use layout_plan::plan_of;
 use mark::Mark;
+use version_list::Lookup;
+use version_list::Numbered;
+use version_list::close_gap;
+use version_list::held;
+use version_list::index_of;
 ghost use mathlib.Core.Path.{_≡_};
 ghost use Prim.Native.Nat.{_<_};
 ghost use lib.ListN.{set};
 ghost use Rattle.layout_plan.specs.Record.{wordsOf};
 ghost use Rattle.replies.specs.Replies.{among};
-ghost use Rattle.store.specs.Plain.{ended, empty, find, known, withUses, addOf, storeOf, removeOf, setOf, useOf};
+ghost use Rattle.version_list.specs.Plain.{ended, empty, find, known, withUses, addOf, storeOf, removeOf, setOf, useOf};
 ghost use Rattle.store.specs.Answers.{answerReply, answerVersion, verdictReply, listed};
 
 // What a place without a layout holds.

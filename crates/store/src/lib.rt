@@ -10,14 +10,13 @@
 //   find_version       the layout of a version
 //
 // A store goes in by value and comes back by value. No call asks anything of its caller. What each answers, and which store it hands
-// back, is a definition over the plain list that the store stands for (specs/Plain.antt, specs/Saved.antt): a refused call hands back a
-// store that stands for the same list. The crate `store_runs` has the laws of any sequence of calls from an empty store.
+// back, is a definition over the plain list that the store stands for (`version_list/Plain`, `version_bytes/Saved`): a refused call hands
+// back a store that stands for the same list. The crate `store_runs` has the laws of any sequence of calls from an empty store.
 //
-// The first `count` of the 32 places hold the layouts, oldest first (places.rt). A layout is kept as its plan, with its sums, and not
+// The first `count` of the 32 places hold the layouts, oldest first (`version_list`). A layout is kept as its plan, with its sums, and not
 // as its record.
 mod calls;
 mod numbers;
-mod places;
 
 pub use calls::empty;
 pub use calls::find_version;
@@ -25,16 +24,10 @@ pub use calls::remove_version;
 pub use calls::store_layout;
 pub use calls::use_version;
 pub use calls::version_in_use;
-use layout_plan::Plan;
 pub use numbers::load_versions;
 pub use numbers::save_versions;
-
-// A layout with its version number, and the edition that it was stored under.
-pub struct Numbered {
-    pub number: u16,
-    pub edition: u64,
-    pub plan: Plan,
-}
+pub use version_list::Lookup;
+pub use version_list::Numbered;
 
 // The layouts, how many there are, the number that storing gives next, and the versions in use, chip select 0 first. No other crate
 // can set them.
@@ -66,12 +59,6 @@ pub enum VersionAnswer {
 pub enum Verdict {
     Passed,
     Refused(Refusal),
-}
-
-// The layout of a version, if the store has it.
-pub enum Lookup {
-    Found(Numbered),
-    Unknown,
 }
 
 // What storing ends with.

@@ -1,29 +1,15 @@
-// The versions in use as bytes on flash: chip select 15 first, most significant bits first.
+// The calls that write the versions in use to flash and load them.
 use crate::Changed;
 use crate::Refusal;
 use crate::Store;
 use crate::Verdict;
 use crate::calls::is_known;
+use version_bytes::numbers_in;
+use version_bytes::put_numbers;
 ghost use mathlib.Core.Path.{_≡_};
-ghost use lib.ListN.{length};
-ghost use Rattle.store.specs.Plain.{ended};
-ghost use Rattle.store.specs.Saved.{saved, loaded, allKnown, saving, saveOf, loadOf};
+ghost use Rattle.version_list.specs.Plain.{ended};
+ghost use Rattle.version_bytes.specs.Saved.{allKnown, saving, saveOf, loadOf};
 ghost use Rattle.store.specs.Answers.{verdictReply, listed};
-
-// Writes 16 numbers into 32 bytes.
-fn put_numbers(numbers: [u16; 16], buffer: &mut [u8])
-    requires { ⌜ length (now buffer) ≡ 32 ⌝ }
-    ensures { λ r. ⌜ now (buffer .exit) ≡ saved numbers ⌝ }
-{
-    let mut chip = 0;
-    while chip < 16 {
-        let number = numbers[chip];
-        let at = 30 - 2 * chip;
-        buffer[at] = (number / 256 % 256) as u8;
-        buffer[at + 1] = (number % 256) as u8;
-        chip += 1;
-    }
-}
 
 // Writes the versions in use into a buffer of 32 bytes.
 pub fn save_versions(store: Store, buffer: &mut [u8]) -> Verdict
@@ -35,22 +21,6 @@ pub fn save_versions(store: Store, buffer: &mut [u8]) -> Verdict
     let uses = store.uses;
     put_numbers(uses, buffer);
     Verdict::Passed
-}
-
-// The 16 numbers in 32 bytes, chip select 0 first.
-fn numbers_in(buffer: &[u8]) -> [u16; 16]
-    requires { ⌜ length (now buffer) ≡ 32 ⌝ }
-    ensures { λ r. ⌜ r ≡ loaded (now (buffer .entry)) ⌝ }
-{
-    let mut numbers = [0u16; 16];
-    let mut chip = 0;
-    while chip < 16 {
-        let high = buffer[30 - 2 * chip] as u16;
-        let low = buffer[31 - 2 * chip] as u16;
-        numbers[chip] = 256 * high + low;
-        chip += 1;
-    }
-    numbers
 }
 
 // Whether each of 16 numbers is 0 or a version that the store has.

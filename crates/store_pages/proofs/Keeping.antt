@@ -13,12 +13,12 @@ use Rattle.layout_plan.specs.Record.{Words}
 use Rattle.layout_plan.specs.Plan.{planOf}
 use Rattle.plan_test.specs.Together.{holdsTogether}
 use Rattle.plan_test.proofs.Together.{accepted-together}
-use Rattle.store.specs.declared.Lookup.{Lookup}
-use Rattle.store.specs.declared.Lookup.the-variants.{Found, Unknown}
-use Rattle.store.specs.declared.Numbered.{Numbered}
+use Rattle.version_list.specs.declared.Lookup.{Lookup}
+use Rattle.version_list.specs.declared.Lookup.the-variants.{Found, Unknown}
+use Rattle.version_list.specs.declared.Numbered.{Numbered}
 use Rattle.store.specs.declared.Store.{Store}
-use Rattle.store.specs.Plain.{Listed, Ended, empty, find, added, storeOf, removed, removeOf, withUses, setOf}
-use Rattle.store.specs.Saved.{loadOf}
+use Rattle.version_list.specs.Plain.{Listed, Ended, empty, find, added, storeOf, removed, removeOf, withUses, setOf}
+use Rattle.version_bytes.specs.Saved.{loadOf}
 use Rattle.store.specs.Answers.{listed}
 use Rattle.store_runs.specs.Reached as reached
 use Rattle.store_runs.specs.Runs as runs

@@ -20,9 +20,9 @@ use Rattle.page_theory.specs.Calls.{writeIn, writeEnded, writeFor, lookIn, look
 use Rattle.page_theory.specs.Calls.{judgeIn, judgeEnded, judgeFor, claimIn, claimEnded, claimFor}
 use Rattle.page_plan.specs.Plans.{Planned, Sound}
 use Rattle.plan_test.specs.Together.{holdsTogether}
-use Rattle.store.specs.declared.Numbered.{Numbered}
-use Rattle.store.specs.declared.Lookup.the-variants.{Found, Unknown}
-use Rattle.store.specs.Plain.{Listed, find}
+use Rattle.version_list.specs.declared.Numbered.{Numbered}
+use Rattle.version_list.specs.declared.Lookup.the-variants.{Found, Unknown}
+use Rattle.version_list.specs.Plain.{Listed, find}
 use Rattle.store_runs.specs.Runs.{lookupAnswer, versionOf}
 use Rattle.store_pages.specs.declared.VersionPlan.{VersionPlan}
 use Rattle.store_pages.specs.declared.VersionPlan.the-variants.{Known, Refused}

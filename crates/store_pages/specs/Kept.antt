@@ -10,8 +10,8 @@ use mathlib.Core.List.{List, [], _∷_}
 use Prim.Native.Nat.{ℕ, _<_}
 use lib.ListN.{getD}
 use Rattle.layout_plan.specs.Record.{Words}
-use Rattle.store.specs.declared.Numbered.{Numbered}
-use Rattle.store.specs.Plain.{Listed}
+use Rattle.version_list.specs.declared.Numbered.{Numbered}
+use Rattle.version_list.specs.Plain.{Listed}
 use Rattle.store_runs.specs.Reached as reached
 use Rattle.store_runs.specs.Reached.{Every}
 use Rattle.store_runs.specs.Runs.{Call, store}

@@ -19,9 +19,9 @@ use Rattle.layout_plan.specs.Record.{Words}
 use Rattle.layout_plan.specs.Plan.{planOf}
 use Rattle.layout.specs.Acceptance.{acceptance, refusalReply}
 use Rattle.layout.proofs.Numbers.{refusal-reply-range}
-use Rattle.store.specs.Plain.{Listed, Ended, ended, holds, known, numbered, added, addReply, addOf, storeFor, storeOf}
-use Rattle.store.specs.Plain.{removed, removeReply, removeOf, withUses, setReply, setOf}
-use Rattle.store.specs.Saved.{loaded, allKnown, loadReply, loadOf}
+use Rattle.version_list.specs.Plain.{Listed, Ended, ended, holds, known, numbered, added, addReply, addOf, storeFor, storeOf}
+use Rattle.version_list.specs.Plain.{removed, removeReply, removeOf, withUses, setReply, setOf}
+use Rattle.version_bytes.specs.Saved.{loaded, allKnown, loadReply, loadOf}
 
 -- the call was refused, and the list is as it was
 pub record Refuses (s : Listed) (r : Ended) : Type 0 where

@@ -31,9 +31,9 @@ use Rattle.page_theory.proofs.Accepted.{words-accepts}
 use Rattle.page_theory.proofs.Demand2.{write-done, write-only, take-blocks, look-blocks}
 use Rattle.page_theory.proofs.Demand3.{looks-back, takes-back, told-apart, look-refused-naming, look-refused-when, look-refused-only}
 use Rattle.page_theory.proofs.Demand3.{take-refused-naming, take-refused-when, take-refused-only}
-use Rattle.store.specs.declared.Numbered.{Numbered}
-use Rattle.store.specs.declared.Lookup.the-variants.{Found, Unknown}
-use Rattle.store.specs.Plain.{Listed, find}
+use Rattle.version_list.specs.declared.Numbered.{Numbered}
+use Rattle.version_list.specs.declared.Lookup.the-variants.{Found, Unknown}
+use Rattle.version_list.specs.Plain.{Listed, find}
 use Rattle.store_runs.specs.Runs.{lookupAnswer, versionOf, Call, afterAll}
 use Rattle.store_runs.specs.Reached as reached
 use Rattle.store_runs.specs.Reached.{Reached}

@@ -14,10 +14,10 @@ use lib.ListN.{getD, set}
 use lib.Dec.{eqb}
 use borrow.Author.Tests.{eqb-true, eqb-false, ne-eqb}
 use Rattle.replies.specs.Replies.{among}
-use Rattle.store.specs.declared.Numbered.{Numbered}
-use Rattle.store.specs.declared.Lookup.the-variants.{Found, Unknown}
-use Rattle.store.specs.Plain.{find, holds, known, without}
-use Rattle.store.specs.Saved.{allKnown}
+use Rattle.version_list.specs.declared.Numbered.{Numbered}
+use Rattle.version_list.specs.declared.Lookup.the-variants.{Found, Unknown}
+use Rattle.version_list.specs.Plain.{find, holds, known, without}
+use Rattle.version_bytes.specs.Saved.{allKnown}
 use Rattle.store_runs.specs.Reached as reached
 use Rattle.store_runs.specs.Reached.{Fresh, Once, Every}
 

@@ -13,10 +13,10 @@ use native.Mathlib.Omega.{arith}
 use lib.Dec.{eqb}
 use borrow.Author.Tests.{eqb-true, eqb-false}
 use Rattle.layout_plan.specs.Record.{Words}
-use Rattle.store.specs.declared.Numbered.{Numbered}
-use Rattle.store.specs.declared.Lookup.the-variants.{Found, Unknown}
-use Rattle.store.specs.Plain.{Listed, Ended, find, without, added, storeOf, removed, removeOf, withUses, setOf}
-use Rattle.store.specs.Saved.{loadOf}
+use Rattle.version_list.specs.declared.Numbered.{Numbered}
+use Rattle.version_list.specs.declared.Lookup.the-variants.{Found, Unknown}
+use Rattle.version_list.specs.Plain.{Listed, Ended, find, without, added, storeOf, removed, removeOf, withUses, setOf}
+use Rattle.version_bytes.specs.Saved.{loadOf}
 use Rattle.store_runs.specs.Runs.{lookupAnswer, versionOf, Call, store, remove, set, inUse, save, load, write, look, take, judge, claim, after, afterAll}
 use Rattle.store_runs.specs.Reached.{Reached}
 use Rattle.store_runs.proofs.Changes.{Refuses, Added, Removed, Set, Loaded, store-cases, remove-cases, set-cases, load-cases}

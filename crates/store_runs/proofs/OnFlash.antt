@@ -16,9 +16,9 @@ use lib.Seq.{drop-cons}
 use borrow.Author.Tests.{eq-eqb}
 use Rattle.bits.specs.Bits.{Bytes}
 use Rattle.bits.proofs.Runs.{run-at, run-ext}
-use Rattle.store.specs.Plain.{Listed, Ended, ended, withUses}
-use Rattle.store.specs.Saved.{bytesFrom, saved, numberAt, loaded, Saving, saving, saveOf, allKnown, loadOf}
-use Rattle.store.proofs.Steps.{load-done}
+use Rattle.version_list.specs.Plain.{Listed, Ended, ended, withUses}
+use Rattle.version_bytes.specs.Saved.{bytesFrom, saved, numberAt, loaded, Saving, saving, saveOf, allKnown, loadOf}
+use Rattle.version_bytes.proofs.Saved.{load-done}
 use Rattle.store_runs.specs.Reached.{Reached}
 use Rattle.store_runs.proofs.Changes.{load-cases}
 use Rattle.store_runs.proofs.Lists.{all-small}

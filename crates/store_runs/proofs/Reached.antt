@@ -13,9 +13,9 @@ use lib.ListN.{length, length-append, length-set}
 use lib.Dec.{eqb}
 use Rattle.bits.proofs.Runs.{run-length}
 use Rattle.layout_plan.specs.Record.{Words}
-use Rattle.store.specs.declared.Numbered.{Numbered}
-use Rattle.store.specs.Plain.{Listed, Ended, empty, known, without, added, storeOf, removed, removeOf, withUses, setOf}
-use Rattle.store.specs.Saved.{numberAt, loaded, allKnown, loadOf}
+use Rattle.version_list.specs.declared.Numbered.{Numbered}
+use Rattle.version_list.specs.Plain.{Listed, Ended, empty, known, without, added, storeOf, removed, removeOf, withUses, setOf}
+use Rattle.version_bytes.specs.Saved.{numberAt, loaded, allKnown, loadOf}
 use Rattle.store_runs.specs.Runs.{Call, store, remove, set, inUse, save, load, write, look, take, judge, claim, after, afterAll}
 use Rattle.store_runs.specs.Reached as reached
 use Rattle.store_runs.specs.Reached.{Reached}

@@ -14,8 +14,8 @@ use Rattle.layout.specs.declared.Acceptance.the-variants.{Accepted, Refused}
 use Rattle.layout_plan.specs.Record.{Words}
 use Rattle.layout.specs.Acceptance.{acceptance}
 use Rattle.store.specs.declared.Store.{Store}
-use Rattle.store.specs.Plain.{Listed, Ended, empty, addReply, addOf, storeFor, storeOf, removeReply, removeOf, setReply, setOf}
-use Rattle.store.specs.Saved.{saving, saved, saveOf, loadReply, loadOf}
+use Rattle.version_list.specs.Plain.{Listed, Ended, empty, addReply, addOf, storeFor, storeOf, removeReply, removeOf, setReply, setOf}
+use Rattle.version_bytes.specs.Saved.{saving, saved, saveOf, loadReply, loadOf}
 use Rattle.store.specs.Answers.{listed}
 use Rattle.store_runs.specs.Runs as runs
 use Rattle.store_runs.specs.Runs.{Call, Answer, written, looked, taken, judged, claimed, told, answer, after, answers, afterAll}

@@ -16,9 +16,9 @@ use Rattle.layout.specs.declared.Acceptance.the-variants as answer
 use Rattle.layout_plan.specs.Record.{Words}
 use Rattle.layout_plan.specs.Plan.{planOf}
 use Rattle.layout.specs.Acceptance.{acceptance}
-use Rattle.store.specs.declared.Numbered.{Numbered}
-use Rattle.store.specs.Plain.{Listed, holds}
-use Rattle.store.specs.Saved.{allKnown}
+use Rattle.version_list.specs.declared.Numbered.{Numbered}
+use Rattle.version_list.specs.Plain.{Listed, holds}
+use Rattle.version_bytes.specs.Saved.{allKnown}
 
 pub data Fresh : List Numbered → ℕ → Type 0 where
   none : {n : ℕ} → Fresh [] n

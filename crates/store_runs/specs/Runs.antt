@@ -15,15 +15,15 @@ use Rattle.layout.specs.declared.Acceptance.the-variants.{Accepted, Refused}
 use Rattle.layout.specs.declared.Refusal.the-variants as refusal
 use Rattle.layout_plan.specs.Record.{Words}
 use Rattle.page_theory.specs.Calls.{Written, writeFor, Looked, lookFor, Taken, takeFor, Judged, judgeFor, Claimed, claimFor}
-use Rattle.store.specs.declared.Lookup.{Lookup}
-use Rattle.store.specs.declared.Lookup.the-variants.{Found, Unknown}
+use Rattle.version_list.specs.declared.Lookup.{Lookup}
+use Rattle.version_list.specs.declared.Lookup.the-variants.{Found, Unknown}
 use Rattle.store.specs.declared.Store.{Store}
 use Rattle.store.specs.declared.Stored.{Stored}
 use Rattle.store.specs.declared.Changed.{Changed}
 use Rattle.store.specs.declared.VersionAnswer.{VersionAnswer}
 use Rattle.store.specs.declared.Verdict.{Verdict}
-use Rattle.store.specs.Plain.{Listed, Ended, ended, find, storeOf, removeOf, setOf, useOf}
-use Rattle.store.specs.Saved.{Saving, saving, saveOf, loadOf}
+use Rattle.version_list.specs.Plain.{Listed, Ended, ended, find, storeOf, removeOf, setOf, useOf}
+use Rattle.version_bytes.specs.Saved.{Saving, saving, saveOf, loadOf}
 use Rattle.store.specs.Answers.{answerReply, answerVersion, verdictReply, listed}
 
 -- The kept plan is the layout; no record is read. An unknown version is a number out of its range, before everything else.

@@ -7,9 +7,9 @@ use Rattle.layout_plan.specs.declared.Plan.{Plan}
 use Rattle.layout_plan.specs.Record.{Words}
 use Rattle.layout.specs.Acceptance.{acceptance}
 use Rattle.page_theory.specs.Damage.{Accepts}
-use Rattle.store.specs.declared.Numbered.{Numbered}
-use Rattle.store.specs.declared.Lookup.the-variants.{Found}
-use Rattle.store.specs.Plain.{Listed, find}
+use Rattle.version_list.specs.declared.Numbered.{Numbered}
+use Rattle.version_list.specs.declared.Lookup.the-variants.{Found}
+use Rattle.version_list.specs.Plain.{Listed, find}
 use Rattle.store_runs.specs.Runs.{versionOf}
 
 pub record Names (s : Listed) (v : ℕ) (w : Words) (q : Plan) : Type 0 where

@@ -6,7 +6,7 @@ use Rattle.layout_plan.specs.Record.{layoutOf}
 use Rattle.layout_plan.specs.Plan.{layoutFor, planOf}
 use Rattle.layout.specs.Acceptance.{findingOf, acceptance}
 use Rattle.layout.proofs.Findings.{kept-accepted, broken-refused}
-use Rattle.layout_plan.proofs.Records.{record-long}
+use Rattle.layout_record.proofs.Records.{record-long}
 use Rattle.layout.proofs.check_layout.Statement.{statement}
 use Rattle.layout.proofs.check_layout.Tie as tie
 

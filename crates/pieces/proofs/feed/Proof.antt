@@ -41,10 +41,10 @@ use denote.Triple.Walked.{says, Stays, stay-ref, stay-none-slice, walkOf, goes-r
 use denote.Exit.{yes}
 use denote.Triple.Clauses.{ensured, lasts}
 use Rattle.piece_states.specs.Calls.{feedOf}
-use Rattle.piece_states.specs.declared.State.{State}
+use Rattle.piece_rules.specs.declared.State.{State}
 use Rattle.piece_states.specs.declared.Answered.{Answered}
-use Rattle.piece_states.proofs.State as T
-use Rattle.piece_states.proofs.State.Laws as T′
+use Rattle.piece_rules.proofs.State as T
+use Rattle.piece_rules.proofs.State.Laws as T′
 use Rattle.piece_states.proofs.Answered as F
 use Rattle.piece_states.proofs.Answered.Laws as F′
 use Rattle.piece_states.proofs.value.feed as value

@@ -41,10 +41,10 @@ use denote.Triple.Table.{entered, cited}
 use denote.Triple.Walked.{says, Stays, stay-ref, gave-slice, walkOf, goes-ref, goes-gave-slice, Walks, ends-at, walked, walk-meets}
 use denote.Triple.Clauses.{ensured, lasts}
 use Rattle.piece_states.specs.Calls.{finished, finishOf}
-use Rattle.piece_states.specs.declared.State.{State}
+use Rattle.piece_rules.specs.declared.State.{State}
 use Rattle.piece_states.specs.declared.Answered.{Answered}
-use Rattle.piece_states.proofs.State as T
-use Rattle.piece_states.proofs.State.Laws as T′
+use Rattle.piece_rules.proofs.State as T
+use Rattle.piece_rules.proofs.State.Laws as T′
 use Rattle.piece_states.proofs.Answered as F
 use Rattle.piece_states.proofs.Answered.Laws as F′
 use Rattle.piece_states.proofs.value.finish as value

@@ -3,7 +3,7 @@ use native.Mathlib.Omega.{arith}
 use borrow.Author.Needs.{needs}
 use Rattle.bits.specs.Bits.{run}
 use Rattle.remainder.specs.Parity.{parityFrom}
-use Rattle.division.proofs.Steps.{odd-below, odd-digits}
+use Rattle.division_steps.proofs.Steps.{odd-below, odd-digits}
 use Rattle.division.proofs.feed.feed_bits.Statement.{statement}
 use Rattle.division.proofs.feed.feed_bits.Tie as tie
 

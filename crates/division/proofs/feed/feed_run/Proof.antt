@@ -2,7 +2,7 @@ use Prim.Native.Nat.{_+_, _*_, _/_, _%_}
 use mathlib.Core.Path.{_≡_, refl}
 use native.Mathlib.Omega.{arith}
 use borrow.Author.Needs.{needs}
-use Rattle.division.proofs.Steps.{rests-below, parity-parts}
+use Rattle.division_steps.proofs.Steps.{rests-below, parity-parts}
 use Rattle.division.proofs.feed.feed_run.Statement.{statement}
 use Rattle.division.proofs.feed.feed_run.Tie as tie
 

@@ -4,7 +4,7 @@ use native.Mathlib.Omega.{arith}
 use borrow.Author.Needs.{needs}
 use lib.ListN.{length, getD}
 use Rattle.bits.specs.Bits.{bitOf, run, number}
-use Rattle.division.proofs.Steps.{stored-next}
+use Rattle.division_steps.proofs.Steps.{stored-next}
 use Rattle.division.proofs.feed.words_from.Statement.{statement}
 use Rattle.division.proofs.feed.words_from.Tie as tie
 

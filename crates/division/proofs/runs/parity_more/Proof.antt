@@ -1,7 +1,7 @@
 use native.Mathlib.Omega.{arith}
 use borrow.Author.Needs.{needs}
 use Rattle.division_table.proofs.Level.{level-words, level-room}
-use Rattle.division.proofs.Level.{up-below, up-fits, up-divided, table-rests, table-divides}
+use Rattle.division_steps.proofs.Level.{up-below, up-fits, up-divided, table-rests, table-divides}
 use Rattle.division.proofs.runs.parity_more.Statement.{statement}
 use Rattle.division.proofs.runs.parity_more.Tie as tie
 

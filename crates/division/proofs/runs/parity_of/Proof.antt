@@ -1,7 +1,7 @@
 use native.Mathlib.Omega.{arith}
 use lib.Pow.{pow-pos}
 use borrow.Author.Needs.{needs}
-use Rattle.division.proofs.Level.{remainder-none, message-parity}
+use Rattle.division_steps.proofs.Level.{remainder-none, message-parity}
 use Rattle.division.proofs.runs.parity_of.Statement.{statement}
 use Rattle.division.proofs.runs.parity_of.Tie as tie
 

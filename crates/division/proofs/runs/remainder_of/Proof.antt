@@ -1,7 +1,7 @@
 use native.Mathlib.Omega.{arith}
 use borrow.Author.Needs.{needs}
 use Rattle.remainder.proofs.Fold.{parity-bits-below}
-use Rattle.division.proofs.Level.{remainder-number, remainder-parts}
+use Rattle.division_steps.proofs.Level.{remainder-number, remainder-parts}
 use Rattle.division.proofs.runs.remainder_of.Statement.{statement}
 use Rattle.division.proofs.runs.remainder_of.Tie as tie
 

@@ -1,6 +1,6 @@
 use Rattle.piece_states.specs.State.{after}
 use Rattle.piece_states.proofs.Words.{words-number}
-use Rattle.piece_states.proofs.Replies.{usable-going, usable-level, piece-short}
+use Rattle.piece_rules.proofs.Replies.{usable-going, usable-level, piece-short}
 use native.Mathlib.Omega.{arith}
 use borrow.Author.Needs.{needs}
 use Rattle.piece_states.proofs.value.advanced.Statement.{statement}

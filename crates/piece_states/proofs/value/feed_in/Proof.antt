@@ -1,7 +1,8 @@
 use mathlib.Core.Path.{sym, _∙_}
 use native.Mathlib.Omega.{arith}
 use borrow.Author.Tests.{not-true, not-false}
-use Rattle.piece_states.proofs.Replies.{usable-going, feed-unusable, feed-past, feed-taken}
+use Rattle.piece_rules.proofs.Replies.{usable-going}
+use Rattle.piece_states.proofs.Replies.{feed-unusable, feed-past, feed-taken}
 use borrow.Author.Needs.{needs}
 use Rattle.piece_states.proofs.value.feed_in.Statement.{statement}
 use Rattle.piece_states.proofs.value.feed_in.Tie as tie

@@ -1,5 +1,6 @@
 use mathlib.Core.Path.{sym, _∙_}
-use Rattle.piece_states.proofs.Replies.{finish-refused, finish-room, finish-done}
+use Rattle.piece_rules.proofs.Replies.{finish-room}
+use Rattle.piece_states.proofs.Replies.{finish-refused, finish-done}
 use borrow.Author.Needs.{needs}
 use Rattle.piece_states.proofs.value.finish_in.Statement.{statement}
 use Rattle.piece_states.proofs.value.finish_in.Tie as tie

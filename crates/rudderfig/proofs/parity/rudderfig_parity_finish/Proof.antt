@@ -41,11 +41,11 @@ use denote.Triple.Table.{entered, cited}
 use denote.Triple.Walked.{says, Stays, stay-ref, gave-slice, walkOf, goes-ref, goes-gave-slice, Walks, ends-at, walked, walk-meets}
 use denote.Triple.Clauses.{ensured, lasts}
 use Rattle.piece_states.specs.Calls.{finishOf}
-use Rattle.piece_states.specs.declared.State.{State}
+use Rattle.piece_rules.specs.declared.State.{State}
 use Rattle.rudderfig.specs.declared.parity.Worded.{Worded}
 use Rattle.rudderfig.specs.Pieces.{ParityReturns}
-use Rattle.piece_states.proofs.State as T
-use Rattle.piece_states.proofs.State.Laws as T′
+use Rattle.piece_rules.proofs.State as T
+use Rattle.piece_rules.proofs.State.Laws as T′
 use Rattle.rudderfig.proofs.parity.Worded as F
 use Rattle.rudderfig.proofs.parity.Worded.Laws as F′
 use Rattle.rudderfig.proofs.parity.finished as value

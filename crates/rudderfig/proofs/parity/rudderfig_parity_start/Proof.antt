@@ -39,12 +39,12 @@ use denote.Triple.Walked.{says, Stays, stay-ref, stay-none, walkOf, AllGo, goes-
 use denote.Exit.{yes}
 use denote.Triple.Clauses.{ensured, lasts}
 use Rattle.piece_states.specs.Calls.{startOf}
-use Rattle.piece_states.specs.declared.State.{State}
+use Rattle.piece_rules.specs.declared.State.{State}
 use Rattle.piece_states.specs.declared.Answered.{Answered}
 use Rattle.rudderfig.specs.declared.parity.Worded.{Worded}
 use Rattle.rudderfig.specs.Pieces.{StateReturns}
-use Rattle.piece_states.proofs.State as T
-use Rattle.piece_states.proofs.State.Laws as T′
+use Rattle.piece_rules.proofs.State as T
+use Rattle.piece_rules.proofs.State.Laws as T′
 use Rattle.rudderfig.proofs.parity.Worded as F
 use Rattle.rudderfig.proofs.parity.Worded.Laws as F′
 use Rattle.rudderfig.proofs.parity.started as value

@@ -1,7 +1,7 @@
 -- `store::calls::add_layout` meets its contract.
-use Rattle.store.specs.Plain.{added}
+use Rattle.version_list.specs.Plain.{added}
 use Rattle.store.specs.Answers.{refusalNumber, answerReply, answerVersion, listed}
-use Rattle.store.proofs.Steps.{held-length, placed-taken, add-full, add-used-up, add-done}
+use Rattle.version_list.proofs.Steps.{held-length, placed-taken, add-full, add-used-up, add-done}
 use borrow.Author.Needs.{needs}
 use Rattle.store.proofs.calls.add_layout.Statement.{statement}
 use Rattle.store.proofs.calls.add_layout.Tie as tie

@@ -1,7 +1,8 @@
 -- `store::calls::empty` meets its contract.
 use mathlib.Core.Path.{refl}
-use Rattle.store.specs.Plain.{empty}
-use Rattle.store.specs.Answers.{held, listed}
+use Rattle.version_list.specs.Plain.{empty}
+use Rattle.version_list.specs.Places.{held}
+use Rattle.store.specs.Answers.{listed}
 use borrow.Author.Needs.{needs}
 use Rattle.store.proofs.calls.empty.Statement.{statement}
 use Rattle.store.proofs.calls.empty.Tie as tie

@@ -3,9 +3,9 @@ use mathlib.Core.Path.{sym}
 use Prim.Native.Nat.{_≤_}
 use native.Mathlib.Omega.{arith}
 use Rattle.store.specs.Answers.{listed}
-use Rattle.store.specs.Places.{vacant}
-use Rattle.store.proofs.Lookups.{held-small}
-use Rattle.store.proofs.Steps.{looked-none, looked-found}
+use Rattle.version_list.specs.Places.{vacant}
+use Rattle.version_list.proofs.Lookups.{held-small}
+use Rattle.version_list.proofs.Steps.{looked-none, looked-found}
 use borrow.Author.Needs.{needs}
 use Rattle.store.proofs.calls.find_version.Statement.{statement}
 use Rattle.store.proofs.calls.find_version.Tie as tie

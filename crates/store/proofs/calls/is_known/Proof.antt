@@ -2,8 +2,8 @@
 use mathlib.Core.Path.{sym, _∙_}
 use native.Mathlib.Omega.{arith}
 use Rattle.store.specs.Answers.{listed}
-use Rattle.store.proofs.Lookups.{held-small}
-use Rattle.store.proofs.Steps.{known-zero, known-held, held-test}
+use Rattle.version_list.proofs.Lookups.{held-small}
+use Rattle.version_list.proofs.Steps.{known-zero, known-held, held-test}
 use borrow.Author.Needs.{needs}
 use Rattle.store.proofs.calls.is_known.Statement.{statement}
 use Rattle.store.proofs.calls.is_known.Tie as tie

@@ -4,7 +4,7 @@ use Prim.Native.Nat.{_-_, _≤_}
 use native.Mathlib.Omega.{arith}
 use lib.ListN.{length, drop}
 use Rattle.replies.specs.Replies.{among}
-use Rattle.store.proofs.Saved.{among-next, among-here, among-end}
+use Rattle.store.proofs.Searches.{among-next, among-here, among-end}
 use borrow.Author.Needs.{needs}
 use Rattle.store.proofs.calls.is_used.Statement.{statement}
 use Rattle.store.proofs.calls.is_used.Tie as tie

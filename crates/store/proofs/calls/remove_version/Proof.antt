@@ -1,10 +1,10 @@
 -- `store::calls::remove_version` meets its contract.
 use mathlib.Core.Path.{sym, _∙_}
 use Rattle.replies.specs.Replies.{number}
-use Rattle.store.specs.Plain.{removed}
+use Rattle.version_list.specs.Plain.{removed}
 use Rattle.store.specs.Answers.{refusalNumber, verdictReply, listed}
-use Rattle.store.proofs.Lookups.{held-small}
-use Rattle.store.proofs.Steps.{held-none, held-found, taken-out, remove-unknown, remove-used, remove-done}
+use Rattle.version_list.proofs.Lookups.{held-small}
+use Rattle.version_list.proofs.Steps.{held-none, held-found, taken-out, remove-unknown, remove-used, remove-done}
 use borrow.Author.Needs.{needs}
 use Rattle.store.proofs.calls.remove_version.Statement.{statement}
 use Rattle.store.proofs.calls.remove_version.Tie as tie

@@ -1,7 +1,7 @@
 -- `store::calls::store_layout` meets its contract.
 use mathlib.Core.Path.{sym, _∙_}
 use Rattle.store.specs.Answers.{refusalNumber, answerReply, answerVersion}
-use Rattle.store.proofs.Steps.{store-accepted, store-refused}
+use Rattle.version_list.proofs.Steps.{store-accepted, store-refused}
 use borrow.Author.Needs.{needs}
 use Rattle.store.proofs.calls.store_layout.Statement.{statement}
 use Rattle.store.proofs.calls.store_layout.Tie as tie

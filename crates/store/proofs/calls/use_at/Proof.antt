@@ -4,9 +4,9 @@ use Prim.Native.Nat.{ℕ}
 use lib.ListN.{set}
 use Rattle.replies.specs.Replies.{number}
 use Rattle.store.specs.Answers.{refusalNumber, verdictReply, listed}
-use Rattle.store.specs.Plain.{ended, withUses, setOf}
-use Rattle.store.proofs.Lookups.{find-number, find-holds, find-unknown}
-use Rattle.store.proofs.Steps.{known-zero, known-held, set-unknown, set-done}
+use Rattle.version_list.specs.Plain.{ended, withUses, setOf}
+use Rattle.version_list.proofs.Lookups.{find-number, find-holds, find-unknown}
+use Rattle.version_list.proofs.Steps.{known-zero, known-held, set-unknown, set-done}
 use borrow.Author.Needs.{needs}
 use Rattle.store.proofs.calls.use_at.Statement.{statement}
 use Rattle.store.proofs.calls.use_at.Tie as tie

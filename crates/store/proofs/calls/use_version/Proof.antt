@@ -1,7 +1,7 @@
 -- `store::calls::use_version` meets its contract.
 use Rattle.replies.specs.Replies.{number}
 use Rattle.store.specs.Answers.{refusalNumber, verdictReply}
-use Rattle.store.proofs.Steps.{set-outside}
+use Rattle.version_list.proofs.Steps.{set-outside}
 use borrow.Author.Needs.{needs}
 use Rattle.store.proofs.calls.use_version.Statement.{statement}
 use Rattle.store.proofs.calls.use_version.Tie as tie

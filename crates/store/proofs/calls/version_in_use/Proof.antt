@@ -1,7 +1,7 @@
 -- `store::calls::version_in_use` meets its contract.
 use borrow.Author.Tests.{lt-ltb, le-ltb}
 use Rattle.replies.specs.Replies.{number}
-use Rattle.store.specs.Plain.{useOf}
+use Rattle.version_list.specs.Plain.{useOf}
 use Rattle.store.specs.Answers.{refusalNumber, answerReply, answerVersion, listed}
 use borrow.Author.Needs.{needs}
 use Rattle.store.proofs.calls.version_in_use.Statement.{statement}

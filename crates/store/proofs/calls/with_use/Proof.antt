@@ -1,6 +1,6 @@
 -- `store::calls::with_use` meets its contract.
 use mathlib.Core.Path.{refl}
-use Rattle.store.specs.Plain.{withUses}
+use Rattle.version_list.specs.Plain.{withUses}
 use Rattle.store.specs.Answers.{listed}
 use borrow.Author.Needs.{needs}
 use Rattle.store.proofs.calls.with_use.Statement.{statement}

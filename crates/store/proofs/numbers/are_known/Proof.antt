@@ -4,9 +4,9 @@ use Prim.Native.Nat.{_-_, _≤_}
 use native.Mathlib.Omega.{arith}
 use lib.ListN.{length, drop}
 use borrow.Author.Tests.{not-true, not-false}
-use Rattle.store.specs.Saved.{allKnown}
+use Rattle.version_bytes.specs.Saved.{allKnown}
 use Rattle.store.specs.Answers.{listed}
-use Rattle.store.proofs.Saved.{known-next, known-here, known-end}
+use Rattle.store.proofs.Searches.{known-next, known-here, known-end}
 use borrow.Author.Needs.{needs}
 use Rattle.store.proofs.numbers.are_known.Statement.{statement}
 use Rattle.store.proofs.numbers.are_known.Tie as tie

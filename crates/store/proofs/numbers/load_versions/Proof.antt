@@ -2,9 +2,9 @@
 use mathlib.Core.Path.{sym, _∙_}
 use borrow.Author.Tests.{not-true, not-false}
 use Rattle.replies.specs.Replies.{number}
-use Rattle.store.specs.Plain.{withUses}
+use Rattle.version_list.specs.Plain.{withUses}
 use Rattle.store.specs.Answers.{refusalNumber, verdictReply, listed}
-use Rattle.store.proofs.Steps.{load-length, load-unknown, load-done}
+use Rattle.version_bytes.proofs.Saved.{load-length, load-unknown, load-done}
 use borrow.Author.Needs.{needs}
 use Rattle.store.proofs.numbers.load_versions.Statement.{statement}
 use Rattle.store.proofs.numbers.load_versions.Tie as tie

@@ -2,7 +2,7 @@
 use mathlib.Core.Path.{ap}
 use borrow.Author.Tests.{eq-eqb, ne-eqb}
 use Rattle.replies.specs.Replies.{number}
-use Rattle.store.specs.Saved.{saving, saveOf}
+use Rattle.version_bytes.specs.Saved.{saving, saveOf}
 use Rattle.store.specs.Answers.{refusalNumber, verdictReply, listed}
 use borrow.Author.Needs.{needs}
 use Rattle.store.proofs.numbers.save_versions.Statement.{statement}

@@ -1,0 +1,2 @@
+-- The laws of the division bit by bit.
+pub mod Single

@@ -1,0 +1,2 @@
+-- The laws of digits in pages and bytes.
+pub mod Bytes

@@ -1,0 +1,2 @@
+-- The laws of registers moved up and down.
+pub mod Shifts

@@ -1,0 +1,2 @@
+-- Laws of writing and loading them.
+pub mod Saved

@@ -1,0 +1,2 @@
+-- The versions in use as they stand on flash.
+pub mod Saved

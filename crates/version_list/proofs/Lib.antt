@@ -1,0 +1,3 @@
+-- Laws of the list and of its places.
+pub mod Lookups
+pub mod Steps
