@@ -16,12 +16,12 @@ ghost use Rattle.powers.specs.Powers.{Powers};
 ghost use Rattle.code.specs.Register.{register};
 ghost use Rattle.series.specs.Series.{Elements};
 ghost use Rattle.bits.specs.Decides.{Decides};
+ghost use Rattle.syndrome_lanes.specs.Lanes.{Decoding};
 ghost use Rattle.syndromes.specs.PowerSums.{Summed, Agrees, Squared, Spread, Syndromes};
 use field::Field;
 use field_tables::product_by_tables;
 use field_tables::wrap;
 use remainder::Register;
-use syndrome_lanes::fill_rows;
 use syndrome_lanes::lane_values;
 
 // Adds a^(jp) to the sum with each odd j below 2t.
@@ -86,16 +86,15 @@ pub fn syndromes(
     f: Field,
     powers: &[u16; 16384],
     logs: &[u16; 16384],
+    rows: &[u16; 2048],
     state: Register,
     t: usize,
 ) -> [u16; 128]
-    requires { ⌜ Tables f (now powers) (now logs) ⌝ }
+    requires { ⌜ Decoding f t (now powers) (now logs) (now rows) ⌝ }
     requires { ⌜ (t ≤ 62) × (register (state .words) < 2 ^ (degree f * t)) ⌝ }
     ensures { λ r. ⌜ Syndromes f t (register (state .words)) r ⌝ }
 {
-    let mut rows = [0u16; 2048];
-    fill_rows(powers, &mut rows, t);
-    let lanes = lane_values(f, powers, logs, &rows, state, t);
+    let lanes = lane_values(f, powers, logs, rows, state, t);
     let mut sums = spread(&lanes, t);
     add_squares(f, powers, logs, &mut sums, t);
     sums

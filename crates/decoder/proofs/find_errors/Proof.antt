@@ -30,7 +30,7 @@ syndromes-requires c κs = search needs
 shortest-requires : tie.Need-shortest-requires
 shortest-requires c κs =
     let s = c .before .before .before .before in
-    (s .pre .0, (s .pre .1 .fits .level, syndromes-power-sums _ _ _ (c .before .syndromes .ensures)))
+    (s .pre .0 .tables, (s .pre .1 .fits .level, syndromes-power-sums _ _ _ (c .before .syndromes .ensures)))
 
 no-exponents-requires-2 : tie.Need-no-exponents-requires-2
 no-exponents-requires-2 c κs = search needs
@@ -53,7 +53,7 @@ passes-requires c κs =
     let short = nonzero-short (s .pre .1) (c .before .before .before .before .before .before .before .before .is-zero .ensures) (c .before .before .before .before .before .before .before .if1 .left) in
     let sums = c .before .before .before .before .before .before .syndromes .ensures in
     let recurs = c .before .before .before .before .shortest .ensures in
-    (record { at = s .pre .0 .powers-at }, (s .pre .1 .fits .level, sums .elements, short, omega (arith, s .pre .1 .fits .level, c .before .before .if2 .left)))
+    (record { at = s .pre .0 .tables .powers-at }, (s .pre .1 .fits .level, sums .elements, short, omega (arith, s .pre .1 .fits .level, c .before .before .if2 .left)))
 
 returns-3 : tie.Need-returns-3
 returns-3 c =
@@ -72,7 +72,7 @@ cannot-split-requires c κs =
     let short = nonzero-short (s .pre .1) (c .before .before .before .before .before .before .before .before .before .before .before .is-zero .ensures) (c .before .before .before .before .before .before .before .before .before .before .if1 .left) in
     let sums = c .before .before .before .before .before .before .before .before .before .syndromes .ensures in
     let recurs = c .before .before .before .before .before .before .before .shortest .ensures in
-    (s .pre .0, (omega (arith, s .pre .1 .fits .level, c .before .before .before .before .before .if2 .left), recurs-divisor _ _ _ _ (s .pre .1) short sums recurs))
+    (s .pre .0 .tables, (omega (arith, s .pre .1 .fits .level, c .before .before .before .before .before .if2 .left), recurs-divisor _ _ _ _ (s .pre .1) short sums recurs))
 
 no-exponents-requires-3 : tie.Need-no-exponents-requires-3
 no-exponents-requires-3 c κs = search needs
@@ -92,7 +92,7 @@ locate-requires c κs =
     let short = nonzero-short (s .pre .1) (c .before .before .before .before .before .before .before .before .before .before .before .before .before .before .is-zero .ensures) (c .before .before .before .before .before .before .before .before .before .before .before .before .before .if1 .left) in
     let sums = c .before .before .before .before .before .before .before .before .before .before .before .before .syndromes .ensures in
     let recurs = c .before .before .before .before .before .before .before .before .before .before .shortest .ensures in
-    (s .pre .0, (omega (arith, s .pre .1 .fits .level, c .before .before .before .before .before .before .before .before .if2 .left), short, small-elements _ (recurs .small-c), recurs-leading _ _ _ _ (s .pre .1) short sums recurs))
+    (s .pre .0 .tables, (omega (arith, s .pre .1 .fits .level, c .before .before .before .before .before .before .before .before .if2 .left), short, small-elements _ (recurs .small-c), recurs-leading _ _ _ _ (s .pre .1) short sums recurs))
 
 no-exponents-requires-4 : tie.Need-no-exponents-requires-4
 no-exponents-requires-4 c κs = search needs
@@ -120,7 +120,7 @@ sums-agree-requires c κs =
     let sums = c .before .before .before .before .before .before .before .before .before .before .before .before .before .before .before .before .before .syndromes .ensures in
     let recurs = c .before .before .before .before .before .before .before .before .before .before .before .before .before .before .before .shortest .ensures in
     let places = c .before .before .before .before .locate in (
-      record { at = s .pre .0 .powers-at },
+      record { at = s .pre .0 .tables .powers-at },
       (s .pre .1 .fits .level, sums .elements, omega (arith, s .pre .1 .fits .level, places .ensures .0, c .before .before .before .before .before .before .before .before .before .before .before .before .before .if2 .left), λ k l. rw (c .reversed .ensures .at k l) (omega (arith, places .ensures .1 .lists .below (places .result .count - 1 - k) (omega (arith, l))))),
     )
 
