@@ -97,17 +97,17 @@ fn reversed(places: &[u16; 64], count: usize) -> [u16; 64]
 fn passes(
     f: Field,
     powers: &[u16; 16384],
-    sums: [u16; 128],
+    sums: &[u16; 128],
     t: usize,
     n: usize,
-    places: [u16; 64],
+    places: &[u16; 64],
     count: usize,
 ) -> bool
     requires { ⌜ Powers f (now powers) ⌝ }
-    requires { ⌜ (t ≤ 62) × (Elements f sums) × (n ≤ longest f) × (count ≤ 64) ⌝ }
-    ensures { λ r. ⌜ Decides r ((Descending n count places) × (Agrees f t sums (take count places))) ⌝ }
+    requires { ⌜ (t ≤ 62) × (Elements f (now sums)) × (n ≤ longest f) × (count ≤ 64) × (length (now places) ≡ 64) ⌝ }
+    ensures { λ r. ⌜ Decides r ((Descending n count (now (places .entry))) × (Agrees f t (now (sums .entry)) (take count (now (places .entry))))) ⌝ }
 {
-    if descend_below(&places, count, n) {
+    if descend_below(places, count, n) {
         return sums_agree(f, powers, sums, t, places, count);
     }
     false
@@ -154,7 +154,7 @@ pub fn find_errors(
         return no_exponents(false);
     }
     let proposed = find_roots(f, powers, logs, &c, len);
-    if passes(f, powers, sums, t, n, proposed, len) {
+    if passes(f, powers, &sums, t, n, &proposed, len) {
         return Found {
             located: true,
             count: len,
@@ -171,7 +171,7 @@ pub fn find_errors(
         return no_exponents(false);
     }
     let exponents = reversed(&roots, count);
-    let located = sums_agree(f, powers, sums, t, exponents, count);
+    let located = sums_agree(f, powers, &sums, t, &exponents, count);
     Found {
         located: located,
         count: count,

@@ -9,7 +9,7 @@
 ghost use mathlib.Core.Path.{_≡_};
 ghost use mathlib.Core.List.{[], _∷_};
 ghost use Prim.Native.Nat.{ℕ, _+_, _*_, _^_, _<_, _≤_};
-ghost use lib.ListN.{getD, take};
+ghost use lib.ListN.{length, getD, take};
 ghost use Rattle.field.specs.Field.{degree, longest};
 ghost use Rattle.field.specs.Tables.{Tables};
 ghost use Rattle.powers.specs.Powers.{Powers};
@@ -120,16 +120,16 @@ fn all_zero(sums: &[u16; 128], t: usize) -> bool
 pub fn sums_agree(
     f: Field,
     powers: &[u16; 16384],
-    sums: [u16; 128],
+    sums: &[u16; 128],
     t: usize,
-    places: [u16; 64],
+    places: &[u16; 64],
     count: usize,
 ) -> bool
     requires { ⌜ Powers f (now powers) ⌝ }
-    requires { ⌜ (t ≤ 62) × (Elements f sums) × (count ≤ 64) × ((k : ℕ) → k < count → getD places k 0 < longest f) ⌝ }
-    ensures { λ r. ⌜ Decides r (Agrees f t sums (take count places)) ⌝ }
+    requires { ⌜ (t ≤ 62) × (Elements f (now sums)) × (count ≤ 64) × ((k : ℕ) → k < count → getD (now places) k 0 < longest f) × (length (now places) ≡ 64) ⌝ }
+    ensures { λ r. ⌜ Decides r (Agrees f t (now (sums .entry)) (take count (now (places .entry)))) ⌝ }
 {
-    let mut left = sums;
+    let mut left = *sums;
     let mut k: usize = 0;
     while k < count {
         let p = places[k] as usize;
