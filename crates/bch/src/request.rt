@@ -11,9 +11,9 @@ ghost use Rattle.decoder.specs.Locating.{Locatable, answer};
 ghost use Rattle.bch.specs.Answers.{ended, listIn, remainderIn, locateIn};
 use crate::LocateAnswer;
 use decoder::Found;
+use decoder::fill_decoding;
 use decoder::find_errors;
 use field::Field;
-use powers::fill_tables;
 use register_digits::from_bytes;
 use remainder::Register;
 use remainder::coefficients::is_below;
@@ -53,8 +53,9 @@ fn locate_by_tables(
 {
     let mut powers = [0u16; 16384];
     let mut logs = [0u16; 16384];
-    fill_tables(f, &mut powers, &mut logs);
-    let found = find_errors(f, &powers, &logs, state, t, n);
+    let mut rows = [0u16; 2048];
+    fill_decoding(f, t, &mut powers, &mut logs, &mut rows);
+    let found = find_errors(f, &powers, &logs, &rows, state, t, n);
     report(found, places)
 }
 

@@ -5,9 +5,9 @@
 ghost use mathlib.Core.Path.{_≡_};
 ghost use Prim.Native.Nat.{_*_, _^_, _≤_, _<_};
 ghost use Rattle.field.specs.Field.{degree};
-ghost use Rattle.field.specs.Tables.{Tables};
 ghost use Rattle.layout_plan.specs.Plan.{field, level, covered};
 ghost use Rattle.code.specs.Register.{register};
+ghost use Rattle.syndrome_lanes.specs.Lanes.{Decoding};
 ghost use Rattle.decoder.specs.Locating.{Finds};
 ghost use Rattle.page_plan.specs.Plans.{Planned, Ready};
 ghost use Rattle.block_outcome.specs.Counts.{erasedAt, countAt};
@@ -27,8 +27,9 @@ pub fn block_outcome(
     remainder: Register,
     powers: &[u16; 16384],
     logs: &[u16; 16384],
+    rows: &[u16; 2048],
 ) -> Found
-    requires { ⌜ (Planned plan) × (block < plan .blocks) × (Tables (field plan block) (now powers) (now logs)) ⌝ }
+    requires { ⌜ (Planned plan) × (block < plan .blocks) × (Decoding (field plan block) (level plan block) (now powers) (now logs) (now rows)) ⌝ }
     requires { ⌜ register (remainder .words) < 2 ^ (degree (field plan block) * level plan block) ⌝ }
     ensures { λ r. ⌜ Finds (field plan block) (level plan block) (covered plan block) (register (remainder .words)) r ⌝ }
 {
@@ -36,7 +37,7 @@ pub fn block_outcome(
     let f = shape.field;
     let t = shape.level as usize;
     let n = block_covered(plan, block);
-    find_errors(f, powers, logs, remainder, t, n)
+    find_errors(f, powers, logs, rows, remainder, t, n)
 }
 
 // The flip count of a block that can be repaired. Every exponent is a flip, in the message or in the parity.

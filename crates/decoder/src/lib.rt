@@ -2,6 +2,7 @@
 // whatever proposed it. A fast root finder proposes first, of which nothing is known; where its proposal fails, a test tells locators
 // with too few roots apart, and the complete search answers for the others. That nothing is missed is shown in proofs/Locating.antt.
 //
+//   fill_decoding  the tables by which remainders are decoded
 //   find_errors    the set of at most t exponents below n that leaves a remainder
 //
 // 1. Crate `syndromes` works out the values of the remainder at a, a^2, .., a^(2t).
@@ -15,20 +16,22 @@ ghost use mathlib.Core.Path.{_≡_};
 ghost use Prim.Native.Nat.{_≤_};
 ghost use lib.ListN.{length, take};
 ghost use Rattle.field.specs.Field.{longest};
-ghost use Rattle.field.specs.Tables.{Tables};
 ghost use Rattle.powers.specs.Powers.{Powers};
 ghost use Rattle.code.specs.Register.{register};
 ghost use Rattle.series.specs.Series.{Elements};
 ghost use Rattle.bits.specs.Decides.{Decides};
+ghost use Rattle.syndrome_lanes.specs.Lanes.{Decoding};
 ghost use Rattle.syndromes.specs.PowerSums.{Agrees};
 ghost use Rattle.decoder.specs.Locating.{Locatable, Descending, Reversed, Finds};
 use field::Field;
 use key_equation::shortest;
+use powers::fill_tables;
 use remainder::Register;
 use remainder::coefficients::is_zero;
 use root_finder::find_roots;
 use root_search::locate;
 use split_test::cannot_split;
+use syndrome_lanes::fill_rows;
 use syndromes::power_sums::sums_agree;
 use syndromes::power_sums::syndromes;
 
@@ -94,20 +97,36 @@ fn reversed(places: &[u16; 64], count: usize) -> [u16; 64]
 fn passes(
     f: Field,
     powers: &[u16; 16384],
-    sums: [u16; 128],
+    sums: &[u16; 128],
     t: usize,
     n: usize,
-    places: [u16; 64],
+    places: &[u16; 64],
     count: usize,
 ) -> bool
     requires { ⌜ Powers f (now powers) ⌝ }
-    requires { ⌜ (t ≤ 62) × (Elements f sums) × (n ≤ longest f) × (count ≤ 64) ⌝ }
-    ensures { λ r. ⌜ Decides r ((Descending n count places) × (Agrees f t sums (take count places))) ⌝ }
+    requires { ⌜ (t ≤ 62) × (Elements f (now sums)) × (n ≤ longest f) × (count ≤ 64) × (length (now places) ≡ 64) ⌝ }
+    ensures { λ r. ⌜ Decides r ((Descending n count (now (places .entry))) × (Agrees f t (now (sums .entry)) (take count (now (places .entry))))) ⌝ }
 {
-    if descend_below(&places, count, n) {
+    if descend_below(places, count, n) {
         return sums_agree(f, powers, sums, t, places, count);
     }
     false
+}
+
+// Fills lent tables of powers, logarithms and rows, for levels up to t.
+pub fn fill_decoding(
+    f: Field,
+    t: usize,
+    powers: &mut [u16; 16384],
+    logs: &mut [u16; 16384],
+    rows: &mut [u16; 2048],
+)
+    requires { ⌜ (t ≤ 62) × (length (now powers) ≡ 16384) × (length (now logs) ≡ 16384) × (length (now rows) ≡ 2048) ⌝ }
+    ensures { λ r. ⌜ Decoding f t (now (powers .exit)) (now (logs .exit)) (now (rows .exit)) ⌝ }
+    ensures { λ r. ⌜ (length (now (powers .exit)) ≡ 16384) × (length (now (logs .exit)) ≡ 16384) × (length (now (rows .exit)) ≡ 2048) ⌝ }
+{
+    fill_tables(f, powers, logs);
+    fill_rows(powers, rows, t);
 }
 
 // The set of at most t exponents below n whose sum of powers leaves the remainder, if there is one.
@@ -115,18 +134,19 @@ pub fn find_errors(
     f: Field,
     powers: &[u16; 16384],
     logs: &[u16; 16384],
+    rows: &[u16; 2048],
     state: Register,
     t: usize,
     n: usize,
 ) -> Found
-    requires { ⌜ Tables f (now powers) (now logs) ⌝ }
+    requires { ⌜ Decoding f t (now powers) (now logs) (now rows) ⌝ }
     requires { ⌜ Locatable f t n (register (state .words)) ⌝ }
     ensures { λ r. ⌜ Finds f t n (register (state .words)) r ⌝ }
 {
     if is_zero(state) {
         return no_exponents(true);
     }
-    let sums = syndromes(f, powers, logs, state, t);
+    let sums = syndromes(f, powers, logs, rows, state, t);
     let r = shortest(f, powers, logs, &sums, t);
     let c = r.c;
     let len = r.len;
@@ -134,7 +154,7 @@ pub fn find_errors(
         return no_exponents(false);
     }
     let proposed = find_roots(f, powers, logs, &c, len);
-    if passes(f, powers, sums, t, n, proposed, len) {
+    if passes(f, powers, &sums, t, n, &proposed, len) {
         return Found {
             located: true,
             count: len,
@@ -151,7 +171,7 @@ pub fn find_errors(
         return no_exponents(false);
     }
     let exponents = reversed(&roots, count);
-    let located = sums_agree(f, powers, sums, t, exponents, count);
+    let located = sums_agree(f, powers, &sums, t, &exponents, count);
     Found {
         located: located,
         count: count,

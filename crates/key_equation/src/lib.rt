@@ -26,6 +26,13 @@ pub struct Recurrence {
     pub gap: usize,
 }
 
+// The numbers beside the two arrays, which the steps change in place.
+pub struct Numbers {
+    pub b: u16,
+    pub len: usize,
+    pub gap: usize,
+}
+
 // The coefficient at k of the product of recurrence and power sums: c_0 s_k + .. + c_len s_(k - len).
 fn discrepancy(
     f: Field,
@@ -60,25 +67,23 @@ fn step(
     s: &[u16; 128],
     t: usize,
     h: usize,
-    r: Recurrence,
-) -> Recurrence
+    c: &mut [u16; 128],
+    u: &mut [u16; 128],
+    r: Numbers,
+) -> Numbers
     requires { ⌜ Tables f (now powers) (now logs) ⌝ }
     requires { ⌜ (h < t) × (t ≤ 62) × (PowerSums f (now s) t) ⌝ }
-    requires { ⌜ Holds (gf f) (num f) (now s) h (r .len) (r .b) (r .c) (r .u) (r .gap) ⌝ }
-    ensures { λ v. ⌜ Holds (gf f) (num f) (now (s .entry)) (h + 1) (v .len) (v .b) (v .c) (v .u) (v .gap) ⌝ }
+    requires { ⌜ Holds (gf f) (num f) (now s) h (r .len) (r .b) (now c) (now u) (r .gap) ⌝ }
+    ensures { λ v. ⌜ Holds (gf f) (num f) (now (s .entry)) (h + 1) (v .len) (v .b) (now (c .exit)) (now (u .exit)) (v .gap) ⌝ }
 {
-    let c = r.c;
-    let u = r.u;
     let b = r.b;
     let len = r.len;
     let gap = r.gap;
     let k = h + h;
-    let d = discrepancy(f, powers, logs, s, &c, len, k);
+    let d = discrepancy(f, powers, logs, s, c, len, k);
     if d == 0 {
         let wider = gap + 2;
-        return Recurrence {
-            c: c,
-            u: u,
+        return Numbers {
             b: b,
             len: len,
             gap: wider,
@@ -86,22 +91,20 @@ fn step(
     }
     let e = quotient(f, powers, logs, d, b);
     let terms = k + 2 - len - gap;
-    let mut v = c;
-    mix(f, powers, logs, &mut v, &u, e, gap, terms);
     if k < len + len {
+        mix(f, powers, logs, c, u, e, gap, terms);
         let wider = gap + 2;
-        return Recurrence {
-            c: v,
-            u: u,
+        return Numbers {
             b: b,
             len: len,
             gap: wider,
         };
     }
+    let before = *c;
+    mix(f, powers, logs, c, u, e, gap, terms);
+    *u = before;
     let grown = k + 1 - len;
-    Recurrence {
-        c: v,
-        u: c,
+    Numbers {
         b: d,
         len: grown,
         gap: 2,
@@ -120,19 +123,24 @@ pub fn shortest(
     requires { ⌜ (t ≤ 62) × (PowerSums f (now s) t) ⌝ }
     ensures { λ r. ⌜ Holds (gf f) (num f) (now (s .entry)) t (r .len) (r .b) (r .c) (r .u) (r .gap) ⌝ }
 {
-    let mut one = [0; 128];
-    one[0] = 1;
-    let mut r = Recurrence {
-        c: one,
-        u: one,
+    let mut c = [0; 128];
+    c[0] = 1;
+    let mut u = c;
+    let mut r = Numbers {
         b: 1,
         len: 0,
         gap: 1,
     };
     let mut h: usize = 0;
     while h < t {
-        r = step(f, powers, logs, s, t, h, r);
+        r = step(f, powers, logs, s, t, h, &mut c, &mut u, r);
         h += 1;
     }
-    r
+    Recurrence {
+        c: c,
+        u: u,
+        b: r.b,
+        len: r.len,
+        gap: r.gap,
+    }
 }

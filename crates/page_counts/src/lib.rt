@@ -9,14 +9,13 @@ use page_decide::damaged::next_damaged;
 use page_decide::decide::apart;
 use page_decide::decide::decide_alone;
 use page_decide::decide::decide_block;
+use page_decide::decide::fill_serving;
 use page_decide::decide::nothing;
-use powers::fill_tables;
 ghost use mathlib.Core.Path.{_≡_};
 ghost use Prim.Native.Nat.{_<_};
 ghost use lib.ListN.{length, replicate};
-ghost use Rattle.field.specs.Tables.{Tables};
 ghost use Rattle.page_theory.specs.Reading as reading;
-ghost use Rattle.page_decide.specs.Deciding.{OneField};
+ghost use Rattle.page_decide.specs.Deciding.{OneField, Serves};
 ghost use Rattle.page_counts.specs.Looking.{Pending, FirstRuined};
 
 // Writes a count of 0 for each block.
@@ -31,7 +30,7 @@ pub fn clear(counts: &mut [u8])
     }
 }
 
-// Counts the damaged blocks from `scan` on with the tables of powers and logarithms of their field. `table` is that of the later
+// Counts the damaged blocks from `scan` on with tables that serve them. `table` is that of the later
 // blocks' generator.
 fn count_from(
     plan: Plan,
@@ -40,10 +39,11 @@ fn count_from(
     table: &[u64],
     powers: &[u16; 16384],
     logs: &[u16; 16384],
+    rows: &[u16; 2048],
     counts: &mut [u8],
 )
     requires { ⌜ Pending plan (now page) (now table) scan (now counts) ⌝ }
-    requires { ⌜ (OneField plan (scan .block)) × (Tables (plan .later .field) (now powers) (now logs)) ⌝ }
+    requires { ⌜ Serves plan (scan .block) (now powers) (now logs) (now rows) ⌝ }
     ensures { λ r. ⌜ now (counts .exit) ≡ reading.counts plan (now (page .entry)) ⌝ }
 {
     let blocks = plan.blocks;
@@ -51,7 +51,7 @@ fn count_from(
     let mut last = nothing();
     while at.block < blocks {
         let b = at.block;
-        last = decide_block(plan, page, at, last, powers, logs);
+        last = decide_block(plan, page, at, last, powers, logs, rows);
         let n = last.count;
         let i = b as usize;
         counts[i] = n;
@@ -59,19 +59,18 @@ fn count_from(
     }
 }
 
-// Counts the damaged blocks from `scan` on, which all have the field of the later blocks. The tables of powers and logarithms are here,
-// since only a damaged page needs them.
+// Counts the damaged blocks from `scan` on, which all have the field of the later blocks. The tables are here, since only a damaged
+// page needs them.
 fn count_alike(plan: Plan, page: &[u8], scan: Scan, table: &[u64], counts: &mut [u8])
     requires { ⌜ Pending plan (now page) (now table) scan (now counts) ⌝ }
     requires { ⌜ OneField plan (scan .block) ⌝ }
     ensures { λ r. ⌜ now (counts .exit) ≡ reading.counts plan (now (page .entry)) ⌝ }
 {
-    let later = plan.later;
-    let f = later.field;
     let mut powers = [0u16; 16384];
     let mut logs = [0u16; 16384];
-    fill_tables(f, &mut powers, &mut logs);
-    count_from(plan, page, scan, table, &powers, &logs, counts);
+    let mut rows = [0u16; 2048];
+    fill_serving(plan, &mut powers, &mut logs, &mut rows);
+    count_from(plan, page, scan, table, &powers, &logs, &rows, counts);
 }
 
 // Counts the damaged blocks of a page, of which `scan` is the first. Block 0 is decided alone where it has another field than the

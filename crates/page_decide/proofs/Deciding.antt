@@ -11,7 +11,8 @@
 -- alike-finds                     what was found for the last decided block is right for one that is alike
 -- block-decided                   what was found for a block decides it, and is remembered
 -- later-field, same-field         the fields of the blocks
--- one-field-tables                the tables of the later blocks' field
+-- levels-below                    the levels of the blocks
+-- one-field-serves                the tables of the later blocks' field serve all blocks that have it
 use mathlib.Core.Path.{_≡_, refl, sym, ap, _∙_, subst}
 use mathlib.Core.Bool.{Bool, true, false, not, Bool·beq}
 use mathlib.Core.List.{List, []}
@@ -23,7 +24,6 @@ use lib.Seq.{length-take-le}
 use lib.Dec.{ltb}
 use Rattle.bits.specs.Decides.{Decides}
 use Rattle.field.specs.Field.{degree}
-use Rattle.field.specs.Tables.{Tables}
 use Rattle.layout_plan.specs.declared.Shape.{Shape}
 use Rattle.layout_plan.specs.declared.Plan.{Plan}
 use Rattle.layout_plan.specs.Plan.{shape, field, level, covered, Valid}
@@ -31,6 +31,8 @@ use Rattle.code.specs.Outcome.{Outcome}
 use Rattle.code.specs.Locations.{nowhere, locate}
 use Rattle.code.proofs.Outcome.{gives-sound}
 use Rattle.code.specs.Register.{register}
+use Rattle.syndrome_lanes.specs.Lanes.{Decoding}
+use Rattle.syndrome_lanes.proofs.Rows.{decoding-fewer}
 use Rattle.decoder.specs.declared.Found.{Found}
 use Rattle.decoder.specs.Locating.{answer, Finds}
 use Rattle.page_theory.specs.Reading.{GivesAt, RefusedAt, outcome, countOf}
@@ -42,7 +44,7 @@ use Rattle.page_decide.specs.declared.Decided.{Decided}
 use Rattle.page_decide.specs.Scanning.{remainderAt}
 use Rattle.block_outcome.specs.Counts.{erasedAt, countAt}
 use Rattle.block_outcome.proofs.Counts.{erasedAt-range}
-use Rattle.page_decide.specs.Deciding.{DecidedAt, Remembers, Alike, BlockDecided, OneField}
+use Rattle.page_decide.specs.Deciding.{DecidedAt, Remembers, Alike, BlockDecided, OneField, Serves}
 use Rattle.page_decide.proofs.Remainders.{located-clean, located-gives, nowhere-erased, nowhere-ruined, located-few}
 
 false-true : false ≡ true → ⊥
@@ -186,6 +188,10 @@ same-field q b p e = record { each = λ c m i. at c i }
     at zero i = ap (λ (s : Shape). s .field) (sym (shape-zero q p)) ∙ degree-field _ _ e
     at (suc c) i = p .behind (suc c) (omega arith) i .0
 
-pub one-field-tables : (q : Plan) (a b : ℕ) {powers logs : List ℕ} → OneField q a → a ≤ b → b < q .blocks → Tables (q .later .field) powers logs
-    → Tables (field q b) powers logs
-one-field-tables q a b h l i t = rw (h .each b l i) t
+pub levels-below : (q : Plan) (t : ℕ) → Planned q → q .first .level ≤ t → q .later .level ≤ t → (b : ℕ) → b < q .blocks → level q b ≤ t
+levels-below q t p l m zero i = let e : level q 0 ≡ q .first .level = ap (λ (s : Shape). s .level) (sym (shape-zero q p)) in omega (arith, e)
+levels-below q t p l m (suc b) i = let e : level q (suc b) ≡ q .later .level = p .behind (suc b) (omega arith) i .1 in omega (arith, e)
+
+pub one-field-serves : (q : Plan) (t : ℕ) {powers logs rows : List ℕ} → ((b : ℕ) → b < q .blocks → level q b ≤ t)
+    → Decoding (q .later .field) t powers logs rows → (b : ℕ) → OneField q b → Serves q b powers logs rows
+one-field-serves q t h d b o = record { each = λ c l i. rw (o .each c l i) (decoding-fewer _ _ _ (h c i) d) }

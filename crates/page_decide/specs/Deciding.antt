@@ -5,6 +5,7 @@
 -- Alike q d b words          block b, whose remainder has these words, and the last decided block d have one shape and one remainder
 -- BlockDecided q page b d    block b was decided as d
 -- OneField q b               from block b on the blocks of the page have the field of the later ones
+-- Serves q b powers logs rows    the tables serve to decode each block of the page from block b on
 use mathlib.Core.Path.{_≡_}
 use mathlib.Core.Bool.{true}
 use mathlib.Core.List.{List}
@@ -14,6 +15,7 @@ use lib.Dec.{ltb}
 use Rattle.layout_plan.specs.declared.Plan.{Plan}
 use Rattle.layout_plan.specs.Plan.{bits, field, level, covered}
 use Rattle.code.specs.Register.{register}
+use Rattle.syndrome_lanes.specs.Lanes.{Decoding}
 use Rattle.decoder.specs.Locating.{Finds}
 use Rattle.page_theory.specs.Reading.{GivesAt, RefusedAt}
 use Rattle.page_decide.specs.declared.Decided.{Decided}
@@ -43,3 +45,6 @@ pub record BlockDecided (q : Plan) (page : List ℕ) (b : ℕ) (d : Decided) : T
 
 pub record OneField (q : Plan) (b : ℕ) : Type 0 where
   pub each : (c : ℕ) → b ≤ c → c < q .blocks → field q c ≡ q .later .field
+
+pub record Serves (q : Plan) (b : ℕ) (powers logs rows : List ℕ) : Type 0 where
+  pub each : (c : ℕ) → b ≤ c → c < q .blocks → Decoding (field q c) (level q c) powers logs rows

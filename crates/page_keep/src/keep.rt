@@ -2,8 +2,7 @@
 ghost use mathlib.Core.Path.{_≡_};
 ghost use Prim.Native.Nat.{_≤_, _<_};
 ghost use lib.ListN.{length};
-ghost use Rattle.field.specs.Tables.{Tables};
-ghost use Rattle.page_decide.specs.Deciding.{OneField};
+ghost use Rattle.page_decide.specs.Deciding.{OneField, Serves};
 ghost use Rattle.page_keep.specs.Keeping.{KeptFor, BlockKept, Pending, PageDecided};
 use crate::Decision;
 use decoder::Found;
@@ -14,8 +13,8 @@ use page_decide::damaged::next_damaged;
 use page_decide::decide::apart;
 use page_decide::decide::decide_block;
 use page_decide::decide::decide_lent;
+use page_decide::decide::fill_serving;
 use page_decide::decide::nothing;
-use powers::fill_tables;
 
 // Keeps the first n exponents that were found for a block.
 fn keep(found: Found, n: usize, block: u16, places: &mut [u16; 16384])
@@ -56,7 +55,7 @@ fn keep_block(decided: Decided, block: u16, places: &mut [u16; 16384], flips: &m
     keep(found, wide(count), block, places);
 }
 
-// Decides the damaged blocks from `scan` on with the tables of powers and logarithms of their field. `table` is that of the later
+// Decides the damaged blocks from `scan` on with tables that serve them. `table` is that of the later
 // blocks' generator.
 fn keep_from(
     plan: Plan,
@@ -65,11 +64,12 @@ fn keep_from(
     table: &[u64],
     powers: &[u16; 16384],
     logs: &[u16; 16384],
+    rows: &[u16; 2048],
     places: &mut [u16; 16384],
     flips: &mut [u8; 256],
 ) -> Decision
     requires { ⌜ Pending plan (now page) (now table) scan (now places) (now flips) ⌝ }
-    requires { ⌜ (OneField plan (scan .block)) × (Tables (plan .later .field) (now powers) (now logs)) ⌝ }
+    requires { ⌜ Serves plan (scan .block) (now powers) (now logs) (now rows) ⌝ }
     ensures { λ r. ⌜ PageDecided plan (now (page .entry)) (now (places .exit)) (now (flips .exit)) r ⌝ }
 {
     let blocks = plan.blocks;
@@ -77,7 +77,7 @@ fn keep_from(
     let mut last = nothing();
     while at.block < blocks {
         let b = at.block;
-        last = decide_block(plan, page, at, last, powers, logs);
+        last = decide_block(plan, page, at, last, powers, logs, rows);
         let n = last.count;
         if n == 255 {
             return Decision::Ruined(b);
@@ -96,17 +96,16 @@ fn keep_alike(
     table: &[u64],
     powers: &mut [u16; 16384],
     logs: &mut [u16; 16384],
+    rows: &mut [u16; 2048],
     places: &mut [u16; 16384],
     flips: &mut [u8; 256],
 ) -> Decision
     requires { ⌜ Pending plan (now page) (now table) scan (now places) (now flips) ⌝ }
-    requires { ⌜ (OneField plan (scan .block)) × (length (now powers) ≡ 16384) × (length (now logs) ≡ 16384) ⌝ }
+    requires { ⌜ (OneField plan (scan .block)) × (length (now powers) ≡ 16384) × (length (now logs) ≡ 16384) × (length (now rows) ≡ 2048) ⌝ }
     ensures { λ r. ⌜ PageDecided plan (now (page .entry)) (now (places .exit)) (now (flips .exit)) r ⌝ }
 {
-    let later = plan.later;
-    let f = later.field;
-    fill_tables(f, powers, logs);
-    keep_from(plan, page, scan, table, powers, logs, places, flips)
+    fill_serving(plan, powers, logs, rows);
+    keep_from(plan, page, scan, table, powers, logs, rows, places, flips)
 }
 
 // Decides the damaged blocks of a page with lent tables, which are filled for block 0 and for the later blocks in turn where their fields
@@ -118,18 +117,19 @@ fn keep_lent(
     table: &[u64],
     powers: &mut [u16; 16384],
     logs: &mut [u16; 16384],
+    rows: &mut [u16; 2048],
     places: &mut [u16; 16384],
     flips: &mut [u8; 256],
 ) -> Decision
     requires { ⌜ Pending plan (now page) (now table) scan (now places) (now flips) ⌝ }
-    requires { ⌜ (scan .block < plan .blocks) × (length (now powers) ≡ 16384) × (length (now logs) ≡ 16384) ⌝ }
+    requires { ⌜ (scan .block < plan .blocks) × (length (now powers) ≡ 16384) × (length (now logs) ≡ 16384) × (length (now rows) ≡ 2048) ⌝ }
     ensures { λ r. ⌜ PageDecided plan (now (page .entry)) (now (places .exit)) (now (flips .exit)) r ⌝ }
 {
     let own = apart(plan, scan);
     if !own {
-        return keep_alike(plan, page, scan, table, powers, logs, places, flips);
+        return keep_alike(plan, page, scan, table, powers, logs, rows, places, flips);
     }
-    let decided = decide_lent(plan, page, scan, powers, logs);
+    let decided = decide_lent(plan, page, scan, powers, logs, rows);
     let count = decided.count;
     if count == 255 {
         return Decision::Ruined(0);
@@ -140,11 +140,11 @@ fn keep_lent(
     if block == plan.blocks {
         return Decision::Sound;
     }
-    keep_alike(plan, page, next, table, powers, logs, places, flips)
+    keep_alike(plan, page, next, table, powers, logs, rows, places, flips)
 }
 
 // Decides the damaged blocks of a page, of which `scan` is the first, up to the first that is ruined; `table` is that of the later
-// blocks' generator. The tables of powers and logarithms are here, one pair for all blocks, since only a damaged page needs them.
+// blocks' generator. The tables by which blocks are decoded are here, once for all blocks, since only a damaged page needs them.
 pub fn keep_damaged(
     plan: Plan,
     page: &[u8],
@@ -159,6 +159,7 @@ pub fn keep_damaged(
 {
     let mut powers = [0u16; 16384];
     let mut logs = [0u16; 16384];
+    let mut rows = [0u16; 2048];
     keep_lent(
         plan,
         page,
@@ -166,6 +167,7 @@ pub fn keep_damaged(
         table,
         &mut powers,
         &mut logs,
+        &mut rows,
         places,
         flips,
     )

@@ -33,7 +33,7 @@ use Rattle.code.specs.Code.{value}
 use Rattle.code.specs.Locations.{powerSum}
 use Rattle.code.specs.Register.{register}
 use Rattle.remainder.proofs.Words.{Words, register-bit}
-use Rattle.syndrome_lanes.specs.Lanes.{terms, Rows, Rowed, Lanes, Raised, Added, Scanned, Filled}
+use Rattle.syndrome_lanes.specs.Lanes.{terms, Rows, Rowed, Decoding, Lanes, Raised, Added, Scanned, Filled}
 use Rattle.series.proofs.Arrays.{zeros-at}
 
 -- ---- the value of the lowest terms of a number
@@ -421,3 +421,8 @@ module _ (f : Field) where
 
         all : register ws / 2 ^ (32 * (n - i)) ≡ register ws
         all = ap (λ k. register ws / 2 ^ k) none ∙ div-one (register ws)
+
+-- ---- tables for fewer lanes
+
+pub decoding-fewer : (f : Field) (t u : ℕ) {powers logs rows : List ℕ} → u ≤ t → Decoding f t powers logs rows → Decoding f u powers logs rows
+decoding-fewer f t u l d = record { tables = d .tables; lanes = record { full = d .lanes .full; at = λ p i k m. d .lanes .at p i k (omega arith) } }

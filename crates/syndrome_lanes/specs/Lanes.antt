@@ -8,6 +8,7 @@
 -- Raised f t s v       v is s times x^32 in each lane
 -- Filled powers t n rows   the n first rows are those of the field of the powers
 -- Added w rows p s v    v is s with row p added in the w first lanes
+-- Decoding f t powers logs rows    the tables by which a remainder of t m coefficients is decoded: powers, logarithms and rows
 use mathlib.Core.Path.{_≡_}
 use mathlib.Core.List.{List}
 use Prim.Native.Nat.{ℕ, suc, _+_, _*_, _≤_, _<_}
@@ -16,6 +17,7 @@ use lib.Bits.{bitXor}
 use Rattle.bits.specs.Bits.{digits}
 use Rattle.field.specs.declared.Field.{Field}
 use Rattle.field.specs.Field.{degree, modulus, mul, a^}
+use Rattle.field.specs.Tables.{Tables}
 use Rattle.powers.specs.Powers.{Powers}
 use Rattle.code.specs.Word.{descending}
 use Rattle.code.specs.Locations.{powerSum}
@@ -27,6 +29,10 @@ module _ (f : Field) (t : ℕ) where
   pub record Rows (n : ℕ) (rows : List ℕ) : Type 0 where
     pub full : length rows ≡ 2048
     pub at : (p i : ℕ) → p < n → i < t → getD rows (64 * p + i) 0 ≡ a^ f (suc (i + i) * p)
+
+  pub record Decoding (powers logs rows : List ℕ) : Type 0 where
+    pub tables : Tables f powers logs
+    pub lanes : Rows 32 rows
 
   pub record Lanes (x n : ℕ) (v : List ℕ) : Type 0 where
     pub full : length v ≡ 64

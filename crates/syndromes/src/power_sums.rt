@@ -9,19 +9,19 @@
 ghost use mathlib.Core.Path.{_≡_};
 ghost use mathlib.Core.List.{[], _∷_};
 ghost use Prim.Native.Nat.{ℕ, _+_, _*_, _^_, _<_, _≤_};
-ghost use lib.ListN.{getD, take};
+ghost use lib.ListN.{length, getD, take};
 ghost use Rattle.field.specs.Field.{degree, longest};
 ghost use Rattle.field.specs.Tables.{Tables};
 ghost use Rattle.powers.specs.Powers.{Powers};
 ghost use Rattle.code.specs.Register.{register};
 ghost use Rattle.series.specs.Series.{Elements};
 ghost use Rattle.bits.specs.Decides.{Decides};
+ghost use Rattle.syndrome_lanes.specs.Lanes.{Decoding};
 ghost use Rattle.syndromes.specs.PowerSums.{Summed, Agrees, Squared, Spread, Syndromes};
 use field::Field;
 use field_tables::product_by_tables;
 use field_tables::wrap;
 use remainder::Register;
-use syndrome_lanes::fill_rows;
 use syndrome_lanes::lane_values;
 
 // Adds a^(jp) to the sum with each odd j below 2t.
@@ -86,16 +86,15 @@ pub fn syndromes(
     f: Field,
     powers: &[u16; 16384],
     logs: &[u16; 16384],
+    rows: &[u16; 2048],
     state: Register,
     t: usize,
 ) -> [u16; 128]
-    requires { ⌜ Tables f (now powers) (now logs) ⌝ }
+    requires { ⌜ Decoding f t (now powers) (now logs) (now rows) ⌝ }
     requires { ⌜ (t ≤ 62) × (register (state .words) < 2 ^ (degree f * t)) ⌝ }
     ensures { λ r. ⌜ Syndromes f t (register (state .words)) r ⌝ }
 {
-    let mut rows = [0u16; 2048];
-    fill_rows(powers, &mut rows, t);
-    let lanes = lane_values(f, powers, logs, &rows, state, t);
+    let lanes = lane_values(f, powers, logs, rows, state, t);
     let mut sums = spread(&lanes, t);
     add_squares(f, powers, logs, &mut sums, t);
     sums
@@ -121,16 +120,16 @@ fn all_zero(sums: &[u16; 128], t: usize) -> bool
 pub fn sums_agree(
     f: Field,
     powers: &[u16; 16384],
-    sums: [u16; 128],
+    sums: &[u16; 128],
     t: usize,
-    places: [u16; 64],
+    places: &[u16; 64],
     count: usize,
 ) -> bool
     requires { ⌜ Powers f (now powers) ⌝ }
-    requires { ⌜ (t ≤ 62) × (Elements f sums) × (count ≤ 64) × ((k : ℕ) → k < count → getD places k 0 < longest f) ⌝ }
-    ensures { λ r. ⌜ Decides r (Agrees f t sums (take count places)) ⌝ }
+    requires { ⌜ (t ≤ 62) × (Elements f (now sums)) × (count ≤ 64) × ((k : ℕ) → k < count → getD (now places) k 0 < longest f) × (length (now places) ≡ 64) ⌝ }
+    ensures { λ r. ⌜ Decides r (Agrees f t (now (sums .entry)) (take count (now (places .entry)))) ⌝ }
 {
-    let mut left = sums;
+    let mut left = *sums;
     let mut k: usize = 0;
     while k < count {
         let p = places[k] as usize;

@@ -10,9 +10,9 @@ descend-below-requires c κs = search needs
 
 sums-agree-requires : tie.Need-sums-agree-requires
 sums-agree-requires c κs =
-    let p = c .before .before .before .pre in
+    let p = c .before .before .pre in
     let a = c .before .descend-below .ensures .holds (c .if1 .taken) in
-    (p .0, (p .1 .0, p .1 .1, p .1 .3, λ k l. omega (arith, a .below k l)))
+    (p .0, (p .1 .0, p .1 .1, p .1 .3, λ k l. omega (arith, a .below k l), p .1 .4))
 
 returns : tie.Need-returns
 returns c =

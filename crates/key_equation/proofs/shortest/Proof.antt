@@ -10,19 +10,19 @@ use Rattle.key_equation.proofs.shortest.Statement.{statement}
 use Rattle.key_equation.proofs.shortest.Tie as tie
 
 abbrev Inv-loop : tie.InvT-loop
-Inv-loop f powers logs s t r₀ h₀ r h = (h ≤ t) × (Holds (gf f) (num f) s h (r .len) (r .b) (r .c) (r .u) (r .gap))
+Inv-loop f powers logs s t c₀ u₀ r₀ h₀ c u r h = (h ≤ t) × (Holds (gf f) (num f) s h (r .len) (r .b) c u (r .gap))
 
 abbrev μ-loop : tie.MeasureT-loop
-μ-loop f powers logs s t r₀ h₀ r h = t - h
+μ-loop f powers logs s t c₀ u₀ r₀ h₀ c u r h = t - h
 
-array-write-one : tie.Need-array-write-one Inv-loop μ-loop
-array-write-one c = search needs
+array-write-c : tie.Need-array-write-c Inv-loop μ-loop
+array-write-c c = search needs
 
 loop-holds : tie.Need-loop-holds Inv-loop μ-loop
 loop-holds c = (omega arith, holds-start _ _ _)
 
 step-requires : tie.Need-step-requires Inv-loop μ-loop
-step-requires c κs = let s = c .before .before in (s .pre .0, ((omega arith, s .pre .1 .0, s .pre .1 .1), c .before .loop .inv .1))
+step-requires c κs = let s = c .before .before .before .before in (s .pre .0, ((omega arith, s .pre .1 .0, s .pre .1 .1), c .before .before .before .loop .inv .1))
 
 add-h : tie.Need-add-h Inv-loop μ-loop
 add-h c = search needs
@@ -42,7 +42,7 @@ shortest-spec =
     (tie.spec
     Inv-loop
     μ-loop
-    array-write-one
+    array-write-c
     loop-holds
     step-requires
     add-h

@@ -4,18 +4,18 @@ use mathlib.Core.Path.{refl}
 use native.Mathlib.Omega.{arith}
 use borrow.Author.Needs.{needs}
 use Rattle.page_decide.specs.Deciding.{Remembers}
-use Rattle.page_decide.proofs.Deciding.{remembers-nothing, one-field-tables}
+use Rattle.page_decide.proofs.Deciding.{remembers-nothing}
 use Rattle.page_counts.specs.Looking.{Underway}
 use Rattle.page_counts.proofs.Looking.{underway-left, underway-next, underway-end}
 use Rattle.page_counts.proofs.count_from.Statement.{statement}
 use Rattle.page_counts.proofs.count_from.Tie as tie
 
 abbrev Inv-loop : tie.InvT-loop
-Inv-loop plan page table powers logs counts₀ blocks at₀ last₀ counts at last =
+Inv-loop plan page table powers logs rows counts₀ blocks at₀ last₀ counts at last =
     (at₀ .block ≤ at .block) × (Underway plan page at counts) × Remembers plan last
 
 abbrev μ-loop : tie.MeasureT-loop
-μ-loop plan page table powers logs counts₀ blocks at₀ last₀ counts at last = blocks - at .block
+μ-loop plan page table powers logs rows counts₀ blocks at₀ last₀ counts at last = blocks - at .block
 
 nothing-requires : tie.Need-nothing-requires Inv-loop μ-loop
 nothing-requires c κs = search needs
@@ -28,7 +28,7 @@ decide-block-requires c κs =
     let l = c .before .before .loop in
     let p = c .before .before .before .before .before .before .before .pre in
     let ready = p .0 .ready in
-    ((ready, underway-left _ _ (ready .plan) (l .inv .1) (c .if1 .taken), l .inv .2), one-field-tables _ _ _ (p .1 .0) (l .inv .0) (c .if1 .taken) (p .1 .1))
+    ((ready, underway-left _ _ (ready .plan) (l .inv .1) (c .if1 .taken), l .inv .2), p .1 .each _ (l .inv .0) (c .if1 .taken))
 
 cast-i : tie.Need-cast-i Inv-loop μ-loop
 cast-i c = search needs

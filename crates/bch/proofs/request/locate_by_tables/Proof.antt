@@ -3,8 +3,8 @@ use borrow.Author.Needs.{needs}
 use Rattle.bch.proofs.request.locate_by_tables.Statement.{statement}
 use Rattle.bch.proofs.request.locate_by_tables.Tie as tie
 
-fill-tables-requires : tie.Need-fill-tables-requires
-fill-tables-requires c κs = search needs
+fill-decoding-requires : tie.Need-fill-decoding-requires
+fill-decoding-requires c κs = search needs
 
 find-errors-requires : tie.Need-find-errors-requires
 find-errors-requires c κs = search needs
@@ -21,4 +21,4 @@ returns c = rw (← c .before .before .before .before .find-errors .ensures .is)
 pub locate-by-tables-spec : {M : Type 1} → statement M
 locate-by-tables-spec =
     tie.close
-    (tie.spec fill-tables-requires find-errors-requires report-requires same-length returns)
+    (tie.spec fill-decoding-requires find-errors-requires report-requires same-length returns)

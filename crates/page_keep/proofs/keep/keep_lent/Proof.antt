@@ -14,24 +14,24 @@ apart-requires c κs = search needs
 
 keep-alike-requires : tie.Need-keep-alike-requires
 keep-alike-requires c κs =
-    let t = c .before .before .before .before in
+    let t = c .before .before .before .before .before in
     let a = t .before in
     let p = a .before .before .before .pre in
-    (p .0, (a .apart .ensures .0 (not-true _ (t .if1 .taken)), p .1 .1, p .1 .2))
+    (p .0, (a .apart .ensures .0 (not-true _ (t .if1 .taken)), p .1 .1, p .1 .2, p .1 .3))
 
 returns : tie.Need-returns
 returns c = search needs
 
 decide-lent-requires : tie.Need-decide-lent-requires
 decide-lent-requires c κs =
-    let p = c .before .before .before .before .before .before .pre in
-    ((p .0 .ready, underway-left _ _ (p .0 .ready .plan) (p .0 .underway) (p .1 .0)), (p .1 .1, p .1 .2))
+    let p = c .before .before .before .before .before .before .before .pre in
+    ((p .0 .ready, underway-left _ _ (p .0 .ready .plan) (p .0 .underway) (p .1 .0)), (p .1 .1, p .1 .2, p .1 .3))
 
 returns-2 : tie.Need-returns-2
 unfolding PageDecided
 returns-2 c =
     let d = c .before in
-    let f = d .before .before .before in
+    let f = d .before .before .before .before in
     let a = f .before in
     let p = a .before .before .before .pre in
     let plan = p .0 .ready .plan in
@@ -41,13 +41,15 @@ returns-2 c =
 keep-block-requires : tie.Need-keep-block-requires
 keep-block-requires c κs =
     let d = c .before .before .before in
-    let p = d .before .before .before .before .before .before .before .pre in
+    let p = d .before .before .before .before .before .before .before .before .pre in
     let u = p .0 .underway in
     let e = d .decide-lent .ensures .0 in
     ((omega arith, e .size, decided-room _ _ (p .0 .ready .plan) (p .1 .0) (e .at)), (u .places-length, u .flips-length))
 
 next-damaged-requires : tie.Need-next-damaged-requires
-next-damaged-requires c κs = search needs
+next-damaged-requires c κs =
+    let p = c .before .before .before .before .before .before .before .before .before .before .before .before .pre .0 in
+    (p .ready, (omega arith, omega (arith, p .ready .plan .some), p .table))
 
 returns-3 : tie.Need-returns-3
 unfolding PageDecided
@@ -56,7 +58,7 @@ returns-3 c =
     let k = n .before in
     let o = k .before .before .before in
     let d = o .before in
-    let f = d .before .before .before in
+    let f = d .before .before .before .before in
     let a = f .before in
     let p = a .before .before .before .pre in
     let plan = p .0 .ready .plan in
@@ -67,11 +69,11 @@ returns-3 c =
 
 keep-alike-requires-2 : tie.Need-keep-alike-requires-2
 keep-alike-requires-2 c κs =
-    let n = c .before .before .before .before .before .before in
+    let n = c .before .before .before .before .before .before .before in
     let k = n .before in
     let o = k .before .before .before in
     let d = o .before in
-    let f = d .before .before .before in
+    let f = d .before .before .before .before in
     let a = f .before in
     let p = a .before .before .before .pre in
     let plan = p .0 .ready .plan in
@@ -82,7 +84,7 @@ keep-alike-requires-2 c κs =
         underway = underway-next _ _ plan (p .0 .underway) e (plan .some) (rw e at (d .decide-lent .ensures .0 .at)) (o .if2 .left) refl
             (k .keep-block .ensures) (n .next-damaged .ensures);
       },
-      (later-field _ _ plan (omega (arith, n .next-damaged .ensures .low)), d .decide-lent .ensures .1 .0, d .decide-lent .ensures .1 .1),
+      (later-field _ _ plan (omega (arith, n .next-damaged .ensures .low)), d .decide-lent .ensures .1 .0, d .decide-lent .ensures .1 .1, d .decide-lent .ensures .1 .2),
     )
 
 returns-4 : tie.Need-returns-4

@@ -11,28 +11,28 @@ use Rattle.syndromes.proofs.power_sums.sums_agree.Statement.{statement}
 use Rattle.syndromes.proofs.power_sums.sums_agree.Tie as tie
 
 abbrev Inv-loop : tie.InvT-loop
-Inv-loop f powers t count places left₀ k₀ left k = (k ≤ count) × (Summed f t left₀ (take k places) left)
+Inv-loop f powers sums t places count left₀ k₀ left k = (k ≤ count) × (length places ≡ 64) × (Summed f t left₀ (take k places) left)
 
 abbrev μ-loop : tie.MeasureT-loop
-μ-loop f powers t count places left₀ k₀ left k = count - k
+μ-loop f powers sums t places count left₀ k₀ left k = count - k
 
 loop-holds : tie.Need-loop-holds Inv-loop μ-loop
-loop-holds c = (omega arith, summed-none _ _ (c .pre .1 .1))
+loop-holds c = (omega arith, c .before .pre .1 .4, summed-none _ _ (c .before .pre .1 .1))
 
 mul-p : tie.Need-mul-p Inv-loop μ-loop
 mul-p c = search needs
 
-array-read-p : tie.Need-array-read-p Inv-loop μ-loop
-array-read-p c = search needs
+element-copy-out-p : tie.Need-element-copy-out-p Inv-loop μ-loop
+element-copy-out-p c = search needs
 
 cast-p : tie.Need-cast-p Inv-loop μ-loop
-cast-p c = let l = c .before in omega (arith, l .before .pre .1 .3 (l .loop .k) (omega arith), longest-below (l .before .args .f))
+cast-p c = let l = c .before .before in omega (arith, l .before .before .pre .1 .3 (l .loop .k) (omega arith), longest-below (l .before .before .args .f))
 
 add-powers-requires : tie.Need-add-powers-requires Inv-loop μ-loop
 add-powers-requires c κs =
-    let l = c .before .before in
-    let s = l .before in
-    (s .pre .0, (s .pre .1 .0, s .pre .1 .3 (l .loop .k) (omega arith), l .loop .inv .1 .elements))
+    let l = c .before .before .before in
+    let s = l .before .before in
+    (s .pre .0, (s .pre .1 .0, s .pre .1 .3 (l .loop .k) (omega arith), l .loop .inv .2 .elements))
 
 add-k : tie.Need-add-k Inv-loop μ-loop
 add-k c = search needs
@@ -42,9 +42,8 @@ loop-less c = search needs
 
 loop-again : tie.Need-loop-again Inv-loop μ-loop
 loop-again c =
-    let l = c .before .before .before in
-    let room : length (l .before .args .t5) ≡ 64 = search needs in
-    (omega arith, summed-place _ _ _ (l .loop .k) (omega arith) (l .loop .inv .1) (c .add-powers .ensures))
+    let l = c .before .before .before .before in
+    (omega arith, l .loop .inv .1, summed-place _ _ _ (l .loop .k) (omega (arith, l .loop .inv .1)) (l .loop .inv .2) (c .add-powers .ensures))
 
 all-zero-requires : tie.Need-all-zero-requires Inv-loop μ-loop
 all-zero-requires c κs = search needs
@@ -52,8 +51,8 @@ all-zero-requires c κs = search needs
 returns : tie.Need-returns Inv-loop μ-loop
 returns c =
     let l = c .before .before .before in
-    let e : l .loop .k ≡ l .before .args .count = omega arith in
-    summed-agrees _ _ (rw e at (l .loop .inv .1)) (c .all-zero .ensures)
+    let e : l .loop .k ≡ l .before .before .args .count = omega arith in
+    summed-agrees _ _ (rw e at (l .loop .inv .2)) (c .all-zero .ensures)
 
 pub sums-agree-spec : {M : Type 1} → statement M
 sums-agree-spec =
@@ -63,7 +62,7 @@ sums-agree-spec =
     μ-loop
     loop-holds
     mul-p
-    array-read-p
+    element-copy-out-p
     cast-p
     add-powers-requires
     add-k

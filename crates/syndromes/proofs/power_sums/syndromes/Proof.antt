@@ -5,17 +5,14 @@ use Rattle.syndromes.proofs.Spreading.{spread-elements, lanes-summed}
 use Rattle.syndromes.proofs.power_sums.syndromes.Statement.{statement}
 use Rattle.syndromes.proofs.power_sums.syndromes.Tie as tie
 
-fill-rows-requires : tie.Need-fill-rows-requires
-fill-rows-requires c κs = search needs
-
 lane-values-requires : tie.Need-lane-values-requires
-lane-values-requires c κs = let s = c .before .before .before in ((s .pre .0, c .before .fill-rows .ensures .made (s .args .f) (record { at = s .pre .0 .powers-at })), (s .pre .1 .0, s .pre .1 .1))
+lane-values-requires c κs = let s = c in ((s .pre .0 .tables, s .pre .0 .lanes), (s .pre .1 .0, s .pre .1 .1))
 
 spread-requires : tie.Need-spread-requires
 spread-requires c κs = search needs
 
 add-squares-requires : tie.Need-add-squares-requires
-add-squares-requires c κs = let s = c .before .before .before .before .before .before .before in (s .pre .0, (s .pre .1 .0, spread-elements _ _ _ _ (c .before .before .before .lane-values .ensures) (c .before .spread .ensures)))
+add-squares-requires c κs = let s = c .before .before .before .before in (s .pre .0 .tables, (s .pre .1 .0, spread-elements _ _ _ _ (c .before .before .before .lane-values .ensures) (c .before .spread .ensures)))
 
 returns : tie.Need-returns
 returns c = syndromes-made _ _ _ (lanes-summed _ _ _ _ (c .before .before .before .before .lane-values .ensures) (c .before .before .spread .ensures)) (c .add-squares .ensures)
@@ -23,9 +20,4 @@ returns c = syndromes-made _ _ _ (lanes-summed _ _ _ _ (c .before .before .befor
 pub syndromes-spec : {M : Type 1} → statement M
 syndromes-spec =
     tie.close
-    (tie.spec
-    fill-rows-requires
-    lane-values-requires
-    spread-requires
-    add-squares-requires
-    returns)
+    (tie.spec lane-values-requires spread-requires add-squares-requires returns)
