@@ -1,6 +1,9 @@
 // A file that is read: at most one page, or a dump of many.
+use crate::dumping;
+use crate::lines;
+use crate::reading;
+use crate::reading::Answer;
 use files::Passed;
-use page_lines::Answer;
 use read_totals::Failed;
 use read_totals::Run;
 use read_totals::Totals;
@@ -16,7 +19,7 @@ fn done(out: &mut [u8; 32768], run: Run, totals: Totals, counts: &[u8; 256]) -> 
     if !run.look {
         say::put(out, b"page read, ");
     }
-    page_lines::blocks(out, plan, page_lines::sums_of(plan, counts), counts);
+    lines::blocks(out, plan, read_totals::sums_of(plan, counts), counts);
     read_totals::ended(totals)
 }
 
@@ -26,7 +29,7 @@ fn single(out: &mut [u8; 32768], run: Run, page: &[u8], data: &mut [u8; 65536]) 
     let record = run.record;
     let mut metadata = [0u8; 256];
     let mut counts = [0u8; 256];
-    match page_lines::read_into(
+    match reading::read_into(
         run.edition,
         &record,
         run.plan,
@@ -37,11 +40,11 @@ fn single(out: &mut [u8; 32768], run: Run, page: &[u8], data: &mut [u8; 65536]) 
         &mut counts,
     ) {
         Answer::Done => {
-            let t = read_pages::put_page(run, start, &metadata, data);
+            let t = dumping::put_page(run, start, &metadata, data);
             done(out, run, t, &counts)
         }
         Answer::Refused(refusal) => {
-            page_lines::refused(out, run.plan, page.len(), refusal, &counts);
+            lines::refused(out, run.plan, page.len(), refusal, &counts);
             read_totals::dropped(start)
         }
     }
@@ -75,7 +78,7 @@ fn range(
 ) -> Totals {
     let start = read_totals::start(run.began);
     match pass(run, page) {
-        Passed::All => read_totals::some(read_pages::pages(out, run, start, page, data)),
+        Passed::All => read_totals::some(dumping::pages(out, run, start, page, data)),
         Passed::Short => read_totals::dropped(start),
         Passed::Failed => read_totals::broken(start, Failed::Page),
     }
@@ -85,9 +88,9 @@ fn range(
 fn dump(out: &mut [u8; 32768], run: Run, page: &mut [u8; 65536], data: &mut [u8; 65536]) -> Totals {
     let size = run.plan.size as usize;
     let start = read_totals::start(run.began);
-    let first = read_pages::read_next(out, run, start, text::front(page, size), data);
+    let first = dumping::read_next(out, run, start, text::front(page, size), data);
     carry(page, size);
-    read_pages::pages(out, run, read_totals::carrying(first), page, data)
+    dumping::pages(out, run, read_totals::carrying(first), page, data)
 }
 
 // The whole file. One byte more than a page is read first, so that a longer file is known.
@@ -98,7 +101,7 @@ fn whole(
     data: &mut [u8; 65536],
 ) -> Totals {
     let size = run.plan.size as usize;
-    let Filled::Bytes(n) = read_pages::fill(run.input, page, size + 1, 0) else {
+    let Filled::Bytes(n) = dumping::fill(run.input, page, size + 1, 0) else {
         return read_totals::broken(read_totals::start(run.began), Failed::Page);
     };
     if n <= size {

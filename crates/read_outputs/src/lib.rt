@@ -1,4 +1,4 @@
-// The end of a run: its outputs take their place, or are dropped.
+// The end of a run of the commands read, look and salvage: its outputs take their place, or are dropped.
 use read_totals::Failed;
 use read_totals::Run;
 use read_totals::Totals;
@@ -45,8 +45,11 @@ fn stopped(
     drop_all(metadata, data, list);
     say::forget(out);
     if is_dump(run, totals) {
-        say::fact(out, b"stopped after ", totals.pages, b" pages, ");
-        say::fact(out, b"", stored(totals, metadata, data, run), b" stored\n");
+        say::facts(
+            out,
+            b"stopped after # pages, # stored\n",
+            &[totals.pages, stored(totals, metadata, data, run)],
+        );
     }
 }
 

@@ -1,9 +1,9 @@
--- `page_lines::by_block` meets its contract.
+-- `read_command::lines::by_block` meets its contract.
 use Prim.Native.Nat.{_≤_, _-_}
 use lib.ListN.{length}
 use borrow.Author.Needs.{needs}
-use Rattle.page_lines.proofs.by_block.Statement.{statement}
-use Rattle.page_lines.proofs.by_block.Tie as tie
+use Rattle.read_command.proofs.lines.by_block.Statement.{statement}
+use Rattle.read_command.proofs.lines.by_block.Tie as tie
 
 abbrev Inv-loop : tie.InvT-loop
 Inv-loop out₀ counts i₀ t5 out i = i ≤ length counts

@@ -1,8 +1,8 @@
--- `read_pages::dumping::pages` meets its contract.
+-- `read_command::dumping::pages` meets its contract.
 use Prim.Native.Nat.{_≤_}
 use borrow.Author.Needs.{needs}
-use Rattle.read_pages.proofs.dumping.pages.Statement.{statement}
-use Rattle.read_pages.proofs.dumping.pages.Tie as tie
+use Rattle.read_command.proofs.dumping.pages.Statement.{statement}
+use Rattle.read_command.proofs.dumping.pages.Tie as tie
 
 abbrev Inv-loop : tie.InvT-loop
 Inv-loop out₀ run page₀ data₀ totals₀ turns₀ out page «data» totals turns =

@@ -1,20 +1,10 @@
-// A page that the tool reads: the counts of its blocks, its metadata and data, and what its line says.
-//
-//   reading.rt   the calls of the library that look at a page and take it
-//   sums.rt      what the counts of a page come to
-//   lib.rt       a page's line
-mod reading;
-mod sums;
-
+// The line of a page that is read.
 use layout_plan::Plan;
-pub use reading::Answer;
-pub use reading::read_into;
+use read_totals::RUINED;
+use read_totals::Sums;
+use read_totals::is_erased;
 use replies::Refusal;
 use replies::refusal_number;
-pub use sums::RUINED;
-pub use sums::Sums;
-pub use sums::is_erased;
-pub use sums::sums_of;
 
 // A block in a list, by its count: its corrected bits, that it is erased and how many of its bits are zeros, or that it is ruined.
 fn count(out: &mut [u8; 32768], n: u8) {
@@ -45,8 +35,11 @@ pub fn blocks(out: &mut [u8; 32768], plan: Plan, sums: Sums, counts: &[u8; 256])
     if is_erased(plan, sums) {
         say::fact(out, b"erased, zeros ", sums.zeros, b"");
     } else {
-        say::fact(out, b"corrected bits ", sums.flips, b"");
-        say::fact(out, b", at most ", sums.most as u64, b" in a block");
+        say::facts(
+            out,
+            b"corrected bits #, at most # in a block",
+            &[sums.flips, sums.most as u64],
+        );
     }
     by_block(out, text::front(counts, plan.blocks as usize));
 }

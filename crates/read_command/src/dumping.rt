@@ -1,10 +1,12 @@
 // A dump of many pages, read page by page. The outputs hold the metadata and the data of all pages, one after the other;
 // the place of a page that is refused holds bytes 0xFF, so that every other page keeps its place.
+use crate::lines;
+use crate::reading;
+use crate::reading::Answer;
 use crate::saving;
-use page_lines::Answer;
-use page_lines::Sums;
 use read_totals::Failed;
 use read_totals::Run;
+use read_totals::Sums;
 use read_totals::Totals;
 use replies::Refusal;
 use streams::Filled;
@@ -65,12 +67,12 @@ fn done(out: &mut [u8; 32768], run: Run, totals: Totals, counts: &[u8; 256]) -> 
         return totals;
     }
     let plan = run.plan;
-    let sums = page_lines::sums_of(plan, counts);
-    let erased = page_lines::is_erased(plan, sums);
+    let sums = read_totals::sums_of(plan, counts);
+    let erased = read_totals::is_erased(plan, sums);
     if has_line(run, sums, erased) {
         page_number(out, run, totals);
         say::reply(out, 0);
-        page_lines::blocks(out, plan, sums, counts);
+        lines::blocks(out, plan, sums, counts);
         say::flush(out);
     }
     read_totals::was_read(totals, sums, erased)
@@ -82,7 +84,7 @@ pub fn fill_place(run: Run, totals: Totals, counts: &[u8; 256]) -> Totals {
     if !t.more {
         return t;
     }
-    let sums = page_lines::sums_of(run.plan, counts);
+    let sums = read_totals::sums_of(run.plan, counts);
     read_totals::was_not_read(t, sums.ruined)
 }
 
@@ -96,7 +98,7 @@ fn refused(
     counts: &[u8; 256],
 ) -> Totals {
     page_number(out, run, totals);
-    page_lines::refused(out, run.plan, page.len(), refusal, counts);
+    lines::refused(out, run.plan, page.len(), refusal, counts);
     say::flush(out);
     let Refusal::Uncorrectable(_) = refusal else {
         return read_totals::was_not_read(totals, 0);
@@ -118,7 +120,7 @@ pub fn read_next(
     let record = run.record;
     let mut metadata = [0u8; 256];
     let mut counts = [0u8; 256];
-    match page_lines::read_into(
+    match reading::read_into(
         run.edition,
         &record,
         run.plan,

@@ -1,9 +1,9 @@
--- `page_lines::sums::all` meets its contract.
+-- `read_totals::sums::all` meets its contract.
 use Prim.Native.Nat.{_≤_, _-_}
 use lib.ListN.{length}
 use borrow.Author.Needs.{needs}
-use Rattle.page_lines.proofs.sums.all.Statement.{statement}
-use Rattle.page_lines.proofs.sums.all.Tie as tie
+use Rattle.read_totals.proofs.sums.all.Statement.{statement}
+use Rattle.read_totals.proofs.sums.all.Tie as tie
 
 abbrev Inv-loop : tie.InvT-loop
 Inv-loop counts sums₀ i₀ sums i = i ≤ length counts

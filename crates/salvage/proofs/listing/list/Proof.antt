@@ -1,8 +1,8 @@
--- `read_pages::saving::list` meets its contract.
+-- `salvage::listing::list` meets its contract.
 use Prim.Native.Nat.{_≤_, _-_}
 use borrow.Author.Needs.{needs}
-use Rattle.read_pages.proofs.saving.list.Statement.{statement}
-use Rattle.read_pages.proofs.saving.list.Tie as tie
+use Rattle.salvage.proofs.listing.list.Statement.{statement}
+use Rattle.salvage.proofs.listing.list.Tie as tie
 
 abbrev Inv-loop : tie.InvT-loop
 Inv-loop line₀ run totals counts b₀ line b = b ≤ 256
