@@ -1,15 +1,15 @@
-// The command explain of the tool (document 02, E2): why a layout is refused, or what became of a block of a page.
+// The command explain (document 02, E2): why a layout is refused, or what became of a block of a page.
 //
 // What is said comes from the proved calls explain_layout, explain_block and explain_bit; the crate `explain_lines` puts
 // it into words.
+use crate::loading;
+use crate::loading::Loaded;
 use arguments::LayoutWords;
 use arguments::Options;
 use arguments::Words;
 use explain::LayoutAnswer;
 use layout::Acceptance;
 use layout_plan::Plan;
-use page_commands::loading;
-use page_commands::loading::Loaded;
 use page_explain::BlockAnswer;
 use text::Number;
 
