@@ -1,7 +1,6 @@
 // Calls about a whole page: each reads one buffer and may write another.
 use layout_plan::Sectors;
 use text::Number;
-use vector_words::is_call;
 
 // Makes the call: the next place of the line, 0 where there is no such call.
 fn page_call(
@@ -11,19 +10,12 @@ fn page_call(
     written: &mut [u8],
     line: &mut [u8],
 ) -> usize {
-    if is_call(words, b"write") {
-        let answer = sector_pages::write_page(sectors, read, written);
-        return page_vector_io::put_write(line, answer);
+    match vector_words::call(words, b"write|look|take") {
+        0 => page_vector_io::put_write(line, sector_pages::write_page(sectors, read, written)),
+        1 => page_vector_io::put_look(line, sector_pages::look_page(sectors, read, written)),
+        2 => page_vector_io::put_take(line, sector_pages::take_page(sectors, read, written)),
+        _ => 0,
     }
-    if is_call(words, b"look") {
-        let answer = sector_pages::look_page(sectors, read, written);
-        return page_vector_io::put_look(line, answer);
-    }
-    if is_call(words, b"take") {
-        let answer = sector_pages::take_page(sectors, read, written);
-        return page_vector_io::put_take(line, answer);
-    }
-    0
 }
 
 fn page_answer(
