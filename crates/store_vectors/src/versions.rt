@@ -1,28 +1,11 @@
-// Page calls by version as the vectors of a store have them: the buffers that a call is lent are read from standard input, and its answer
-// is put onto a line.
-//
-//   page_line     the line of a call
-//
-// The kinds of calls, and what their three buffers are; the third of a look and a claim and the last two of a judgement are not used:
-//
-//   w    writes a page: metadata, data and page; then the answer and the page
-//   l    looks at a page: page and counts; then the answer and the counts
-//   t    takes a page: page, metadata and data; then the answer, metadata and data
-//   j    judges a block: page; then the answer
-//   c    checks a claim: page and exponents of two bytes each; then the answer
-//
-// The lengths of the buffers are handed in, four bytes each, and are at most 8,192, those of exponents at most 512. A buffer is read as
-// hexadecimal digits, two a byte, and one character after them.
-mod buffers;
-mod calls;
-
-use buffers::length;
-use buffers::read_buffers;
-use calls::claim_call;
-use calls::judge_call;
-use calls::look_call;
-use calls::take_call;
-use calls::write_call;
+// Page calls by version: the buffers that a call is lent are read from standard input, and its answer is put onto a line.
+use crate::buffers::length;
+use crate::buffers::read_buffers;
+use crate::page_calls::claim_call;
+use crate::page_calls::judge_call;
+use crate::page_calls::look_call;
+use crate::page_calls::take_call;
+use crate::page_calls::write_call;
 use store::Store;
 
 // Reads the buffers of a call, and makes it.
