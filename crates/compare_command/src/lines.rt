@@ -1,18 +1,12 @@
-// What the tool prints of two pages that are compared (document 02, E10).
+// What the tool prints of two pages that are compared.
 //
-//   counts_of      the counts of two pages
-//   pages          two pages: their report, or a refusal
-//   reporting.rt   the report: a line a block, and the positions at which the pages differ
-//   mapping.rt     a character a block: how much of its level is used up
-//   refused        a refusal: its number and nothing else
-mod mapping;
-mod reporting;
-
+//   counts_of   the counts of two pages
+//   pages       two pages: their report, or a refusal
+//   refused     a refusal: its number and nothing else
+use crate::reporting;
 use compare::CompareAnswer;
 use layout_plan::Plan;
-pub use mapping::map;
 use replies::refusal_number;
-pub use reporting::report;
 
 // The line of a refusal, which is noted for the exit status.
 pub fn refused(out: &mut [u8; 32768], number: u8) {
@@ -55,7 +49,7 @@ pub fn pages(
     let mut a = [0u8; 256];
     let mut b = [0u8; 256];
     match counts_of(edition, record, plan, first, second, &mut a, &mut b) {
-        CompareAnswer::Done => report(out, edition, record, plan, first, second, &a, &b),
+        CompareAnswer::Done => reporting::report(out, edition, record, plan, first, second, &a, &b),
         CompareAnswer::Refused(refusal) => refused(out, refusal_number(refusal)),
     }
 }

@@ -1,8 +1,8 @@
--- `compare_lines::reporting::positions` meets its contract.
+-- `compare_command::reporting::positions` meets its contract.
 use Prim.Native.Nat.{_≤_}
 use borrow.Author.Needs.{needs}
-use Rattle.compare_lines.proofs.reporting.positions.Statement.{statement}
-use Rattle.compare_lines.proofs.reporting.positions.Tie as tie
+use Rattle.compare_command.proofs.reporting.positions.Statement.{statement}
+use Rattle.compare_command.proofs.reporting.positions.Tie as tie
 
 abbrev Inv-loop : tie.InvT-loop
 Inv-loop out₀ edition «record» first second walk₀ turns₀ out walk turns = turns ≤ turns₀

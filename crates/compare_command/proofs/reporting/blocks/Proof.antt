@@ -1,8 +1,8 @@
--- `compare_lines::reporting::blocks` meets its contract.
+-- `compare_command::reporting::blocks` meets its contract.
 use Prim.Native.Nat.{_≤_, _-_}
 use borrow.Author.Needs.{needs}
-use Rattle.compare_lines.proofs.reporting.blocks.Statement.{statement}
-use Rattle.compare_lines.proofs.reporting.blocks.Tie as tie
+use Rattle.compare_command.proofs.reporting.blocks.Statement.{statement}
+use Rattle.compare_command.proofs.reporting.blocks.Tie as tie
 
 abbrev Inv-loop : tie.InvT-loop
 Inv-loop out₀ n first second b₀ out b = b ≤ 256

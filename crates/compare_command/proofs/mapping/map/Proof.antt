@@ -1,8 +1,8 @@
--- `compare_lines::mapping::map` meets its contract.
+-- `compare_command::mapping::map` meets its contract.
 use Prim.Native.Nat.{_≤_, _-_}
 use borrow.Author.Needs.{needs}
-use Rattle.compare_lines.proofs.mapping.map.Statement.{statement}
-use Rattle.compare_lines.proofs.mapping.map.Tie as tie
+use Rattle.compare_command.proofs.mapping.map.Statement.{statement}
+use Rattle.compare_command.proofs.mapping.map.Tie as tie
 
 abbrev Inv-loop : tie.InvT-loop
 Inv-loop out₀ plan counts b₀ out b = b ≤ 256
