@@ -1,9 +1,9 @@
 // The options after a command.
 use crate::command;
-use crate::number;
+use crate::numbers::WORD;
+use crate::numbers::at_most;
 use crate::numbers::low;
 use crate::place;
-use crate::word;
 use text::Number;
 
 // Options that a command may take, as bits of a set: --from and --pages, --page, --quiet, --stdout, --raw, --mark, --edition, --map.
@@ -48,62 +48,25 @@ pub struct Options {
     pub good: bool,
 }
 
-enum Choice {
-    From,
-    Pages,
-    Page,
-    Quiet,
-    Stdout,
-    Raw,
-    Mark,
-    Edition,
-    Map,
-    Unknown,
-}
+// The options that take a number.
+const NUMBERED: u16 = RANGE + PAGE + MARK + EDITION;
 
-fn choice_of(name: &[u8]) -> Choice {
-    if check::same(name, b"--from") {
-        return Choice::From;
-    }
-    if check::same(name, b"--pages") {
-        return Choice::Pages;
-    }
-    if check::same(name, b"--page") {
-        return Choice::Page;
-    }
-    if check::same(name, b"--quiet") {
-        return Choice::Quiet;
-    }
-    if check::same(name, b"--stdout") {
-        return Choice::Stdout;
-    }
-    if check::same(name, b"--raw") {
-        return Choice::Raw;
-    }
-    if check::same(name, b"--mark") {
-        return Choice::Mark;
-    }
-    if check::same(name, b"--edition") {
-        return Choice::Edition;
-    }
-    if check::same(name, b"--map") {
-        return Choice::Map;
-    }
-    Choice::Unknown
-}
-
-fn bit_of(choice: Choice) -> u16 {
-    match choice {
-        Choice::From => 1,
-        Choice::Pages => 2,
-        Choice::Page => PAGE,
-        Choice::Quiet => QUIET,
-        Choice::Stdout => STDOUT,
-        Choice::Raw => RAW,
-        Choice::Mark => MARK,
-        Choice::Edition => EDITION,
-        Choice::Map => MAP,
-        Choice::Unknown => 0,
+// The bit of an option; 0 where a name is none.
+fn bit_of(name: &[u8]) -> u16 {
+    match text::index_of(
+        name,
+        b"--from|--pages|--page|--quiet|--stdout|--raw|--mark|--edition|--map",
+    ) {
+        0 => 1,
+        1 => 2,
+        2 => PAGE,
+        3 => QUIET,
+        4 => STDOUT,
+        5 => RAW,
+        6 => MARK,
+        7 => EDITION,
+        8 => MAP,
+        _ => 0,
     }
 }
 
@@ -113,62 +76,43 @@ fn bad(options: Options) -> Options {
     o
 }
 
-// The options with one more, which takes `v` where it takes a number.
-fn with(options: Options, choice: Choice, v: u64) -> Options {
+// The options with one more, by its bit, which takes `v` where it takes a number.
+fn with(options: Options, choice: u16, v: u64) -> Options {
     let mut o = options;
-    o.given = options.given | bit_of(choice);
+    o.given = options.given | choice;
     match choice {
-        Choice::From => {
+        1 => {
             o.ranged = true;
             o.from = v;
         }
-        Choice::Pages => {
+        2 => {
             o.ranged = true;
             o.pages = v;
         }
-        Choice::Page => {
+        PAGE => {
             o.paged = true;
             o.page = v;
         }
-        Choice::Quiet => {
+        QUIET => {
             o.quiet = true;
         }
-        Choice::Stdout => {
+        STDOUT => {
             o.stdout = true;
         }
-        Choice::Raw => {
+        RAW => {
             o.raw = true;
         }
-        Choice::Mark => {
+        MARK => {
             o.mark = low(v);
         }
-        Choice::Edition => {
+        EDITION => {
             o.edition = v;
         }
-        Choice::Map => {
+        _ => {
             o.map = true;
-        }
-        Choice::Unknown => {
-            o.good = false;
         }
     }
     o
-}
-
-// An option that takes a number.
-fn with_number(out: &mut [u8; 32768], options: Options, choice: Choice, name: &[u8]) -> Options {
-    match number(out, place(options.at, 1), name) {
-        Number::Is(v) => moved(with(options, choice, v), 2),
-        Number::Bad => bad(options),
-    }
-}
-
-// An option that takes a word of 32 bits.
-fn with_word(out: &mut [u8; 32768], options: Options, choice: Choice, name: &[u8]) -> Options {
-    match word(out, place(options.at, 1), name) {
-        Number::Is(v) => moved(with(options, choice, v), 2),
-        Number::Bad => bad(options),
-    }
 }
 
 fn moved(options: Options, k: usize) -> Options {
@@ -177,35 +121,46 @@ fn moved(options: Options, k: usize) -> Options {
     o
 }
 
-fn taken(out: &mut [u8; 32768], options: Options, choice: Choice, name: &[u8]) -> Options {
-    match choice {
-        Choice::From => with_number(out, options, choice, name),
-        Choice::Pages => with_number(out, options, choice, name),
-        Choice::Page => with_number(out, options, choice, name),
-        Choice::Quiet => moved(with(options, choice, 0), 1),
-        Choice::Stdout => moved(with(options, choice, 0), 1),
-        Choice::Raw => moved(with(options, choice, 0), 1),
-        Choice::Mark => with_word(out, options, choice, name),
-        Choice::Edition => with_number(out, options, choice, name),
-        Choice::Map => moved(with(options, choice, 0), 1),
-        Choice::Unknown => bad(options),
+// The largest number that an option takes.
+fn most(choice: u16) -> u64 {
+    if choice == MARK {
+        return WORD;
+    }
+    u64::MAX
+}
+
+fn taken(out: &mut [u8; 32768], options: Options, choice: u16, name: &[u8]) -> Options {
+    if choice & NUMBERED == 0 {
+        return moved(with(options, choice, 0), 1);
+    }
+    match at_most(out, place(options.at, 1), name, most(choice)) {
+        Number::Is(v) => moved(with(options, choice, v), 2),
+        Number::Bad => bad(options),
     }
 }
 
-// Takes the option at the next place, which has to be among those allowed and not be given before.
+// Whether an option is among those allowed and was not given before; an error is printed where not.
+fn may_follow(out: &mut [u8; 32768], choice: u16, given: u16, allowed: u16, name: &[u8]) -> bool {
+    if choice & allowed == 0 {
+        say::bad_argument(out, b"option", name, b"is none of this command's");
+        return false;
+    }
+    if choice & given != 0 {
+        say::bad_argument(out, b"option", name, b"is given twice");
+        return false;
+    }
+    true
+}
+
+// Takes the option at the next place.
 fn next(out: &mut [u8; 32768], options: Options, allowed: u16) -> Options {
-    let mut given = io::buffer();
-    let n = os::arg(options.at, &mut given);
-    let choice = choice_of(&given[..n]);
-    if bit_of(choice) & allowed == 0 {
-        say::bad_argument(out, b"option", &given[..n], b"is none of this command's");
+    let mut name = io::buffer();
+    let n = os::arg(options.at, &mut name);
+    let choice = bit_of(&name[..n]);
+    if !may_follow(out, choice, options.given, allowed, &name[..n]) {
         return bad(options);
     }
-    if bit_of(choice) & options.given != 0 {
-        say::bad_argument(out, b"option", &given[..n], b"is given twice");
-        return bad(options);
-    }
-    taken(out, options, choice, &given[..n])
+    taken(out, options, choice, &name[..n])
 }
 
 // Whether argument i starts with two dashes.

@@ -4,7 +4,7 @@
 //   run_number                  the number of the run, by which new files are named
 //   find_options                the options after the command
 //   are, whole                  whether there are so many arguments; whether one is not cut short
-//   number, word, word_list     numbers
+//   number, word_list           numbers
 //   layout_words, record_of     the three words of a layout with the edition, and their record
 //   bad_remainder               the error about a remainder that cannot be read
 mod choices;
@@ -28,7 +28,6 @@ pub use numbers::bad_remainder;
 pub use numbers::layout_words;
 pub use numbers::number;
 pub use numbers::record_of;
-pub use numbers::word;
 pub use numbers::word_list;
 use text::Number;
 

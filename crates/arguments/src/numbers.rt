@@ -43,7 +43,7 @@ pub fn number(out: &mut [u8; 32768], i: usize, name: &[u8]) -> Number {
 }
 
 // A number of at most `most`, which is that of a word or the largest of all; an error is printed where the argument is none.
-fn at_most(out: &mut [u8; 32768], i: usize, name: &[u8], most: u64) -> Number {
+pub fn at_most(out: &mut [u8; 32768], i: usize, name: &[u8], most: u64) -> Number {
     let Number::Is(v) = number(out, i, name) else {
         return Number::Bad;
     };
@@ -56,11 +56,6 @@ fn at_most(out: &mut [u8; 32768], i: usize, name: &[u8], most: u64) -> Number {
 
 // The largest word of 32 bits.
 pub const WORD: u64 = 4294967295;
-
-// A word of 32 bits; an error is printed where the argument is none.
-pub fn word(out: &mut [u8; 32768], i: usize, name: &[u8]) -> Number {
-    at_most(out, i, name, WORD)
-}
 
 // The lowest 32 bits of a number.
 pub fn low(v: u64) -> u32 {
@@ -110,10 +105,10 @@ pub fn bad_remainder(out: &mut [u8; 32768]) {
 
 // The words of a layout: the two arguments after the options, the third by the option --mark and the edition by --edition.
 pub fn layout_words(out: &mut [u8; 32768], options: Options) -> Words {
-    let Number::Is(first) = word(out, options.at, b"WORD0") else {
+    let Number::Is(first) = at_most(out, options.at, b"WORD0", WORD) else {
         return Words::Bad;
     };
-    let Number::Is(second) = word(out, place(options.at, 1), b"WORD1") else {
+    let Number::Is(second) = at_most(out, place(options.at, 1), b"WORD1", WORD) else {
         return Words::Bad;
     };
     Words::Are(LayoutWords {

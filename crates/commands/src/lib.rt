@@ -24,56 +24,25 @@ pub enum Command {
 }
 
 fn command_of(name: &[u8]) -> Command {
-    if check::same(name, b"layout") {
-        return Command::Layout;
+    match text::index_of(
+        name,
+        b"layout|bits|write|read|look|salvage|compare|judge|explain|locate|fragments|claim|--help|-h|help",
+    ) {
+        0 => Command::Layout,
+        1 => Command::Bits,
+        2 => Command::Write,
+        3 => Command::Read,
+        4 => Command::Look,
+        5 => Command::Salvage,
+        6 => Command::Compare,
+        7 => Command::Judge,
+        8 => Command::Explain,
+        9 => Command::Locate,
+        10 => Command::Fragments,
+        11 => Command::Claim,
+        12..=14 => Command::Help,
+        _ => Command::Unknown,
     }
-    if check::same(name, b"bits") {
-        return Command::Bits;
-    }
-    if check::same(name, b"write") {
-        return Command::Write;
-    }
-    if check::same(name, b"read") {
-        return Command::Read;
-    }
-    if check::same(name, b"look") {
-        return Command::Look;
-    }
-    if check::same(name, b"salvage") {
-        return Command::Salvage;
-    }
-    if check::same(name, b"compare") {
-        return Command::Compare;
-    }
-    other_command(name)
-}
-
-fn other_command(name: &[u8]) -> Command {
-    if check::same(name, b"judge") {
-        return Command::Judge;
-    }
-    if check::same(name, b"explain") {
-        return Command::Explain;
-    }
-    if check::same(name, b"locate") {
-        return Command::Locate;
-    }
-    if check::same(name, b"fragments") {
-        return Command::Fragments;
-    }
-    if check::same(name, b"claim") {
-        return Command::Claim;
-    }
-    if check::same(name, b"--help") {
-        return Command::Help;
-    }
-    if check::same(name, b"-h") {
-        return Command::Help;
-    }
-    if check::same(name, b"help") {
-        return Command::Help;
-    }
-    Command::Unknown
 }
 
 // What argument i asks for.

@@ -1,4 +1,5 @@
 // The command.
+use crate::lines;
 use crate::running;
 use arguments::Options;
 use arguments::Words;
@@ -125,6 +126,24 @@ fn is_one(options: Options) -> bool {
     os::arg_count() == arguments::place(options.at, 3)
 }
 
+// Compares under the layout words of the arguments.
+fn compare_by_words(out: &mut [u8; 32768], options: Options, one: bool) {
+    let Words::Are(words) = arguments::layout_words(out, options) else {
+        return;
+    };
+    let record = arguments::record_of(words);
+    match layout::check_layout(words.edition, &record) {
+        Acceptance::Accepted(l) => compare_under(
+            out,
+            options,
+            &record,
+            layout_plan::plan_of(l),
+            one,
+        ),
+        Acceptance::Refused(refusal) => { lines::refused(out, layout::refusal_reply(refusal)) }
+    }
+}
+
 // nandpage compare [--edition N] [--mark WORD2] [--from N] [--pages M] [--quiet] WORD0 WORD1 FIRST SECOND
 // nandpage compare --map [--edition N] [--mark WORD2] [--from N] [--pages M] WORD0 WORD1 FIRST [SECOND]
 pub fn compare(out: &mut [u8; 32768]) {
@@ -146,20 +165,5 @@ pub fn compare(out: &mut [u8; 32768]) {
             return;
         }
     }
-    let Words::Are(words) = arguments::layout_words(out, options) else {
-        return;
-    };
-    let record = arguments::record_of(words);
-    match layout::check_layout(words.edition, &record) {
-        Acceptance::Accepted(l) => compare_under(
-            out,
-            options,
-            &record,
-            layout_plan::plan_of(l),
-            one,
-        ),
-        Acceptance::Refused(refusal) => {
-            compare_lines::refused(out, layout::refusal_reply(refusal))
-        }
-    }
+    compare_by_words(out, options, one);
 }

@@ -1,4 +1,7 @@
 // One page of each dump.
+use crate::lines;
+use crate::mapping;
+use crate::reporting;
 use compare::CompareAnswer;
 use compare::DifferenceAnswer;
 use compare_totals::Run;
@@ -10,13 +13,32 @@ use replies::refusal_number;
 
 // A page that is refused ends the run.
 fn refused(out: &mut [u8; 32768], totals: Totals, refusal: Refusal) -> Totals {
-    compare_lines::refused(out, refusal_number(refusal));
+    lines::refused(out, refusal_number(refusal));
     compare_totals::ended(totals)
 }
 
 // The number of a page in the dumps.
 fn page_number(out: &mut [u8; 32768], run: Run, totals: Totals) {
     say::fact(out, b"page ", text::plus(run.from, totals.pages), b"\n");
+}
+
+// A page of two dumps that differs, with the counts of its blocks.
+fn reported(
+    out: &mut [u8; 32768],
+    run: Run,
+    record: &[u8],
+    plan: Plan,
+    totals: Totals,
+    first: &[u8],
+    second: &[u8],
+    a: &[u8; 256],
+    b: &[u8; 256],
+) -> Totals {
+    if !run.quiet {
+        page_number(out, run, totals);
+        reporting::report(out, run.edition, record, plan, first, second, a, b);
+    }
+    compare_totals::differing(totals, plan.blocks, a, b)
 }
 
 // A page of two dumps that differs.
@@ -31,14 +53,8 @@ fn differs(
 ) -> Totals {
     let mut a = [0u8; 256];
     let mut b = [0u8; 256];
-    match compare_lines::counts_of(run.edition, record, plan, first, second, &mut a, &mut b) {
-        CompareAnswer::Done => {
-            if !run.quiet {
-                page_number(out, run, totals);
-                compare_lines::report(out, run.edition, record, plan, first, second, &a, &b);
-            }
-            compare_totals::differing(totals, plan.blocks, &a, &b)
-        }
+    match lines::counts_of(run.edition, record, plan, first, second, &mut a, &mut b) {
+        CompareAnswer::Done => { reported(out, run, record, plan, totals, first, second, &a, &b) }
         CompareAnswer::Refused(refusal) => refused(out, totals, refusal),
     }
 }
@@ -64,7 +80,7 @@ fn compared(
 }
 
 fn mapped(out: &mut [u8; 32768], plan: Plan, totals: Totals, counts: &[u8; 256]) -> Totals {
-    compare_lines::map(out, plan, counts);
+    mapping::map(out, plan, counts);
     say::put(out, b"\n");
     say::flush(out);
     compare_totals::passed(totals)
@@ -125,9 +141,9 @@ fn map_two(
 ) -> Totals {
     let mut a = [0u8; 256];
     let mut b = [0u8; 256];
-    match compare_lines::counts_of(run.edition, record, plan, first, second, &mut a, &mut b) {
+    match lines::counts_of(run.edition, record, plan, first, second, &mut a, &mut b) {
         CompareAnswer::Done => {
-            compare_lines::map(out, plan, &a);
+            mapping::map(out, plan, &a);
             say::put(out, b" ");
             mapped(out, plan, totals, &b)
         }

@@ -1,5 +1,6 @@
 // Two files: of one page each, or two dumps of many.
 use crate::dumping;
+use crate::lines;
 use crate::paging;
 use compare_totals::Failed;
 use compare_totals::Run;
@@ -84,7 +85,7 @@ fn probed(
             return all;
         }
     }
-    compare_lines::pages(
+    lines::pages(
         out,
         run.edition,
         record,

@@ -158,10 +158,16 @@ pub fn differing(totals: Totals, blocks: u16, first: &[u8; 256], second: &[u8; 2
 
 // The last line of a comparison of dumps.
 pub fn summary(out: &mut [u8; 32768], totals: Totals) {
-    say::fact(out, b"pages ", totals.pages, b"");
-    say::fact(out, b", differing ", totals.differing, b"");
-    say::fact(out, b"; blocks worse ", totals.worse, b"");
-    say::fact(out, b", better ", totals.better, b"");
-    say::fact(out, b", ruined now ", totals.ruined, b"");
-    say::fact(out, b", erased now ", totals.erased, b"\n");
+    say::facts(
+        out,
+        b"pages #, differing #; blocks worse #, better #, ruined now #, erased now #\n",
+        &[
+            totals.pages,
+            totals.differing,
+            totals.worse,
+            totals.better,
+            totals.ruined,
+            totals.erased,
+        ],
+    );
 }

@@ -8,10 +8,10 @@ use layout::Acceptance;
 fn compare(out: &mut [u8; 32768], edition: u64, words: &[u8], first: &[u8], second: &[u8]) {
     match layout::check_layout(edition, words) {
         Acceptance::Accepted(l) => {
-            compare_lines::pages(out, edition, words, layout_plan::plan_of(l), first, second)
+            compare_command::pages(out, edition, words, layout_plan::plan_of(l), first, second)
         }
         Acceptance::Refused(refusal) => {
-            compare_lines::refused(out, layout::refusal_reply(refusal))
+            compare_command::refused(out, layout::refusal_reply(refusal))
         }
     }
 }

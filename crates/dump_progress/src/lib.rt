@@ -54,16 +54,16 @@ fn since(now: u64, then: u64) -> u64 {
 fn show(pages: u64, known: u64, size: u16, elapsed: u64) {
     let mut line = say::new();
     say::to_stderr(&mut line);
-    say::fact(&mut line, b"nandpage: ", pages, b" pages");
+    let speed = rate(text::times(pages, size as u32), elapsed);
     if 0 < known {
-        say::fact(&mut line, b", ", percent(pages, known), b" %");
+        say::facts(
+            &mut line,
+            b"nandpage: # pages, # %, # MB/s\n",
+            &[pages, percent(pages, known), speed],
+        );
+    } else {
+        say::facts(&mut line, b"nandpage: # pages, # MB/s\n", &[pages, speed]);
     }
-    say::fact(
-        &mut line,
-        b", ",
-        rate(text::times(pages, size as u32), elapsed),
-        b" MB/s\n",
-    );
     say::flush(&mut line);
 }
 

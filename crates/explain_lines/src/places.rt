@@ -3,27 +3,27 @@ use explain::Part;
 use explain::Place;
 use explain::PlaceAnswer;
 
-fn part_name(out: &mut [u8; 32768], part: Part) {
+// A part by its number among the texts of `place`.
+fn number(part: Part) -> u64 {
     match part {
-        Part::Metadata => say::put(out, b"metadata"),
-        Part::Data => say::put(out, b"data"),
-        Part::Parity => say::put(out, b"parity"),
-        Part::Tail => say::put(out, b"tail"),
-        Part::Mark => say::put(out, b"mark"),
+        Part::Metadata => 0,
+        Part::Data => 1,
+        Part::Parity => 2,
+        Part::Tail => 3,
+        Part::Mark => 4,
     }
 }
 
 // A place in a page: its block and part, byte and bit of the page, and the byte of metadata or data.
 fn place(out: &mut [u8; 32768], place: Place) {
     let part = place.part;
+    let k = number(part);
     say::fact(out, b"block ", place.block as u64, b": ");
-    part_name(out, part);
-    say::fact(out, b", page byte ", place.byte, b"");
-    say::fact(out, b" bit ", place.bit, b"");
-    match part {
-        Part::Metadata => say::fact(out, b", metadata byte ", place.index, b""),
-        Part::Data => say::fact(out, b", data byte ", place.index, b""),
-        _ => (),
+    say::one_of(out, b"metadata|data|parity|tail|mark", k);
+    say::facts(out, b", page byte # bit #", &[place.byte, place.bit]);
+    if k < 2 {
+        say::one_of(out, b", metadata byte |, data byte ", k);
+        say::number(out, place.index);
     }
     say::put(out, b"\n");
 }

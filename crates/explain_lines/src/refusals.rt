@@ -6,16 +6,10 @@ use layout_plan::Fields;
 use replies::refusal_number;
 
 pub fn accepted(out: &mut [u8; 32768]) {
-    say::reply(out, 0);
     say::put(
         out,
-        b"this layout is accepted, it breaks none of the rules 1, 2, 3, 11 and 4\n",
+        b"reply 0: this layout is accepted, it breaks none of the rules 1, 2, 3, 11 and 4\n",
     );
-}
-
-fn edition(out: &mut [u8; 32768], found: u64, limit: u64) {
-    say::fact(out, b"there is no edition ", found, b"");
-    say::fact(out, b", only 1 and ", limit, b"\n");
 }
 
 // A file is not read further than one byte beyond the length that is wanted.
@@ -25,22 +19,31 @@ fn page_length(out: &mut [u8; 32768], found: u64, limit: u64) {
     } else {
         say::fact(out, b"the page has ", found, b" bytes");
     }
-    say::fact(out, b", and the layout says ", limit, b"\n");
-    say::put(
+    say::fact(
         out,
-        b"next: see whether the layout is the page's; of a dump, --page K asks about page K\n",
+        b", and the layout says ",
+        limit,
+        b"\nnext: see whether the layout is the page's; of a dump, --page K asks about page K\n",
     );
 }
 
-fn block_number(out: &mut [u8; 32768], found: u64, limit: u64) {
-    say::fact(out, b"there is no block ", found, b"");
-    say::fact(out, b", the page has ", limit, b", counted from 0\n");
-}
-
-// The length of a record or of a list, or a position: the tool asks with none that is refused.
-fn other(out: &mut [u8; 32768], found: u64, limit: u64) {
-    say::fact(out, b"the numbers compared are ", found, b"");
-    say::fact(out, b" and ", limit, b"\n");
+// Why a question is refused that breaks no rule of the layout. The tool asks with no length of a record or of a list and with no
+// position that is refused.
+fn no_rule(out: &mut [u8; 32768], about: About, found: u64, limit: u64) {
+    match about {
+        About::Edition => say::facts(
+            out,
+            b"there is no edition #, only 1 and #\n",
+            &[found, limit],
+        ),
+        About::Lent => page_length(out, found, limit),
+        About::Block => say::facts(
+            out,
+            b"there is no block #, the page has #, counted from 0\n",
+            &[found, limit],
+        ),
+        _ => say::facts(out, b"the numbers compared are # and #\n", &[found, limit]),
+    }
 }
 
 // Why it is refused, with the two numbers that were compared. `fields` are those of the layout that was asked about.
@@ -52,12 +55,9 @@ pub fn refused(out: &mut [u8; 32768], fields: Fields, why: Why) {
     let number = refusal_number(refusal);
     say::reply(out, number);
     match about {
-        About::Edition => edition(out, found, limit),
-        About::First => rules::broken(out, fields, about, number, found, limit),
-        About::Later => rules::broken(out, fields, about, number, found, limit),
-        About::Page => rules::broken(out, fields, about, number, found, limit),
-        About::Lent => page_length(out, found, limit),
-        About::Block => block_number(out, found, limit),
-        _ => other(out, found, limit),
+        About::First | About::Later | About::Page => {
+            rules::broken(out, fields, about, number, found, limit)
+        }
+        _ => no_rule(out, about, found, limit),
     }
 }

@@ -2,28 +2,26 @@
 use explain::About;
 use layout_plan::Fields;
 
-// What breaks the rule.
-fn breaks(out: &mut [u8; 32768], about: About, rule: u8) {
+// What breaks the rule, by its number among the texts of `breaks`.
+fn what(about: About) -> u64 {
     match about {
-        About::First => say::put(out, b"block 0"),
-        About::Later => say::put(out, b"each later block"),
-        _ => say::put(out, b"the page"),
+        About::First => 0,
+        About::Later => 1,
+        _ => 2,
     }
+}
+
+fn breaks(out: &mut [u8; 32768], about: About, rule: u8) {
+    say::one_of(out, b"block 0|each later block|the page", what(about));
     say::fact(out, b" breaks rule ", rule as u64, b": ");
 }
 
-fn level(out: &mut [u8; 32768], found: u64, limit: u64) {
-    say::fact(out, b"its level field is ", found, b"");
-    say::fact(out, b", and the largest is ", limit, b"\n");
-    say::put(
-        out,
-        b"next: take a lower level, or --edition 2 if the part is one of the second edition\n",
-    );
-}
-
 fn message(out: &mut [u8; 32768], about: About, found: u64, limit: u64) {
-    say::fact(out, b"its message has ", found, b" bits");
-    say::fact(out, b", and at least ", limit, b" is needed\n");
+    say::facts(
+        out,
+        b"its message has # bits, and at least # is needed\n",
+        &[found, limit],
+    );
     match about {
         About::First => say::put(
             out,
@@ -38,9 +36,12 @@ fn message(out: &mut [u8; 32768], about: About, found: u64, limit: u64) {
 
 // The field m = 13 allows 8191 bits, the larger one 16383.
 fn length(out: &mut [u8; 32768], found: u64, limit: u64) {
-    say::fact(out, b"it needs ", found, b" bits");
-    say::fact(out, b", and its field allows ", limit, b"\n");
-    say::put(out, b"next: give it less data or a lower level");
+    say::facts(
+        out,
+        b"it needs # bits, and its field allows #\n\
+        next: give it less data or a lower level",
+        &[found, limit],
+    );
     if limit < 16383 {
         say::put(out, b", or GF 1, which allows 16383 bits");
     }
@@ -48,8 +49,11 @@ fn length(out: &mut [u8; 32768], found: u64, limit: u64) {
 }
 
 fn room(out: &mut [u8; 32768], fields: Fields, found: u64, limit: u64) {
-    say::fact(out, b"its blocks need ", found, b" bits");
-    say::fact(out, b", and it has ", limit, b"");
+    say::facts(
+        out,
+        b"its blocks need # bits, and it has #",
+        &[found, limit],
+    );
     if 0 < fields.mark.length {
         say::put(out, b" beside the mark");
     }
@@ -64,19 +68,19 @@ fn outside(out: &mut [u8; 32768], fields: Fields, found: u64, limit: u64) {
     let mark = fields.mark;
     let end = mark.offset as u64 + mark.length as u64;
     if (fields.page as u64) < end {
-        say::fact(out, b"mark offset and mark length come to ", found, b"");
-        say::fact(out, b" bytes, and it has ", limit, b"\n");
-        say::put(
+        say::facts(
             out,
-            b"next: see whether the third layout word is right; the mark has to lie in the page\n",
+            b"mark offset and mark length come to # bytes, and it has #\n\
+            next: see whether the third layout word is right; the mark has to lie in the page\n",
+            &[found, limit],
         );
         return;
     }
-    say::fact(out, b"the zero bits after the mark length are ", found, b"");
-    say::fact(out, b", and have to be ", limit, b"\n");
-    say::put(
+    say::facts(
         out,
-        b"next: see whether the third layout word is right; its last two digits have to be 00\n",
+        b"the zero bits after the mark length are #, and have to be #\n\
+        next: see whether the third layout word is right; its last two digits have to be 00\n",
+        &[found, limit],
     );
 }
 
@@ -91,7 +95,12 @@ pub fn broken(
 ) {
     breaks(out, about, rule);
     match rule {
-        1 => level(out, found, limit),
+        1 => say::facts(
+            out,
+            b"its level field is #, and the largest is #\n\
+            next: take a lower level, or --edition 2 if the part is one of the second edition\n",
+            &[found, limit],
+        ),
         2 => message(out, about, found, limit),
         3 => length(out, found, limit),
         4 => room(out, fields, found, limit),

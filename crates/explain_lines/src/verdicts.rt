@@ -10,18 +10,28 @@ fn near(count: u8, level: u16) -> bool {
 
 // A block with a codeword within t flips. Where t is 0 there is no code, and every content is right.
 pub fn flipped(out: &mut [u8; 32768], block: u64, count: u8, level: u16) {
-    say::reply(out, 0);
-    say::fact(out, b"block ", block, b", ");
     if level == 0 {
-        say::put(out, b"no ECC, so flips cannot be found\n");
+        say::fact(
+            out,
+            b"reply 0: block ",
+            block,
+            b", no ECC, so flips cannot be found\n",
+        );
         return;
     }
     if count == 0 {
-        say::put(out, b"no flips");
-    } else {
-        say::fact(out, b"flips ", count as u64, b"");
+        say::facts(
+            out,
+            b"reply 0: block #, no flips (it corrects #)\n",
+            &[block, level as u64],
+        );
+        return;
     }
-    say::fact(out, b" (it corrects ", level as u64, b")\n");
+    say::facts(
+        out,
+        b"reply 0: block #, flips # (it corrects #)\n",
+        &[block, count as u64, level as u64],
+    );
 }
 
 // What can be done about so many flips.
@@ -35,23 +45,20 @@ pub fn advice(out: &mut [u8; 32768], count: u8, level: u16) {
 }
 
 pub fn erased(out: &mut [u8; 32768], block: u64, zeros: u8, level: u16) {
-    say::reply(out, 0);
-    say::fact(out, b"block ", block, b", erased, ");
-    say::fact(out, b"zeros ", zeros as u64, b"");
-    say::fact(out, b" (it may have ", level as u64, b")\n");
-    say::put(
+    say::facts(
         out,
-        b"next: there is nothing to save, nothing was written here since the flash was erased\n",
+        b"reply 0: block #, erased, zeros # (it may have #)\n\
+        next: there is nothing to save, nothing was written here since the flash was erased\n",
+        &[block, zeros as u64, level as u64],
     );
 }
 
 pub fn ruined(out: &mut [u8; 32768], block: u64, level: u16) {
     say::reply(out, 9);
-    say::fact(out, b"block ", block, b", ruined, ");
-    say::fact(out, b"no codeword within ", level as u64, b" flips");
-    say::fact(out, b", and more than ", level as u64, b" zeros\n");
-    say::put(
+    say::facts(
         out,
-        b"next: no copy of this page is left here; nandpage salvage saves what its other blocks hold\n",
+        b"block #, ruined, no codeword within # flips, and more than # zeros\n\
+        next: no copy of this page is left here; nandpage salvage saves what its other blocks hold\n",
+        &[block, level as u64, level as u64],
     );
 }

@@ -8,15 +8,20 @@ use mark::Mark;
 use plans::Planned;
 ghost use Prim.Native.Nat.{_+_, _<_};
 
-// The fields of one kind of block, by their names in document 01.
-fn block_fields(out: &mut [u8; 32768], level: &[u8], fields: BlockFields, units: &[u8]) {
-    let gf = fields.gf;
-    say::fact(out, level, fields.ecc as u64, b"");
-    match gf {
-        Field::Thirteen => say::put(out, b", GF 0"),
-        Field::Fourteen => say::put(out, b", GF 1"),
+// The field GF of a layout word.
+fn gf(field: Field) -> u64 {
+    match field {
+        Field::Thirteen => 0,
+        Field::Fourteen => 1,
     }
-    say::fact(out, units, fields.units as u64, b"\n");
+}
+
+// m: the degree of the field.
+fn degree(field: Field) -> u64 {
+    match field {
+        Field::Thirteen => 13,
+        Field::Fourteen => 14,
+    }
 }
 
 // The fields of the third word, where it is not 0.
@@ -24,41 +29,61 @@ fn third_word(out: &mut [u8; 32768], mark: Mark) {
     let offset = mark.offset as u64;
     let length = mark.length as u64;
     if 0 < offset + length {
-        say::fact(out, b"word 2: mark offset ", offset, b"");
-        say::fact(out, b", mark length ", length, b"\n");
+        say::facts(
+            out,
+            b"word 2: mark offset #, mark length #\n",
+            &[offset, length],
+        );
     }
 }
 
-// The fields of the words.
+// The fields of the words, by their names in document 01.
 fn all_words(out: &mut [u8; 32768], fields: Fields) {
     let first = fields.first;
     let later = fields.later;
     let mark = fields.mark;
-    say::fact(out, b"word 0: NBLOCKS ", fields.nblocks as u64, b"");
-    say::fact(out, b", META_SIZE ", fields.metadata as u64, b"");
-    block_fields(out, b", ECC0 ", first, b", DATA0_SIZE ");
-    say::fact(out, b"word 1: PAGE_SIZE ", fields.page as u64, b"");
-    block_fields(out, b", ECCN ", later, b", DATAN_SIZE ");
+    let gf0 = first.gf;
+    let gfn = later.gf;
+    say::facts(
+        out,
+        b"word 0: NBLOCKS #, META_SIZE #, ECC0 #, GF #, DATA0_SIZE #\n\
+        word 1: PAGE_SIZE #, ECCN #, GF #, DATAN_SIZE #\n",
+        &[
+            fields.nblocks as u64,
+            fields.metadata as u64,
+            first.ecc as u64,
+            gf(gf0),
+            first.units as u64,
+            fields.page as u64,
+            later.ecc as u64,
+            gf(gfn),
+            later.units as u64,
+        ],
+    );
     third_word(out, mark);
 }
 
-// What a block of so many covered bits is made of.
-fn shape(out: &mut [u8; 32768], shape: Shape, covered: u64) {
+// The parity bits of a block: those that it covers without its message.
+fn parity(shape: Shape) -> u64 {
+    if shape.covered < shape.message {
+        return 0;
+    }
+    (shape.covered - shape.message) as u64
+}
+
+// What a block is made of.
+fn shape(out: &mut [u8; 32768], shape: Shape) {
     let field = shape.field;
     let message = shape.message as u64;
-    say::fact(out, b": message ", message, b"");
     if shape.level == 0 {
-        say::put(out, b", no ECC\n");
+        say::fact(out, b": message ", message, b", no ECC\n");
         return;
     }
-    if message <= covered {
-        say::fact(out, b", parity ", covered - message, b"");
-    }
-    say::fact(out, b", corrects ", shape.level as u64, b" bits");
-    match field {
-        Field::Thirteen => say::put(out, b" (m = 13)\n"),
-        Field::Fourteen => say::put(out, b" (m = 14)\n"),
-    }
+    say::facts(
+        out,
+        b": message #, parity #, corrects # bits (m = #)\n",
+        &[message, parity(shape), shape.level as u64, degree(field)],
+    );
 }
 
 // Whether so many stream bits from a position on stand on both sides of the mark.
@@ -76,18 +101,15 @@ fn block(out: &mut [u8; 32768], plan: Plan, b: u16) {
     let mark = plan.mark;
     let start = layout_plan::block_start(plan, b);
     let covered = layout_plan::block_covered(plan, b);
-    say::fact(out, b"block ", b as u64, b": ");
-    say::fact(
+    say::facts(
         out,
-        b"starts at bit ",
-        mark::place(mark, start) as u64,
-        b", ",
+        b"block #: starts at bit #, # bits",
+        &[b as u64, mark::place(mark, start) as u64, covered as u64],
     );
-    say::fact(out, b"", covered as u64, b" bits");
     if is_around(mark, start, covered) {
         say::put(out, b" around the mark");
     }
-    shape(out, layout_plan::block_shape(plan, b), covered as u64);
+    shape(out, layout_plan::block_shape(plan, b));
 }
 
 fn blocks(out: &mut [u8; 32768], plan: Plan) {
@@ -104,13 +126,10 @@ fn left_out(out: &mut [u8; 32768], plan: Plan) {
     let first = plan.mark.offset as u64;
     let length = plan.mark.length as u64;
     if 0 < length {
-        say::fact(out, b"mark: bytes ", first, b" to ");
-        say::number(out, first + length - 1);
-        say::fact(
+        say::facts(
             out,
-            b", which leaves ",
-            layout_plan::page_room(plan),
-            b" bits to the blocks and the tail\n",
+            b"mark: bytes # to #, which leaves # bits to the blocks and the tail\n",
+            &[first, first + length - 1, layout_plan::page_room(plan)],
         );
     }
 }
@@ -119,21 +138,26 @@ fn left_out(out: &mut [u8; 32768], plan: Plan) {
 fn tail(out: &mut [u8; 32768], plan: Plan) {
     let used = plan.used as u64;
     let all = layout_plan::page_room(plan);
-    say::fact(out, b"used: ", used, b" bits");
-    if used <= all {
-        say::fact(out, b", tail: ", all - used, b" bits");
+    if all < used {
+        say::fact(out, b"used: ", used, b" bits\n");
+        return;
     }
-    say::put(out, b"\n");
+    say::facts(out, b"used: # bits, tail: # bits\n", &[used, all - used]);
 }
 
 fn accepted(out: &mut [u8; 32768], edition: u64, record: &[u8; 12], plan: Plan) {
-    say::reply(out, 0);
-    say::put(out, b"this layout is accepted\n");
+    say::put(out, b"reply 0: this layout is accepted\n");
     all_words(out, layout_record::fields_of(edition, record));
-    say::fact(out, b"page: ", plan.size as u64, b" bytes");
-    say::fact(out, b" in ", plan.blocks as u64, b" blocks");
-    say::fact(out, b", of them ", plan.metadata as u64, b" metadata");
-    say::fact(out, b" and ", plan.data as u64, b" data\n");
+    say::facts(
+        out,
+        b"page: # bytes in # blocks, of them # metadata and # data\n",
+        &[
+            plan.size as u64,
+            plan.blocks as u64,
+            plan.metadata as u64,
+            plan.data as u64,
+        ],
+    );
     left_out(out, plan);
     blocks(out, plan);
     tail(out, plan);

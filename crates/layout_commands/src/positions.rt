@@ -15,26 +15,20 @@ fn page(out: &mut [u8; 32768], options: Options) {
 
 fn bit_in_block(out: &mut [u8; 32768], options: Options, block: u64, exponent: u64) {
     page(out, options);
-    say::reply(out, 0);
-    say::fact(out, b"block ", block, b", ");
-    say::fact(out, b"exponent ", exponent, b"\n");
+    say::facts(out, b"reply 0: block #, exponent #\n", &[block, exponent]);
 }
 
-fn in_tail(out: &mut [u8; 32768], options: Options) {
+// A bit that is in no block: in the tail, or with k = 1 in the mark.
+fn bit_beside(out: &mut [u8; 32768], options: Options, k: u64) {
     page(out, options);
-    say::put(out, b"reply 0: tail\n");
-}
-
-fn in_mark(out: &mut [u8; 32768], options: Options) {
-    page(out, options);
-    say::put(out, b"reply 0: mark\n");
+    say::one_of(out, b"reply 0: tail\n|reply 0: mark\n", k);
 }
 
 fn locate(out: &mut [u8; 32768], options: Options, record: &[u8; 12], position: u64) {
     match page_bits::locate_bit(options.edition, record, position) {
         BitAnswer::InBlock { block, exponent } => bit_in_block(out, options, block, exponent),
-        BitAnswer::Tail => in_tail(out, options),
-        BitAnswer::Mark => in_mark(out, options),
+        BitAnswer::Tail => bit_beside(out, options, 0),
+        BitAnswer::Mark => bit_beside(out, options, 1),
         BitAnswer::Refused(refusal) => plans::refused(
             out,
             options.edition,
@@ -59,10 +53,11 @@ fn dump_byte(out: &mut [u8; 32768], options: Options, plan: Plan, b: u64) {
 
 fn bit_at(out: &mut [u8; 32768], options: Options, plan: Plan, position: u64) {
     page(out, options);
-    say::reply(out, 0);
-    say::fact(out, b"bit ", position, b" of the page, ");
-    say::fact(out, b"byte ", position / 8, b" ");
-    say::fact(out, b"bit ", 7 - position % 8, b"");
+    say::facts(
+        out,
+        b"reply 0: bit # of the page, byte # bit #",
+        &[position, position / 8, 7 - position % 8],
+    );
     dump_byte(out, options, plan, position / 8);
     say::put(out, b"\n");
 }
@@ -114,6 +109,14 @@ fn usage(out: &mut [u8; 32768]) {
     );
 }
 
+// Whether so many arguments are three or four from place `at` on.
+fn are_enough(at: usize, count: usize) -> bool {
+    if count < arguments::place(at, 3) {
+        return false;
+    }
+    count <= arguments::place(at, 4)
+}
+
 fn bits_of(out: &mut [u8; 32768], options: Options) {
     let Planned::Under { words, plan } = plans::plan_of_words(out, options) else {
         return;
@@ -135,12 +138,7 @@ pub fn bits(out: &mut [u8; 32768]) {
     if !options.good {
         return;
     }
-    let count = os::arg_count();
-    if count < arguments::place(options.at, 3) {
-        usage(out);
-        return;
-    }
-    if arguments::place(options.at, 4) < count {
+    if !are_enough(options.at, os::arg_count()) {
         usage(out);
         return;
     }

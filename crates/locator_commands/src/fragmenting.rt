@@ -1,4 +1,5 @@
 // The command fragments: export and import.
+use crate::remainder_at;
 use fragments::FragmentsAnswer;
 use replies::Refusal;
 use replies::refusal_number;
@@ -8,17 +9,33 @@ fn hex_byte(out: &mut [u8; 32768], b: u8) {
     say::put(out, &text::hex_byte(b));
 }
 
+// A word in hexadecimal, after a blank.
+fn word(x: u32) -> [u8; 11] {
+    let a = text::hex_byte((x / 16777216) as u8);
+    let b = text::hex_byte((x / 65536 % 256) as u8);
+    let c = text::hex_byte((x / 256 % 256) as u8);
+    let d = text::hex_byte((x % 256) as u8);
+    [
+        b' ',
+        b'0',
+        b'x',
+        a[0],
+        a[1],
+        b[0],
+        b[1],
+        c[0],
+        c[1],
+        d[0],
+        d[1],
+    ]
+}
+
 fn fragment(out: &mut [u8; 32768], x: u32) {
-    say::put(out, b" 0x");
-    hex_byte(out, (x / 16777216) as u8);
-    hex_byte(out, (x / 65536 % 256) as u8);
-    hex_byte(out, (x / 256 % 256) as u8);
-    hex_byte(out, (x % 256) as u8);
+    say::put(out, &word(x));
 }
 
 fn exported(out: &mut [u8; 32768], list: &[u32]) {
-    say::reply(out, 0);
-    say::put(out, b"fragments");
+    say::put(out, b"reply 0: fragments");
     let mut i = 0;
     while i < list.len() {
         fragment(out, list[i]);
@@ -28,8 +45,7 @@ fn exported(out: &mut [u8; 32768], list: &[u32]) {
 }
 
 fn imported(out: &mut [u8; 32768], remainder: &[u8]) {
-    say::reply(out, 0);
-    say::put(out, b"remainder ");
+    say::put(out, b"reply 0: remainder ");
     let mut i = 0;
     while i < remainder.len() {
         hex_byte(out, remainder[i]);
@@ -77,15 +93,10 @@ fn export(out: &mut [u8; 32768], at: usize) {
     let Number::Is(level) = arguments::number(out, at, b"LEVEL") else {
         return;
     };
-    let mut given = [0u8; 258];
-    let length = os::arg(arguments::place(at, 1), &mut given);
-    if !arguments::whole(out, b"REMAINDER") {
-        return;
-    }
     let mut remainder = [0u8; 128];
-    match text::parse_bytes(text::without_prefix(&given[..length]), &mut remainder) {
+    match remainder_at(out, arguments::place(at, 1), &mut remainder) {
         Number::Is(count) => export_from(out, level, text::front(&remainder, count as usize)),
-        Number::Bad => arguments::bad_remainder(out),
+        Number::Bad => (),
     }
 }
 
@@ -152,13 +163,9 @@ pub fn fragments(out: &mut [u8; 32768]) {
     let mut name = [0u8; 16];
     let n = os::arg(options.at, &mut name);
     let at = arguments::place(options.at, 1);
-    if check::same(&name[..n], b"export") {
-        export(out, at);
-        return;
+    match text::index_of(&name[..n], b"export|import") {
+        0 => export(out, at),
+        1 => import(out, at),
+        _ => usage(out),
     }
-    if check::same(&name[..n], b"import") {
-        import(out, at);
-        return;
-    }
-    usage(out);
 }

@@ -1,4 +1,5 @@
 // The command locate.
+use crate::remainder_at;
 use bch::LocateAnswer;
 use replies::Refusal;
 use replies::highest;
@@ -19,8 +20,12 @@ fn exponents(out: &mut [u8; 32768], list: &[u16]) {
 }
 
 fn located(out: &mut [u8; 32768], list: &[u16]) {
-    say::reply(out, 0);
-    say::fact(out, b"wrong bits ", list.len() as u64, b", exponents");
+    say::fact(
+        out,
+        b"reply 0: wrong bits ",
+        list.len() as u64,
+        b", exponents",
+    );
     exponents(out, list);
     say::put(out, b"\n");
 }
@@ -38,22 +43,31 @@ fn too_high(out: &mut [u8; 32768], edition: u64) {
     say::fact(out, b"the level field is above ", highest(edition), b"\n");
 }
 
+// A refusal by its number among the texts of `refused`.
+fn number(refusal: Refusal) -> u64 {
+    match refusal {
+        Refusal::EmptyMessage => 0,
+        Refusal::BlockTooLong => 1,
+        Refusal::BufferLength => 2,
+        Refusal::RemainderTooWide => 3,
+        _ => 4,
+    }
+}
+
 fn refused(out: &mut [u8; 32768], edition: u64, refusal: Refusal) {
     say::reply(out, refusal_number(refusal));
     match refusal {
         Refusal::OutOfRange => unknown(out, edition),
         Refusal::LevelTooHigh => too_high(out, edition),
-        Refusal::EmptyMessage => say::put(
+        _ => say::one_of(
             out,
-            b"there is no message: t = 0, or N is at most mt bits\n",
+            b"there is no message: t = 0, or N is at most mt bits\n|\
+            N is above 2^m - 1, the longest word of the field\n|\
+            the remainder has not mt / 8 bytes, rounded up\n|\
+            the remainder has a one above bit mt - 1\n|\
+            uncorrectable, no t bits leave this remainder\n",
+            number(refusal),
         ),
-        Refusal::BlockTooLong => say::put(
-            out,
-            b"N is above 2^m - 1, the longest word of the field\n",
-        ),
-        Refusal::BufferLength => say::put(out, b"the remainder has not mt / 8 bytes, rounded up\n"),
-        Refusal::RemainderTooWide => say::put(out, b"the remainder has a one above bit mt - 1\n"),
-        _ => say::put(out, b"uncorrectable, no t bits leave this remainder\n"),
     }
 }
 
@@ -74,13 +88,8 @@ fn locate_from(
 
 // The remainder at place `at`, in hexadecimal digits.
 fn locate_in(out: &mut [u8; 32768], at: usize, edition: u64, level: u64, field: u64, n: u64) {
-    let mut given = [0u8; 258];
-    let length = os::arg(at, &mut given);
-    if !arguments::whole(out, b"REMAINDER") {
-        return;
-    }
     let mut remainder = [0u8; 128];
-    match text::parse_bytes(text::without_prefix(&given[..length]), &mut remainder) {
+    match remainder_at(out, at, &mut remainder) {
         Number::Is(count) => locate_from(
             out,
             edition,
@@ -89,25 +98,12 @@ fn locate_in(out: &mut [u8; 32768], at: usize, edition: u64, level: u64, field: 
             n,
             text::front(&remainder, count as usize),
         ),
-        Number::Bad => arguments::bad_remainder(out),
+        Number::Bad => (),
     }
 }
 
-// nandpage locate [--edition N] LEVEL FIELD N REMAINDER
-pub fn locate(out: &mut [u8; 32768]) {
-    let options = arguments::find_options(out, arguments::EDITION);
-    if !options.good {
-        return;
-    }
-    let at = options.at;
-    if !arguments::are(
-        out,
-        at,
-        4,
-        b"usage: nandpage locate [--edition N] LEVEL FIELD N REMAINDER",
-    ) {
-        return;
-    }
+// The arguments from place `at` on.
+fn locate_at(out: &mut [u8; 32768], at: usize, edition: u64) {
     let Number::Is(level) = arguments::number(out, at, b"LEVEL") else {
         return;
     };
@@ -117,12 +113,21 @@ pub fn locate(out: &mut [u8; 32768]) {
     let Number::Is(n) = arguments::number(out, arguments::place(at, 2), b"N") else {
         return;
     };
-    locate_in(
+    locate_in(out, arguments::place(at, 3), edition, level, field, n);
+}
+
+// nandpage locate [--edition N] LEVEL FIELD N REMAINDER
+pub fn locate(out: &mut [u8; 32768]) {
+    let options = arguments::find_options(out, arguments::EDITION);
+    if !options.good {
+        return;
+    }
+    if arguments::are(
         out,
-        arguments::place(at, 3),
-        options.edition,
-        level,
-        field,
-        n,
-    );
+        options.at,
+        4,
+        b"usage: nandpage locate [--edition N] LEVEL FIELD N REMAINDER",
+    ) {
+        locate_at(out, options.at, options.edition);
+    }
 }

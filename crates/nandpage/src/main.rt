@@ -1,31 +1,45 @@
 // nandpage: NAND pages at a desk. A command line over the library's calls, on files and hexadecimal words (docs/TOOL.md).
 //
 // The crate `commands` says which command is asked for, and has the help. The commands are libraries: layout_commands, page_commands,
-// write_command, read_command, compare_command, explain_command and locator_commands. They stand on `arguments` (what the arguments say),
-// `files` and `streams` (files, read into buffers and written from them), `plans` (the plan of a page under the layout words), `page_lines`
-// (a page's line), `say` (what is printed) and `text`.
+// write_command, read_command, compare_command and locator_commands. They stand on `arguments` (what the arguments say),
+// `files` and `streams` (files, read into buffers and written from them), `plans` (the plan of a page under the layout words), `say`
+// (what is printed) and `text`.
 //
 // Each command prints one answer that starts with `reply` and document 01's number, or one error line and no reply. What is
 // answered comes from the proved calls; here it is only put into words. scripts/nandpage is told the exit status.
 use commands::Command;
 use commands::help;
 
-fn run(out: &mut [u8; 32768], command: Command) {
+// The commands on a page or a dump of many.
+fn run_on_dumps(out: &mut [u8; 32768], command: Command) {
     match command {
-        Command::Layout => layout_commands::layout(out),
-        Command::Bits => layout_commands::bits(out),
         Command::Write => write_command::write(out),
         Command::Read => read_command::read(out),
         Command::Look => read_command::look(out),
         Command::Salvage => read_command::salvage(out),
-        Command::Compare => compare_command::compare(out),
+        _ => compare_command::compare(out),
+    }
+}
+
+// The commands on one page, and what is said of a command that there is not.
+fn run_on_pages(out: &mut [u8; 32768], command: Command) {
+    match command {
         Command::Judge => page_commands::judge(out),
-        Command::Explain => explain_command::explain(out),
+        Command::Explain => page_commands::explain(out),
+        Command::Claim => page_commands::claim(out),
+        Command::Unknown => help::unknown(out),
+        _ => run_on_dumps(out, command),
+    }
+}
+
+fn run(out: &mut [u8; 32768], command: Command) {
+    match command {
+        Command::Layout => layout_commands::layout(out),
+        Command::Bits => layout_commands::bits(out),
         Command::Locate => locator_commands::locate(out),
         Command::Fragments => locator_commands::fragments(out),
-        Command::Claim => page_commands::claim(out),
         Command::Help => help::all(out),
-        Command::Unknown => help::unknown(out),
+        _ => run_on_pages(out, command),
     }
 }
 

@@ -28,10 +28,9 @@ fn exponents(words: &[u32; 256]) -> [u16; 256] {
 }
 
 fn right(out: &mut [u8; 32768], claims: usize) {
-    say::reply(out, 0);
     say::fact(
         out,
-        b"right, these ",
+        b"reply 0: right, these ",
         claims as u64,
         b" bits turned over give a codeword\n",
     );
@@ -116,6 +115,24 @@ fn claim_of(
     }
 }
 
+// The claim of so many arguments.
+fn claim_under(out: &mut [u8; 32768], options: Options, count: usize) {
+    let Number::Is(block) = arguments::number(out, arguments::place(options.at, 3), b"BLOCK") else {
+        return;
+    };
+    let Planned::Under { words, plan } = plans::plan_of_words(out, options) else {
+        return;
+    };
+    claim_of(
+        out,
+        options,
+        &arguments::record_of(words),
+        plan,
+        block,
+        count,
+    );
+}
+
 // nandpage claim [--edition N] [--mark WORD2] [--page K] WORD0 WORD1 PAGE BLOCK EXPONENT..
 pub fn claim(out: &mut [u8; 32768]) {
     let options = arguments::find_options(
@@ -133,18 +150,5 @@ pub fn claim(out: &mut [u8; 32768]) {
         );
         return;
     }
-    let Number::Is(block) = arguments::number(out, arguments::place(options.at, 3), b"BLOCK") else {
-        return;
-    };
-    let Planned::Under { words, plan } = plans::plan_of_words(out, options) else {
-        return;
-    };
-    claim_of(
-        out,
-        options,
-        &arguments::record_of(words),
-        plan,
-        block,
-        count,
-    );
+    claim_under(out, options, count);
 }

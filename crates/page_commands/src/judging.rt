@@ -11,12 +11,18 @@ use text::Number;
 
 // The count of a block: its corrected bits, or 128 plus its zeros where it is erased.
 fn count(out: &mut [u8; 32768], block: u64, n: u8) {
-    say::reply(out, 0);
-    say::fact(out, b"block ", block, b", ");
     if n < 128 {
-        say::fact(out, b"corrected bits ", n as u64, b"\n");
+        say::facts(
+            out,
+            b"reply 0: block #, corrected bits #\n",
+            &[block, n as u64],
+        );
     } else {
-        say::fact(out, b"erased, zeros ", (n - 128) as u64, b"\n");
+        say::facts(
+            out,
+            b"reply 0: block #, erased, zeros #\n",
+            &[block, (n - 128) as u64],
+        );
     }
 }
 

@@ -10,11 +10,12 @@ use layout::Rule;
 use layout_plan::Fields;
 use layout_plan::Plan;
 
-fn kind(out: &mut [u8; 32768], kind: Kind) {
+// What a rule is about, by its number among the texts of `reason`.
+fn number(kind: Kind) -> u64 {
     match kind {
-        Kind::First => say::put(out, b"block 0"),
-        Kind::Later => say::put(out, b"each later block"),
-        Kind::Page => say::put(out, b"the page"),
+        Kind::First => 0,
+        Kind::Later => 1,
+        Kind::Page => 2,
     }
 }
 
@@ -23,31 +24,35 @@ fn outside(out: &mut [u8; 32768], fields: Fields, found: u64, limit: u64) {
     let mark = fields.mark;
     let end = mark.offset as u64 + mark.length as u64;
     if (fields.page as u64) < end {
-        say::fact(out, b" has ", limit, b" bytes, ");
-        say::fact(
+        say::facts(
             out,
-            b"and mark offset and mark length come to ",
-            found,
-            b"\n",
+            b" has # bytes, and mark offset and mark length come to #\n",
+            &[limit, found],
         );
         return;
     }
-    say::fact(
+    say::facts(
         out,
-        b" has ",
-        found,
-        b" in the zero bits after the mark length, ",
+        b" has # in the zero bits after the mark length, and they have to be #\n",
+        &[found, limit],
     );
-    say::fact(out, b"and they have to be ", limit, b"\n");
 }
 
 // Why the blocks are refused: they need more bits than the page has beside the mark.
 fn room(out: &mut [u8; 32768], fields: Fields, found: u64, limit: u64) {
-    say::fact(out, b" has ", limit, b" bits");
-    if 0 < fields.mark.length {
-        say::put(out, b" beside the mark");
+    if fields.mark.length == 0 {
+        say::facts(
+            out,
+            b" has # bits, and the blocks need #\n",
+            &[limit, found],
+        );
+        return;
     }
-    say::fact(out, b", and the blocks need ", found, b"\n");
+    say::facts(
+        out,
+        b" has # bits beside the mark, and the blocks need #\n",
+        &[limit, found],
+    );
 }
 
 // Why a layout is refused, in a sentence with the two numbers that were compared.
@@ -55,18 +60,20 @@ fn reason(out: &mut [u8; 32768], fields: Fields, reason: Reason) {
     let rule = reason.rule;
     let found = reason.found;
     let limit = reason.limit;
-    let what = reason.kind;
-    kind(out, what);
+    let kind = reason.kind;
+    say::one_of(out, b"block 0|each later block|the page", number(kind));
     match rule {
-        Rule::Level => {
-            say::fact(out, b" has the level field ", found, b", ");
-            say::fact(out, b"and the largest is ", limit, b"\n");
-        }
+        Rule::Level => say::facts(
+            out,
+            b" has the level field #, and the largest is #\n",
+            &[found, limit],
+        ),
         Rule::Message => say::put(out, b" has an empty message\n"),
-        Rule::Length => {
-            say::fact(out, b" has ", found, b" bits, ");
-            say::fact(out, b"and its field allows at most ", limit, b"\n");
-        }
+        Rule::Length => say::facts(
+            out,
+            b" has # bits, and its field allows at most #\n",
+            &[found, limit],
+        ),
         Rule::Outside => outside(out, fields, found, limit),
         Rule::Room => room(out, fields, found, limit),
     }

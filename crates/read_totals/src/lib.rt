@@ -1,12 +1,18 @@
 // What a run of the commands read, look and salvage has to do, and what it came to so far.
 //
+//   sums.rt                                          what the counts of a page come to
 //   Run, wants                                       what it has to do
 //   Totals, start                                    what it came to
 //   was_read, was_not_read, was_salvaged, carrying   one page more; a byte of the next one
 //   ended, broken, dropped, some                     its end
 //   progress, summary                                how far a dump is read, on standard error; the last line of a dump
+mod sums;
+
 use layout_plan::Plan;
-use page_lines::Sums;
+pub use sums::RUINED;
+pub use sums::Sums;
+pub use sums::is_erased;
+pub use sums::sums_of;
 
 // The edition, the layout record and its plan; the descriptors of input, metadata, data and the list of ruined blocks, the last three below
 // 0 where they are not wanted; whether the file is read as a dump however long it is; the number of the first page; how many pages to read at
@@ -188,13 +194,19 @@ fn refused_pages(totals: Totals) -> u64 {
 
 // The last line of a dump.
 pub fn summary(out: &mut [u8; 32768], run: Run, totals: Totals) {
-    say::fact(out, b"pages ", totals.pages, b", read ");
-    say::number(out, totals.read);
-    say::fact(out, b", erased ", totals.erased, b", refused ");
-    say::number(out, refused_pages(totals));
-    say::fact(out, b"; corrected bits ", totals.corrected, b", at most ");
-    say::number(out, totals.most as u64);
-    say::fact(out, b" in a block; ruined blocks ", totals.ruined, b"");
+    say::facts(
+        out,
+        b"pages #, read #, erased #, refused #; corrected bits #, at most # in a block; ruined blocks #",
+        &[
+            totals.pages,
+            totals.read,
+            totals.erased,
+            refused_pages(totals),
+            totals.corrected,
+            totals.most as u64,
+            totals.ruined,
+        ],
+    );
     if run.list >= 0 {
         say::fact(out, b"; salvaged pages ", totals.salvaged, b"");
     }

@@ -1,19 +1,21 @@
-// What can be saved of a page with ruined blocks: the messages of the other blocks, as they would be read, and in the place of a ruined
-// block's message its bits as they stand in the page, or ones.
+// The ruined blocks of a page of which the other blocks are saved. A block is ruined where its count says so.
 //
-//   salvage    metadata and data of such a page
-//   place_of   where the message of a block lies in the payload, metadata followed by data
-//
-// A block's outcome depends on its own bits alone, and a block of ones is never ruined (document 02, E1). So the page is read with ones
-// in place of every ruined block, and then the messages of these are put. That the counts of the other blocks are as they were is looked
-// at once more.
+//   is_ruined   whether a block is
+//   covered     the page with ones in place of every ruined block
+//   are_same    whether the other blocks have the same counts twice
+//   put_all     the messages of the ruined blocks: their bits as they stand in the page, or ones
+//   place_of    where the message of a block lies in the payload, metadata followed by data
+//   put_list    the list of the ruined blocks: where the message of each lies in the files, and what stands there
+mod listing;
+
 use bit_writing::copy::copy_bits;
 use layout_plan::Plan;
+pub use listing::past;
+pub use listing::put_list;
 use mark::Mark;
-use page_lines::Answer;
-use page_lines::RUINED;
 use page_runs::read::copy_out;
 use page_runs::write::fill_ones;
+use read_totals::RUINED;
 ghost use mathlib.Core.Bool.{true};
 ghost use mathlib.Core.Path.{_≡_};
 ghost use Prim.Native.Nat.{_<_};
@@ -143,7 +145,7 @@ fn put_ruined(
 }
 
 // Puts the messages of the ruined blocks.
-fn put_all(
+pub fn put_all(
     plan: Plan,
     raw: bool,
     page: &[u8],
@@ -166,8 +168,8 @@ fn is_same(count: u8, again: u8) -> bool {
     count == again
 }
 
-// Whether all have.
-fn are_same(counts: &[u8; 256], again: &[u8; 256]) -> bool {
+// Whether all blocks that are not ruined have the same counts twice.
+pub fn are_same(counts: &[u8; 256], again: &[u8; 256]) -> bool {
     let mut i: usize = 0;
     while i < 256 {
         if !is_same(counts[i], again[i]) {
@@ -178,34 +180,8 @@ fn are_same(counts: &[u8; 256], again: &[u8; 256]) -> bool {
     true
 }
 
-// Reads the page with ones in place of the ruined blocks: whether that gave the same counts of the others.
-fn read_others(
-    edition: u64,
-    record: &[u8],
-    plan: Plan,
-    page: &[u8],
-    metadata: &mut [u8],
-    data: &mut [u8],
-    counts: &[u8; 256],
-) -> bool {
-    let mut again = [0u8; 256];
-    match page_lines::read_into(
-        edition,
-        record,
-        plan,
-        true,
-        page,
-        metadata,
-        data,
-        &mut again,
-    ) {
-        Answer::Done => are_same(counts, &again),
-        Answer::Refused(_) => false,
-    }
-}
-
 // Puts a page into a buffer, with ones in place of the ruined blocks.
-fn covered(plan: Plan, page: &[u8], work: &mut [u8], counts: &[u8; 256]) {
+pub fn covered(plan: Plan, page: &[u8], work: &mut [u8], counts: &[u8; 256]) {
     let n = page.len();
     if 65536 < n {
         return;
@@ -215,40 +191,4 @@ fn covered(plan: Plan, page: &[u8], work: &mut [u8], counts: &[u8; 256]) {
     }
     copy_bits(page, 0, work, 0, 8 * n);
     cover_all(plan, work, counts);
-}
-
-// Puts what can be saved of a page with these counts to the front of metadata and data, and says whether that is done.
-pub fn salvage(
-    edition: u64,
-    record: &[u8],
-    plan: Plan,
-    raw: bool,
-    page: &[u8],
-    metadata: &mut [u8],
-    data: &mut [u8],
-    counts: &[u8; 256],
-) -> bool {
-    let n = page.len();
-    let mut work = io::large_buffer();
-    covered(plan, page, text::front_mut(&mut work, n), counts);
-    if !read_others(
-        edition,
-        record,
-        plan,
-        text::front(&work, n),
-        metadata,
-        data,
-        counts,
-    ) {
-        return false;
-    }
-    put_all(
-        plan,
-        raw,
-        page,
-        text::front_mut(metadata, plan.metadata as usize),
-        text::front_mut(data, plan.data as usize),
-        counts,
-    );
-    true
 }

@@ -4,16 +4,19 @@ use crate::USAGE;
 use crate::fail;
 use libc::STDERR_FILENO;
 
+// Two parts of a line, from a place on: the next place.
+fn two(line: &mut [u8], at: usize, a: &[u8], b: &[u8]) -> usize {
+    let p = text::put_all(line, at, a);
+    text::put_all(line, p, b)
+}
+
 // A line of five parts, after the tool's name, by one write.
 fn line(a: &[u8], b: &[u8], c: &[u8], d: &[u8], e: &[u8]) {
     let mut bytes = [0u8; 8192];
-    let p = text::put_all(&mut bytes, 0, b"nandpage: ");
-    let q = text::put_all(&mut bytes, p, a);
-    let r = text::put_all(&mut bytes, q, b);
-    let s = text::put_all(&mut bytes, r, c);
-    let t = text::put_all(&mut bytes, s, d);
-    let u = text::put_all(&mut bytes, t, e);
-    let end = text::put_all(&mut bytes, u, b"\n");
+    let p = two(&mut bytes, 0, b"nandpage: ", a);
+    let q = two(&mut bytes, p, b, c);
+    let r = two(&mut bytes, q, d, e);
+    let end = text::put_all(&mut bytes, r, b"\n");
     streams::put(STDERR_FILENO, text::front(&bytes, end));
 }
 

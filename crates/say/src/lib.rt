@@ -9,7 +9,8 @@
 //   new, flush, forget, to_stderr   a buffer; its text written, dropped, or sent to standard error
 //   text                            the text, to be written elsewhere
 //   status, fail                    the exit status; another one
-//   put, number, fact               a text, a number, a number between two texts
+//   put, number, one_of             a text, a number, one of several texts
+//   fact, facts                     a number between two texts, a text with numbers in it
 //   reply, meaning                  the start of an answer, and what a reply says
 //   length, page_refused, ruined    what is wrong with a page
 //   error, bad_argument, bad_file, bad_output   an error's line on standard error
@@ -150,6 +151,49 @@ pub fn fact(out: &mut [u8; 32768], before: &[u8], n: u64, after: &[u8]) {
     put(out, after);
 }
 
+// A character of a form: itself, or the next number for a `#`. The place of the number after it.
+fn sign(out: &mut [u8; 32768], c: u8, numbers: &[u64], k: usize) -> usize {
+    if c == 35 {
+        if k < numbers.len() {
+            number(out, numbers[k]);
+            return k + 1;
+        }
+    }
+    put(out, &[c]);
+    k
+}
+
+// A text with numbers in it: each `#` of the form stands for the next of them.
+pub fn facts(out: &mut [u8; 32768], form: &[u8], numbers: &[u64]) {
+    let mut k = 0;
+    let mut i = 0;
+    while i < form.len() {
+        k = sign(out, form[i], numbers, k);
+        i += 1;
+    }
+}
+
+// A character of several texts: it is put where it is of text k. The number of the text that goes on after it.
+fn part(out: &mut [u8; 32768], c: u8, at: u64, k: u64) -> u64 {
+    if c == 124 {
+        return text::plus(at, 1);
+    }
+    if at == k {
+        put(out, &[c]);
+    }
+    at
+}
+
+// Text k of several, counted from 0, with `|` between one and the next.
+pub fn one_of(out: &mut [u8; 32768], texts: &[u8], k: u64) {
+    let mut at = 0;
+    let mut i = 0;
+    while i < texts.len() {
+        at = part(out, texts[i], at, k);
+        i += 1;
+    }
+}
+
 // The exit status is the first reply that is not 0.
 fn note(out: &mut [u8; 32768], reply: u8) {
     if out[2] == 0 {
@@ -163,19 +207,29 @@ pub fn reply(out: &mut [u8; 32768], n: u8) {
     fact(out, b"reply ", n as u64, b": ");
 }
 
+// A reply that has a meaning of its own; 0 for another.
+fn known(reply: u8) -> u64 {
+    if 10 < reply {
+        return 0;
+    }
+    reply as u64
+}
+
 // What a reply says (document 01, "Replies").
 pub fn meaning(out: &mut [u8; 32768], reply: u8) {
-    match reply {
-        1 => put(out, b"a level field is too large"),
-        2 => put(out, b"a block has an empty message"),
-        3 => put(out, b"a block is longer than its field allows"),
-        4 => put(out, b"the blocks need more bits than the page has"),
-        5 => put(out, b"the page has not the length that the layout says"),
-        6 => put(out, b"a file has a wrong length"),
-        7 => put(out, b"a number is outside its range"),
-        8 => put(out, b"the remainder has a one above its highest bit"),
-        9 => put(out, b"uncorrectable, no codeword within t flips"),
-        10 => put(out, b"the claimed locations are wrong"),
-        _ => put(out, b"refused"),
-    }
+    one_of(
+        out,
+        b"refused|\
+        a level field is too large|\
+        a block has an empty message|\
+        a block is longer than its field allows|\
+        the blocks need more bits than the page has|\
+        the page has not the length that the layout says|\
+        a file has a wrong length|\
+        a number is outside its range|\
+        the remainder has a one above its highest bit|\
+        uncorrectable, no codeword within t flips|\
+        the claimed locations are wrong",
+        known(reply),
+    );
 }

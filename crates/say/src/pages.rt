@@ -1,5 +1,6 @@
 // What an answer says of a page.
 use crate::fact;
+use crate::facts;
 use crate::meaning;
 use crate::put;
 use crate::reply;
@@ -8,11 +9,14 @@ use crate::reply;
 pub fn length(out: &mut [u8; 32768], what: &[u8], found: usize, wanted: usize) {
     put(out, what);
     if wanted < found {
-        fact(out, b"more than ", wanted as u64, b" bytes");
+        facts(
+            out,
+            b"more than # bytes (# wanted)",
+            &[wanted as u64, wanted as u64],
+        );
     } else {
-        fact(out, b"", found as u64, b" bytes");
+        facts(out, b"# bytes (# wanted)", &[found as u64, wanted as u64]);
     }
-    fact(out, b" (", wanted as u64, b" wanted)");
 }
 
 // The number of a page in a dump, before its answer.

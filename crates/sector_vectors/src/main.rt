@@ -19,12 +19,24 @@
 // The answer starts with the reply and its block. Then, where the reply is 0, come the values: of `bit` 0, block and exponent, or 1 for
 // the tail; of `position` the position; of `judge` the flip count. Last comes, refused or not, the buffer that the call may write to, as it
 // is afterwards: the page of `write`, the counts of `look`, the data of `take`. A line that is no call is answered by `?`.
+//
+//   heads.rt    the words that every call has
+//   places.rt   calls about a layout and its bits
+//   pages.rt    calls about a whole page
+//   blocks.rt   calls about one sector
+//   calls.rt    a call by its name
+mod blocks;
+mod calls;
+mod heads;
+mod pages;
+mod places;
+
 use libc::STDIN_FILENO;
 
 // Answers a line of the input.
 fn answer_line(words: &[u8]) {
     let mut line = [0u8; 131200];
-    let at = sector_calls::answer(words, &mut line);
+    let at = calls::answer(words, &mut line);
     if at == 0 {
         vector_io::write_line(b"?", 1);
         return;

@@ -21,8 +21,17 @@
 // They are always three; those that a call does not have are empty. The bytes that are handed in are their lengths, four bytes each, at
 // most 8,192, or 512 for exponents. A buffer is in hexadecimal, two digits a byte, and one character follows it, a line feed after the
 // last. Buffers are printed in hexadecimal as they are after the call, refused or not, and as `-` where they are empty.
+//
+//   lines.rt        numbers and bytes out of a line, and answers onto one
+//   calls.rt        the calls of a store
+//   buffers.rt      the buffers of a page call
+//   page_calls.rt   the page calls, and their answers onto a line
+//   versions.rt     a page call by its kind
+mod buffers;
 mod calls;
 mod lines;
+mod page_calls;
+mod versions;
 
 use lines::bytes_in;
 use lines::number;
@@ -32,7 +41,7 @@ use store::Store;
 fn page_call(kept: Store, line: &[u8], version: u64, block: u64, lengths: &[u8]) -> Store {
     let mut out = [0u8; 33000];
     let kind = vector_io::byte(line, 0, 0);
-    let at = version_lines::page_line(kept, kind, version, block, lengths, &mut out);
+    let at = versions::page_line(kept, kind, version, block, lengths, &mut out);
     vector_io::write_line(&out, at);
     kept
 }

@@ -7,6 +7,7 @@
 //   plus, times, larger   of two numbers
 //   natural           a number that is not below 0
 //   without_prefix    the digits after 0x
+//   index_of          the number of a word in a list
 //   put, put_all      bytes onto a buffer
 //   front, front_mut, front_words, front_exponents   the first places of a buffer
 //
@@ -16,6 +17,7 @@ mod hex;
 mod lines;
 mod pairs;
 mod parts;
+mod words;
 
 pub use digits::parse_number;
 pub use digits::without_prefix;
@@ -32,6 +34,7 @@ pub use parts::layout_record;
 pub use parts::natural;
 pub use parts::plus;
 pub use parts::times;
+pub use words::index_of;
 
 // What a text says: a number of at most 64 bits, or none.
 pub enum Number {

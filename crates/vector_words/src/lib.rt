@@ -1,6 +1,6 @@
 // Vectors that are lines of text: the words of a line, with one space between them.
 //
-//   is_call          whether a line is a call of this name
+//   call             which of several calls a line is
 //   number, buffer   a number and a buffer of a line
 //
 // Words are counted from 0. No function asks anything of its caller: words that are not there are no number and no buffer.
@@ -43,9 +43,9 @@ fn word(line: &[u8], n: usize) -> &[u8] {
     &line[at..end]
 }
 
-// Whether word 0 is this name.
-pub fn is_call(line: &[u8], name: &[u8]) -> bool {
-    check::same(word(line, 0), name)
+// The number of word 0 in a list of names with `|` between one and the next; how many there are where it is none of them.
+pub fn call(line: &[u8], names: &[u8]) -> u64 {
+    text::index_of(word(line, 0), names)
 }
 
 // The number that word n is: decimal, or hexadecimal after 0x.

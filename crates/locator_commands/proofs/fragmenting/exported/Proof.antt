@@ -6,13 +6,10 @@ use Rattle.locator_commands.proofs.fragmenting.exported.Statement.{stat
 use Rattle.locator_commands.proofs.fragmenting.exported.Tie as tie
 
 abbrev Inv-loop : tie.InvT-loop
-Inv-loop out₀ list i₀ t5 out i = i ≤ length list
+Inv-loop out₀ list i₀ t4 out i = i ≤ length list
 
 abbrev μ-loop : tie.MeasureT-loop
-μ-loop out₀ list i₀ t5 out i = length list - i
-
-reply-requires : tie.Need-reply-requires Inv-loop μ-loop
-reply-requires c κs = search needs
+μ-loop out₀ list i₀ t4 out i = length list - i
 
 slice-aggregate-put : tie.Need-slice-aggregate-put Inv-loop μ-loop
 slice-aggregate-put c = search needs
@@ -56,7 +53,6 @@ exported-spec =
     (tie.spec
     Inv-loop
     μ-loop
-    reply-requires
     slice-aggregate-put
     put-requires
     loop-holds

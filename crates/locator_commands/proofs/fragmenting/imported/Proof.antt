@@ -6,13 +6,10 @@ use Rattle.locator_commands.proofs.fragmenting.imported.Statement.{stat
 use Rattle.locator_commands.proofs.fragmenting.imported.Tie as tie
 
 abbrev Inv-loop : tie.InvT-loop
-Inv-loop out₀ remainder i₀ t5 out i = i ≤ length remainder
+Inv-loop out₀ remainder i₀ t4 out i = i ≤ length remainder
 
 abbrev μ-loop : tie.MeasureT-loop
-μ-loop out₀ remainder i₀ t5 out i = length remainder - i
-
-reply-requires : tie.Need-reply-requires Inv-loop μ-loop
-reply-requires c κs = search needs
+μ-loop out₀ remainder i₀ t4 out i = length remainder - i
 
 slice-aggregate-put : tie.Need-slice-aggregate-put Inv-loop μ-loop
 slice-aggregate-put c = search needs
@@ -53,7 +50,6 @@ imported-spec =
     (tie.spec
     Inv-loop
     μ-loop
-    reply-requires
     slice-aggregate-put
     put-requires
     loop-holds
