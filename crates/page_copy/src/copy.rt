@@ -2,7 +2,7 @@
 // blocks filled with ones.
 ghost use mathlib.Core.Path.{_≡_};
 ghost use mathlib.Core.List.{[], _∷_, _++_};
-ghost use Prim.Native.Nat.{_≤_, _<_};
+ghost use Prim.Native.Nat.{_+_, _*_, _≤_, _<_};
 ghost use lib.ListN.{length};
 ghost use Rattle.bits.specs.Bits.{placed};
 ghost use Rattle.layout_plan.specs.Plan.{covered};
@@ -57,12 +57,12 @@ fn flip_place(plan: Plan, block: u16, p: u16, metadata: &mut [u8], data: &mut [u
 fn flip_block(
     plan: Plan,
     block: u16,
-    places: &[u16; 16384],
+    places: &[u16],
     n: usize,
     metadata: &mut [u8],
     data: &mut [u8],
 )
-    requires { ⌜ (Planned plan) × (block < plan .blocks) × (n ≤ 64) × (Below (covered plan block) (kept (now places) block n)) ⌝ }
+    requires { ⌜ (Planned plan) × (block < plan .blocks) × (n ≤ 64) × (Below (covered plan block) (kept (now places) block n)) × (64 * block + 64 ≤ length (now places)) ⌝ }
     requires { ⌜ (length (now metadata) ≡ plan .metadata) × (length (now «data») ≡ plan .«data») ⌝ }
     ensures { λ r. ⌜ FlippedIn plan block (kept (now (places .entry)) block n)
         (now (metadata .entry)) (now («data» .entry)) (now (metadata .exit)) (now («data» .exit)) ⌝ }
@@ -93,12 +93,12 @@ fn fill_block(plan: Plan, block: u16, metadata: &mut [u8], data: &mut [u8])
 fn restore_block(
     plan: Plan,
     block: u16,
-    places: &[u16; 16384],
+    places: &[u16],
     n: usize,
     metadata: &mut [u8],
     data: &mut [u8],
 )
-    requires { ⌜ (Planned plan) × (block < plan .blocks) × (n < 128 → n ≤ 64) × (n < 128 → Below (covered plan block) (kept (now places) block n)) ⌝ }
+    requires { ⌜ (Planned plan) × (block < plan .blocks) × (n < 128 → n ≤ 64) × (n < 128 → Below (covered plan block) (kept (now places) block n)) × (64 * block + 64 ≤ length (now places)) ⌝ }
     requires { ⌜ (length (now metadata) ≡ plan .metadata) × (length (now «data») ≡ plan .«data») ⌝ }
     ensures { λ r. ⌜ RestoredIn plan block (now (places .entry)) n
         (now (metadata .entry)) (now («data» .entry)) (now (metadata .exit)) (now («data» .exit)) ⌝ }
@@ -120,12 +120,12 @@ fn wide(count: u8) -> usize
 // Restores the messages of all blocks; `flips` has the count of each.
 pub fn restore_blocks(
     plan: Plan,
-    places: &[u16; 16384],
+    places: &[u16],
     flips: &[u8; 256],
     metadata: &mut [u8],
     data: &mut [u8],
 )
-    requires { ⌜ (Planned plan) × (Kept plan (now places) (now flips)) ⌝ }
+    requires { ⌜ (Planned plan) × (Kept plan (now places) (now flips)) × (64 * plan .blocks ≤ length (now places)) ⌝ }
     requires { ⌜ (length (now metadata) ≡ plan .metadata) × (length (now «data») ≡ plan .«data») ⌝ }
     ensures { λ r. ⌜ RestoredAll plan (plan .blocks) (now (places .entry)) (now (flips .entry))
         (now (metadata .entry)) (now («data» .entry)) (now (metadata .exit)) (now («data» .exit)) ⌝ }

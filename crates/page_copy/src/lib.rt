@@ -10,7 +10,7 @@
 mod copy;
 
 ghost use mathlib.Core.Path.{_≡_};
-ghost use Prim.Native.Nat.{ℕ, _<_};
+ghost use Prim.Native.Nat.{ℕ, _*_, _≤_, _<_};
 ghost use lib.ListN.{length};
 ghost use Rattle.page_theory.specs.Calls.{takeEnded, takeIn};
 ghost use Rattle.page_plan.specs.Plans.{Ready};
@@ -34,13 +34,13 @@ pub fn copy_clean(plan: Plan, page: &[u8], metadata: &mut [u8], data: &mut [u8])
 pub fn copy_decided(
     plan: Plan,
     page: &[u8],
-    places: &[u16; 16384],
+    places: &[u16],
     flips: &[u8; 256],
     metadata: &mut [u8],
     data: &mut [u8],
 )
     requires { ⌜ (Ready plan (now page)) × (length (now metadata) ≡ plan .metadata) × (length (now «data») ≡ plan .«data») ⌝ }
-    requires { ⌜ AllDecided plan (now page) (plan .blocks) (now places) (now flips) ⌝ }
+    requires { ⌜ (AllDecided plan (now page) (plan .blocks) (now places) (now flips)) × (64 * plan .blocks ≤ length (now places)) ⌝ }
     ensures { λ r. ⌜ takeEnded 0 0 (now (metadata .exit)) (now («data» .exit))
         ≡ takeIn plan (now (page .entry)) (now (metadata .entry)) (now («data» .entry)) ⌝ }
 {

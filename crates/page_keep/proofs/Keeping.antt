@@ -100,7 +100,7 @@ module _ (q : Plan) (page : List ℕ) (planned : Planned q) where
   clean-kept : (b n : ℕ) (places : List ℕ) → b < q .blocks → remainderAt q page b ≡ 0 → n ≡ 0 → DecidedAt q page b (kept places b n) n
   clean-kept b n places i e z = rw (z, kept-none places b) (clean-decided q page (planned .valid) b i e)
 
-  pub underway-start : (s : Scan) (places flips : List ℕ) → Scanned q page 0 s → length places ≡ 16384 → length flips ≡ 256
+  pub underway-start : (s : Scan) (places flips : List ℕ) → Scanned q page 0 s → 64 * q .blocks ≤ length places → length flips ≡ 256
       → ((c : ℕ) → getD flips c 0 ≡ 0) → Underway q page s places flips
   underway-start s places flips n a b z = record {
     inside = n .inside;
@@ -110,7 +110,7 @@ module _ (q : Plan) (page : List ℕ) (planned : Planned q) where
     };
     fresh = λ c l. z c;
     left = n .left;
-    places-length = a;
+    room = a;
     flips-length = b;
   }
 
@@ -140,7 +140,7 @@ module _ (q : Plan) (page : List ℕ) (planned : Planned q) where
         decided = record { each = each; sound = sound };
         fresh = λ c l. k .other-flips c (λ i. omega (arith, x .low)) ∙ u .fresh c (omega (arith, x .low));
         left = x .left;
-        places-length = k .places-length ∙ u .places-length;
+        room = rw (k .places-length) (u .room);
         flips-length = k .flips-length ∙ u .flips-length;
       }
         where

@@ -53,7 +53,7 @@ pub record Underway (q : Plan) (page : List ℕ) (s : Scan) (places flips : List
   pub decided : AllDecided q page (s .block) places flips
   pub fresh : (c : ℕ) → s .block ≤ c → getD flips c 0 ≡ 0
   pub left : s .block < q .blocks → register (s .remainder .words) ≡ remainderAt q page (s .block)
-  pub places-length : length places ≡ 16384
+  pub room : 64 * q .blocks ≤ length places
   pub flips-length : length flips ≡ 256
 
 pub record Pending (q : Plan) (page words : List ℕ) (s : Scan) (places flips : List ℕ) : Type 0 where

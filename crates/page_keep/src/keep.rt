@@ -1,6 +1,6 @@
 // Deciding damaged blocks and keeping what repairs them.
 ghost use mathlib.Core.Path.{_≡_};
-ghost use Prim.Native.Nat.{_≤_, _<_};
+ghost use Prim.Native.Nat.{_+_, _*_, _≤_, _<_};
 ghost use lib.ListN.{length};
 ghost use Rattle.page_decide.specs.Deciding.{OneField, Serves};
 ghost use Rattle.page_keep.specs.Keeping.{KeptFor, BlockKept, Pending, PageDecided};
@@ -17,8 +17,8 @@ use page_decide::decide::fill_serving;
 use page_decide::decide::nothing;
 
 // Keeps the first n exponents that were found for a block.
-fn keep(found: Found, n: usize, block: u16, places: &mut [u16; 16384])
-    requires { ⌜ (block < 256) × (n ≤ 64) × (length (found .exponents) ≡ 64) × (length (now places) ≡ 16384) ⌝ }
+fn keep(found: Found, n: usize, block: u16, places: &mut [u16])
+    requires { ⌜ (n ≤ 64) × (length (found .exponents) ≡ 64) × (64 * block + 64 ≤ length (now places)) ⌝ }
     ensures { λ r. ⌜ KeptFor block n (found .exponents) (now (places .entry)) (now (places .exit)) ⌝ }
 {
     let exponents = found.exponents;
@@ -39,9 +39,9 @@ fn wide(count: u8) -> usize
 }
 
 // Keeps the count of a decided block, and its exponents where it has any.
-fn keep_block(decided: Decided, block: u16, places: &mut [u16; 16384], flips: &mut [u8; 256])
+fn keep_block(decided: Decided, block: u16, places: &mut [u16], flips: &mut [u8; 256])
     requires { ⌜ (block < 256) × (length (decided .found .exponents) ≡ 64) × (decided .count < 128 → decided .count ≤ 64) ⌝ }
-    requires { ⌜ (length (now places) ≡ 16384) × (length (now flips) ≡ 256) ⌝ }
+    requires { ⌜ (64 * block + 64 ≤ length (now places)) × (length (now flips) ≡ 256) ⌝ }
     ensures { λ r. ⌜ BlockKept block (decided .count) (decided .found .exponents)
         (now (places .entry)) (now (flips .entry)) (now (places .exit)) (now (flips .exit)) ⌝ }
 {
@@ -65,7 +65,7 @@ fn keep_from(
     powers: &[u16; 16384],
     logs: &[u16; 16384],
     rows: &[u16; 2048],
-    places: &mut [u16; 16384],
+    places: &mut [u16],
     flips: &mut [u8; 256],
 ) -> Decision
     requires { ⌜ Pending plan (now page) (now table) scan (now places) (now flips) ⌝ }
@@ -97,7 +97,7 @@ fn keep_alike(
     powers: &mut [u16; 16384],
     logs: &mut [u16; 16384],
     rows: &mut [u16; 2048],
-    places: &mut [u16; 16384],
+    places: &mut [u16],
     flips: &mut [u8; 256],
 ) -> Decision
     requires { ⌜ Pending plan (now page) (now table) scan (now places) (now flips) ⌝ }
@@ -118,7 +118,7 @@ fn keep_lent(
     powers: &mut [u16; 16384],
     logs: &mut [u16; 16384],
     rows: &mut [u16; 2048],
-    places: &mut [u16; 16384],
+    places: &mut [u16],
     flips: &mut [u8; 256],
 ) -> Decision
     requires { ⌜ Pending plan (now page) (now table) scan (now places) (now flips) ⌝ }
@@ -150,7 +150,7 @@ pub fn keep_damaged(
     page: &[u8],
     scan: Scan,
     table: &[u64],
-    places: &mut [u16; 16384],
+    places: &mut [u16],
     flips: &mut [u8; 256],
 ) -> Decision
     requires { ⌜ Pending plan (now page) (now table) scan (now places) (now flips) ⌝ }

@@ -1,6 +1,6 @@
 // Taking metadata and data out of a page: every block is decided before any byte is written.
 ghost use mathlib.Core.Path.{_≡_};
-ghost use Prim.Native.Nat.{_<_};
+ghost use Prim.Native.Nat.{_*_, _≤_, _<_};
 ghost use lib.ListN.{length};
 ghost use Rattle.division_table.specs.Table.{Table};
 ghost use Rattle.replies.specs.Replies.{verdictNumber};
@@ -40,8 +40,52 @@ fn take_reply(plan: Plan, page: usize, metadata: usize, data: usize) -> Verdict
     Verdict::Passed
 }
 
-// Takes a page of which `scan` is the first damaged block; `table` is that of the later blocks' generator. The places are here, since
-// only a damaged page needs them.
+// Takes a page of which `scan` is the first damaged block; `table` is that of the later blocks' generator. Every block has 64 of the places.
+fn take_placed(
+    plan: Plan,
+    page: &[u8],
+    scan: Scan,
+    table: &[u64],
+    places: &mut [u16],
+    metadata: &mut [u8],
+    data: &mut [u8],
+) -> TakeAnswer
+    requires { ⌜ (Ready plan (now page)) × (length (now metadata) ≡ plan .metadata) × (length (now «data») ≡ plan .«data») ⌝ }
+    requires { ⌜ (Scanned plan (now page) 0 scan) × (Table (plan .later .field) (plan .later .level) (now table)) × (scan .block < plan .blocks)
+        × (64 * plan .blocks ≤ length (now places)) ⌝ }
+    ensures { λ r. ⌜ takeEnded (takeNumber r) (takeBlock r) (now (metadata .exit)) (now («data» .exit))
+        ≡ takeIn plan (now (page .entry)) (now (metadata .entry)) (now («data» .entry)) ⌝ }
+{
+    let mut flips = [0u8; 256];
+    match keep_damaged(plan, page, scan, table, places, &mut flips) {
+        Decision::Ruined(block) => TakeAnswer::Refused(Refusal::Uncorrectable(block)),
+        Decision::Sound => {
+            copy_decided(plan, page, places, &flips, metadata, data);
+            TakeAnswer::Done
+        }
+    }
+}
+
+// The same for up to 8 blocks, which most pages have.
+fn take_few(
+    plan: Plan,
+    page: &[u8],
+    scan: Scan,
+    table: &[u64],
+    metadata: &mut [u8],
+    data: &mut [u8],
+) -> TakeAnswer
+    requires { ⌜ (Ready plan (now page)) × (length (now metadata) ≡ plan .metadata) × (length (now «data») ≡ plan .«data») ⌝ }
+    requires { ⌜ (Scanned plan (now page) 0 scan) × (Table (plan .later .field) (plan .later .level) (now table)) × (scan .block < plan .blocks)
+        × (plan .blocks ≤ 8) ⌝ }
+    ensures { λ r. ⌜ takeEnded (takeNumber r) (takeBlock r) (now (metadata .exit)) (now («data» .exit))
+        ≡ takeIn plan (now (page .entry)) (now (metadata .entry)) (now («data» .entry)) ⌝ }
+{
+    let mut places = [0u16; 512];
+    take_placed(plan, page, scan, table, &mut places, metadata, data)
+}
+
+// The same. The places are here, as many as the page may need, since only a damaged page needs them and clearing them takes time.
 fn take_damaged(
     plan: Plan,
     page: &[u8],
@@ -55,15 +99,11 @@ fn take_damaged(
     ensures { λ r. ⌜ takeEnded (takeNumber r) (takeBlock r) (now (metadata .exit)) (now («data» .exit))
         ≡ takeIn plan (now (page .entry)) (now (metadata .entry)) (now («data» .entry)) ⌝ }
 {
-    let mut places = [0u16; 16384];
-    let mut flips = [0u8; 256];
-    match keep_damaged(plan, page, scan, table, &mut places, &mut flips) {
-        Decision::Ruined(block) => TakeAnswer::Refused(Refusal::Uncorrectable(block)),
-        Decision::Sound => {
-            copy_decided(plan, page, &places, &flips, metadata, data);
-            TakeAnswer::Done
-        }
+    if plan.blocks <= 8 {
+        return take_few(plan, page, scan, table, metadata, data);
     }
+    let mut places = [0u16; 16384];
+    take_placed(plan, page, scan, table, &mut places, metadata, data)
 }
 
 // Takes a page where the lengths are right.

@@ -30,13 +30,13 @@ add-k c = search needs
 mul-p : tie.Need-mul-p Inv-loop μ-loop
 mul-p c = search needs
 
-element-copy-out-p : tie.Need-element-copy-out-p Inv-loop μ-loop
-element-copy-out-p c = search needs
+shared-slice-read-p : tie.Need-shared-slice-read-p Inv-loop μ-loop
+shared-slice-read-p c = search needs
 
 flip-place-requires : tie.Need-flip-place-requires Inv-loop μ-loop
 flip-place-requires c κs =
     let l = c .before .before .before .before .loop in
-    let a = c .before .before .before .before .before .before .before .pre in
+    let a = c .before .before .before .before .before .before .before .before .pre in
     ((a .0 .0, a .0 .1, kept-below _ _ _ _ _ (a .0 .3) (search needs)), (l .inv .1 .metadata ∙ a .1 .0, l .inv .1 .«data» ∙ a .1 .1))
 
 add-i : tie.Need-add-i Inv-loop μ-loop
@@ -60,7 +60,7 @@ same-length-2 c = search needs
 returns : tie.Need-returns Inv-loop μ-loop
 returns c =
     let l = c .before .loop in
-    let e : l .i ≡ c .before .before .before .before .args .n = omega arith in
+    let e : l .i ≡ c .before .before .before .before .before .args .n = omega arith in
     rw e at (l .inv .1)
 
 pub flip-block-spec : {M : Type 1} → statement M
@@ -73,7 +73,7 @@ flip-block-spec =
     loop-holds
     add-k
     mul-p
-    element-copy-out-p
+    shared-slice-read-p
     flip-place-requires
     add-i
     loop-less

@@ -7,8 +7,8 @@ use Rattle.page_copy.proofs.copy.restore_block.Tie as tie
 
 flip-block-requires : tie.Need-flip-block-requires
 flip-block-requires c κs =
-    let p = c .before .before .before .before .before .pre in
-    ((p .0 .0, p .0 .1, p .0 .2 (search needs), p .0 .3 (search needs)), p .1)
+    let p = c .before .before .before .before .before .before .pre in
+    ((p .0 .0, p .0 .1, p .0 .2 (search needs), p .0 .3 (search needs), p .0 .4), p .1)
 
 same-length : tie.Need-same-length
 same-length c = search needs

@@ -22,7 +22,7 @@ cast-i : tie.Need-cast-i Inv-loop μ-loop
 cast-i c = search needs
 
 element-copy-out-wide : tie.Need-element-copy-out-wide Inv-loop μ-loop
-element-copy-out-wide c = let p = c .before .before .before .before .pre in omega (arith, p .0 .0 .few)
+element-copy-out-wide c = let p = c .before .before .before .before .before .pre in omega (arith, p .0 .0 .few)
 
 wide-requires : tie.Need-wide-requires Inv-loop μ-loop
 wide-requires c κs = search needs
@@ -31,9 +31,9 @@ restore-block-requires : tie.Need-restore-block-requires Inv-loop μ-loop
 restore-block-requires c κs =
     let w = c .before .before in
     let l = w .before .before .before .loop in
-    let p = w .before .before .before .before .before .before .pre in
+    let p = w .before .before .before .before .before .before .before .pre in
     rw (w .wide .ensures) (
-      (p .0 .0, search needs, p .0 .1 .few (l .b) (search needs), p .0 .1 .below (l .b) (search needs)),
+      (p .0 .0, search needs, p .0 .1 .few (l .b) (search needs), p .0 .1 .below (l .b) (search needs), omega (arith, p .0 .2, l .inv .0)),
       (l .inv .1 .metadata ∙ p .1 .0, l .inv .1 .«data» ∙ p .1 .1),
     )
 
@@ -59,7 +59,7 @@ same-length-2 c = search needs
 returns : tie.Need-returns Inv-loop μ-loop
 returns c =
     let l = c .before .loop in
-    let e : l .b ≡ c .before .before .before .before .args .plan .blocks = omega arith in
+    let e : l .b ≡ c .before .before .before .before .before .args .plan .blocks = omega arith in
     rw e at (l .inv .1)
 
 pub restore-blocks-spec : {M : Type 1} → statement M

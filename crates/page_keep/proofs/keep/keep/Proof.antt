@@ -32,8 +32,8 @@ array-read-places c = search needs
 mul-places-2 : tie.Need-mul-places-2 Inv-loop μ-loop
 mul-places-2 c = search needs
 
-element-write-places : tie.Need-element-write-places Inv-loop μ-loop
-element-write-places c = search needs
+slice-write-places : tie.Need-slice-write-places Inv-loop μ-loop
+slice-write-places c = search needs
 
 add-i : tie.Need-add-i Inv-loop μ-loop
 add-i c = search needs
@@ -43,6 +43,9 @@ loop-less c = search needs
 
 loop-again : tie.Need-loop-again Inv-loop μ-loop
 loop-again c = let l = c .before .loop in (search needs, keptFor-next _ _ _ _ _ (l .inv .1) (omega arith) (omega arith))
+
+same-length : tie.Need-same-length Inv-loop μ-loop
+same-length c = search needs
 
 returns : tie.Need-returns Inv-loop μ-loop
 returns c =
@@ -62,8 +65,9 @@ keep-spec =
     mul-places
     array-read-places
     mul-places-2
-    element-write-places
+    slice-write-places
     add-i
     loop-less
     loop-again
+    same-length
     returns)

@@ -16,15 +16,18 @@ keep-alike-requires : tie.Need-keep-alike-requires
 keep-alike-requires c κs =
     let t = c .before .before .before .before .before in
     let a = t .before in
-    let p = a .before .before .before .pre in
+    let p = a .before .before .before .before .pre in
     (p .0, (a .apart .ensures .0 (not-true _ (t .if1 .taken)), p .1 .1, p .1 .2, p .1 .3))
+
+same-length : tie.Need-same-length
+same-length c = search needs
 
 returns : tie.Need-returns
 returns c = search needs
 
 decide-lent-requires : tie.Need-decide-lent-requires
 decide-lent-requires c κs =
-    let p = c .before .before .before .before .before .before .before .pre in
+    let p = c .before .before .before .before .before .before .before .before .pre in
     ((p .0 .ready, underway-left _ _ (p .0 .ready .plan) (p .0 .underway) (p .1 .0)), (p .1 .1, p .1 .2, p .1 .3))
 
 returns-2 : tie.Need-returns-2
@@ -33,7 +36,7 @@ returns-2 c =
     let d = c .before in
     let f = d .before .before .before .before in
     let a = f .before in
-    let p = a .before .before .before .pre in
+    let p = a .before .before .before .before .pre in
     let plan = p .0 .ready .plan in
     let e = a .apart .ensures .1 (not-false _ (f .if1 .left)) in
     underway-ruined _ _ plan (p .0 .underway) e (plan .some) (rw e at (d .decide-lent .ensures .0 .at)) (c .if2 .taken)
@@ -41,26 +44,29 @@ returns-2 c =
 keep-block-requires : tie.Need-keep-block-requires
 keep-block-requires c κs =
     let d = c .before .before .before in
-    let p = d .before .before .before .before .before .before .before .before .pre in
+    let p = d .before .before .before .before .before .before .before .before .before .pre in
     let u = p .0 .underway in
     let e = d .decide-lent .ensures .0 in
-    ((omega arith, e .size, decided-room _ _ (p .0 .ready .plan) (p .1 .0) (e .at)), (u .places-length, u .flips-length))
+    ((omega arith, e .size, decided-room _ _ (p .0 .ready .plan) (p .1 .0) (e .at)), (omega (arith, u .room, p .0 .ready .plan .some), u .flips-length))
 
 next-damaged-requires : tie.Need-next-damaged-requires
 next-damaged-requires c κs =
-    let p = c .before .before .before .before .before .before .before .before .before .before .before .before .pre .0 in
+    let p = c .before .before .before .before .before .before .before .before .before .before .before .before .before .before .before .pre .0 in
     (p .ready, (omega arith, omega (arith, p .ready .plan .some), p .table))
+
+same-length-2 : tie.Need-same-length-2
+same-length-2 c = search needs
 
 returns-3 : tie.Need-returns-3
 unfolding PageDecided
 returns-3 c =
     let n = c .before .before in
-    let k = n .before in
+    let k = n .before .before .before in
     let o = k .before .before .before in
     let d = o .before in
     let f = d .before .before .before .before in
     let a = f .before in
-    let p = a .before .before .before .pre in
+    let p = a .before .before .before .before .pre in
     let plan = p .0 .ready .plan in
     let e = a .apart .ensures .1 (not-false _ (f .if1 .left)) in
     underway-sound _ _ plan
@@ -70,12 +76,12 @@ returns-3 c =
 keep-alike-requires-2 : tie.Need-keep-alike-requires-2
 keep-alike-requires-2 c κs =
     let n = c .before .before .before .before .before .before .before in
-    let k = n .before in
+    let k = n .before .before .before in
     let o = k .before .before .before in
     let d = o .before in
     let f = d .before .before .before .before in
     let a = f .before in
-    let p = a .before .before .before .pre in
+    let p = a .before .before .before .before .pre in
     let plan = p .0 .ready .plan in
     let e = a .apart .ensures .1 (not-false _ (f .if1 .left)) in (
       record {
@@ -87,6 +93,9 @@ keep-alike-requires-2 c κs =
       (later-field _ _ plan (omega (arith, n .next-damaged .ensures .low)), d .decide-lent .ensures .1 .0, d .decide-lent .ensures .1 .1, d .decide-lent .ensures .1 .2),
     )
 
+same-length-3 : tie.Need-same-length-3
+same-length-3 c = search needs
+
 returns-4 : tie.Need-returns-4
 returns-4 c = search needs
 
@@ -96,11 +105,14 @@ keep-lent-spec =
     (tie.spec
     apart-requires
     keep-alike-requires
+    same-length
     returns
     decide-lent-requires
     returns-2
     keep-block-requires
     next-damaged-requires
+    same-length-2
     returns-3
     keep-alike-requires-2
+    same-length-3
     returns-4)
