@@ -4,12 +4,14 @@
 //   damaged::block_remainder  the remainder of a block
 //   damaged::scan_page        the first damaged block of a page, whose remainder is not zero
 //   damaged::next_damaged     the next one
-//   decide::decide_block      decides a damaged block, with the tables of its field
+//   decide::decide_block      decides a damaged block, with tables that serve it
 //   decide::decide_lent       the same by itself, with lent tables, which it fills
 //   decide::decide_alone      the same with tables of its own
+//   decide::apart             whether a damaged block is block 0 with another field than the later ones
+//   decide::fill_serving      fills lent tables, which then serve the blocks from which on all have one field
 //
-// A block's outcome (crate `block_outcome`) depends on its shape and its remainder. So what was decided last goes on with the calls: a block with the shape and the
-// remainder of the last decided one is not decoded again. Its zeros are counted all the same.
+// A block's outcome (crate `block_outcome`) depends on its shape and its remainder. So what was decided last goes on with the calls: a
+// block with the shape and the remainder of the last decided one is not decoded again. Its zeros are counted all the same.
 // Nothing is written to what a caller lent; looking, taking and judging go on from here.
 //
 // specs/ has what the steps promise (Scanning, Deciding); proofs/ the laws: Remainders (what the remainder of a block says of it),

@@ -66,7 +66,7 @@ fn take_placed(
     }
 }
 
-// The same for up to 8 blocks, which most pages have.
+// The same for up to 8 blocks, with places for no more.
 fn take_few(
     plan: Plan,
     page: &[u8],
