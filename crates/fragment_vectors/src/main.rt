@@ -1,4 +1,4 @@
-// Runs test vectors of the crate fragments: each vector on standard input is a call, and its answer is one line of numbers.
+// Runs test vectors of the crates fragments and bch: each vector on standard input is a call, and its answer is one line of numbers.
 //
 // A vector is a head of 32 bytes, then a remainder and then fragments of four bytes each, most significant byte first. The head: the kind,
 // the remainder's length in bytes, the number of fragments, the number of places of a lent list, four bytes not used, level field and n of
@@ -7,6 +7,12 @@
 //   M    imports the fragments: reply and every byte of the remainder after the call
 //   L    imports the fragments, and locates the errors behind the remainder in a word of n bits: reply, and then the reply of locating,
 //        the size of the set where there is one, and every place of the list after the call
+//   E    locates the errors behind the remainder (locates.rt): reply, its block, the size of the set where there is one, and every place of
+//        the list after the call
+// The head of `E` has 40 bytes: the remainder's length, the number of places, five bytes not used, and edition, level field, field choice
+// and n of eight bytes each. The vector has no fragments.
+mod locates;
+
 use bch::LocateAnswer;
 use fragments::FragmentsAnswer;
 use fragments::answers::fragments_reply;
@@ -192,16 +198,24 @@ fn next_lengths(head: &[u8], remainder: &mut [u8], bytes: &mut [u8], places: &mu
     )
 }
 
+// Answers the vector of a head that is none of `E`: false where the input ends before it.
+fn next(head: &[u8]) -> bool {
+    let mut remainder = [0u8; 40];
+    let mut bytes = [0u8; 64];
+    let mut places = [42405u16; 16];
+    next_lengths(head, &mut remainder, &mut bytes, &mut places)
+}
+
 // Answers the next vector: false where there is none.
 fn next_vector() -> bool {
     let mut head = [0u8; 32];
     if !vector_io::fill(&mut head) {
         return false;
     }
-    let mut remainder = [0u8; 40];
-    let mut bytes = [0u8; 64];
-    let mut places = [42405u16; 16];
-    next_lengths(&head, &mut remainder, &mut bytes, &mut places)
+    if head[0] == b'E' {
+        return locates::next(&head);
+    }
+    next(&head)
 }
 
 fn main() {

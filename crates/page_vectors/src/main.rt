@@ -1,5 +1,4 @@
-// Runs test vectors of the page calls (write, look, take, judge, claim): each vector on standard input is one call, and its answer is one
-// line.
+// Runs test vectors of the page calls (write, look, take, judge, claim) and of comparisons: each vector on standard input is one call.
 //
 // A vector is a head of 40 bytes and then a body. The head: the kind of call, the length of the layout record, the edition in eight bytes,
 // the record's bytes in twelve places, two bytes not used, the length of the page in four bytes, and twelve bytes that depend on the kind:
@@ -9,43 +8,51 @@
 //   T   takes a page: the lengths of metadata and data; the body is the page
 //   J   judges a block: four bytes not used, the block in eight bytes; the body is the page
 //   C   checks a claim: how many exponents, the block in eight bytes; the body is the page and the exponents of two bytes each
+//   R   compares two pages: the length of the second; the body is the pages
 //
 // A length has four bytes, and the bytes of the twelve that are not named are not used. Each byte that a call may write is 165 before it.
-// A line shows the reply and its block, and then after `W` the page, after `L` the counts, after `T` metadata and data (in hexadecimal,
-// refused or not), and after `J` the flip count of a block that has one.
+// Of `R` what the tool prints is printed. The answer to any other is a line, which shows the reply and its block, and then after `W` the page,
+// after `L` the counts, after `T` metadata and data (in hexadecimal, refused or not), and after `J` the flip count of a block that has one.
 mod claims;
+mod compares;
 mod heads;
 mod judges;
 mod looks;
 mod takes;
 mod writes;
 
-// The line for a call by its kind: its length, 0 where the input ends before the body does.
-fn call_line(head: &[u8], words: &[u8], line: &mut [u8]) -> usize {
-    let call = vector_io::byte(head, 0, 0);
-    if call == b'W' {
-        return writes::write_line(head, words, line);
-    }
-    if call == b'L' {
-        return looks::look_line(head, words, line);
-    }
-    if call == b'T' {
-        return takes::take_line(head, words, line);
-    }
-    if call == b'J' {
-        return judges::judge_line(head, words, line);
-    }
-    claims::claim_line(head, words, line)
-}
-
-// The same with the layout record that the head has.
-fn answer(head: &[u8], line: &mut [u8]) -> usize {
-    let length = vector_io::byte(head, 1, 0) as usize % 13;
-    let end = 10 + length;
-    if head.len() < end {
+// Reads the page into a buffer of its length, and makes the call: the length of the line, 0 where the input ends before the body does.
+fn call(head: &[u8], page: &mut [u8], line: &mut [u8]) -> usize {
+    if !vector_io::fill(page) {
         return 0;
     }
-    call_line(head, &head[10..end], line)
+    match vector_io::byte(head, 0, 0) {
+        b'L' => looks::look(head, page, line),
+        b'T' => takes::take(head, page, line),
+        b'J' => judges::judge(head, page, line),
+        _ => claims::claim(head, page, line),
+    }
+}
+
+// The line for a call by its kind.
+fn answer(head: &[u8], line: &mut [u8]) -> usize {
+    if vector_io::byte(head, 0, 0) == b'W' {
+        return writes::write(head, line);
+    }
+    let mut page = [0u8; 65536];
+    let size = heads::length(head, 24);
+    call(head, text::front_mut(&mut page, size), line)
+}
+
+// Answers a vector that has a line: false where the input ends before it.
+fn put_answer(head: &[u8]) -> bool {
+    let mut line = [0u8; 131200];
+    let at = answer(head, &mut line);
+    if at == 0 {
+        return false;
+    }
+    vector_io::write_line(&line, at);
+    true
 }
 
 // Answers the next vector: false where there is none.
@@ -54,13 +61,10 @@ fn next_vector() -> bool {
     if !vector_io::fill(&mut head) {
         return false;
     }
-    let mut line = [0u8; 131200];
-    let at = answer(&head, &mut line);
-    if at == 0 {
-        return false;
+    if head[0] == b'R' {
+        return compares::answer(&head);
     }
-    vector_io::write_line(&line, at);
-    true
+    put_answer(&head)
 }
 
 fn main() {

@@ -2,7 +2,8 @@
 //!
 //!     vectors layout|locate|fragments|pages|sectors|roots|store|compare INPUT OUTPUT
 //!
-//! INPUT is what a program reads on its standard input, OUTPUT what it is to print.
+//! INPUT is what a program reads on its standard input, OUTPUT what it is to print. `page_vectors` is given the
+//! vectors of pages and of compare one after the other, `fragment_vectors` those of fragments and of locate.
 
 mod compare;
 mod fragments;

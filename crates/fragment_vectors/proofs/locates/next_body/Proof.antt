@@ -1,9 +1,9 @@
--- `locate_vectors::next_body` meets its contract.
+-- `fragment_vectors::locates::next_body` meets its contract.
 use native.Mathlib.Omega.{arith}
 use borrow.Author.Needs.{needs}
 use lib.ListN.{length-take}
-use Rattle.locate_vectors.proofs.next_body.Statement.{statement}
-use Rattle.locate_vectors.proofs.next_body.Tie as tie
+use Rattle.fragment_vectors.proofs.locates.next_body.Statement.{statement}
+use Rattle.fragment_vectors.proofs.locates.next_body.Tie as tie
 
 byte-requires : tie.Need-byte-requires
 byte-requires c κs = search needs
