@@ -31,7 +31,7 @@ fn whole_words(bytes: &[u8], from: usize, count: usize) -> [u64; 16]
 
 // Up to 16 words of a run of bits from position `at` on, wherever that lies in a byte. They are read before any is fed, so that no call
 // stands among the steps, and the compiler keeps the register of the parity in those of the processor.
-fn words_from(bytes: &[u8], at: usize, count: usize) -> [u64; 16]
+pub fn words_from(bytes: &[u8], at: usize, count: usize) -> [u64; 16]
     requires { ⌜ (count ≤ 16) × (at + 64 * count < 18446744073709551616) ⌝ }
     ensures { λ r. ⌜ ((k : ℕ) → k < count → getD r k 0 ≡ number (run (bitOf (now (bytes .entry))) (at + 64 * k) 64)) ⌝ }
 {
@@ -142,7 +142,7 @@ fn feed_few_words(
 }
 
 // How many words are fed at a time where so many are left.
-fn next_words(left: usize) -> usize
+pub fn next_words(left: usize) -> usize
     ensures { λ r. ⌜ (r ≤ left) × (r ≤ 16) × (0 < left → 0 < r) ⌝ }
 {
     if left < 16 { left } else { 16 }
@@ -172,7 +172,7 @@ fn feed_words(
 }
 
 // A run of bits of which there are fewer than 64.
-fn feed_bits(
+pub fn feed_bits(
     state: Register,
     table: &[u64],
     used: usize,
