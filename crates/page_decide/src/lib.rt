@@ -4,6 +4,7 @@
 //   damaged::block_remainder  the remainder of a block
 //   damaged::scan_page        the first damaged block of a page, whose remainder is not zero
 //   damaged::next_damaged     the next one
+//   damaged::scan_of          a block with its remainder alone
 //   decide::decide_block      decides a damaged block, with tables that serve it
 //   decide::decide_lent       the same by itself, with lent tables, which it fills
 //   decide::decide_alone      the same with tables of its own
@@ -22,10 +23,12 @@ pub mod decide;
 use decoder::Found;
 use remainder::Register;
 
-// The first damaged block of those looked at, with its remainder; the number of blocks where there is none.
+// A block that was looked at, with its remainder and, if `known`, that of the next one; the number of blocks where there is none.
 pub struct Scan {
     pub block: u16,
     pub remainder: Register,
+    pub known: bool,
+    pub next: Register,
 }
 
 // A block that was decided, if `known`: whether it is one of the first, which share a shape, its remainder, what was found for it, and its
