@@ -85,11 +85,13 @@ fn scan_two(plan: Plan, page: &[u8], table: &[u64], block: u16) -> Scan
     let start = block_start(plan, block);
     let end = block_start(plan, block + 1);
     let pair = two_remainders_in(f, t, table, mark, page, start, end, n);
+    let remainder = pair.first;
+    let next = pair.second;
     Scan {
         block: block,
-        remainder: pair.first,
+        remainder: remainder,
         known: true,
-        next: pair.second,
+        next: next,
     }
 }
 
