@@ -41,15 +41,14 @@ pub fn block_remainder(plan: Plan, page: &[u8], table: &[u64], block: u16) -> Re
 }
 
 // A block with this remainder; that of the next one is not known.
-pub fn scan_of(block: u16, remainder: Register) -> Scan
+fn scan_of(block: u16, remainder: Register) -> Scan
     ensures { λ r. ⌜ (r .block ≡ block) × (r .remainder ≡ remainder) × (r .known ≡ false) ⌝ }
 {
-    let next = zero();
     Scan {
         block: block,
         remainder: remainder,
         known: false,
-        next: next,
+        next: remainder,
     }
 }
 

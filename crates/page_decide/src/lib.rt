@@ -4,7 +4,6 @@
 //   damaged::block_remainder  the remainder of a block
 //   damaged::scan_page        the first damaged block of a page, whose remainder is not zero
 //   damaged::next_damaged     the next one
-//   damaged::scan_of          a block with its remainder alone
 //   decide::decide_block      decides a damaged block, with tables that serve it
 //   decide::decide_lent       the same by itself, with lent tables, which it fills
 //   decide::decide_alone      the same with tables of its own

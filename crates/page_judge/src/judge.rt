@@ -64,6 +64,8 @@ fn judge_lent(plan: Plan, page: &[u8], block: u16) -> JudgeAnswer
     let scan = Scan {
         block: block,
         remainder: remainder,
+        known: false,
+        next: remainder,
     };
     judge_damaged(plan, page, scan)
 }
