@@ -51,10 +51,6 @@ module _ (q : Plan) (page : List ℕ) where
   pub scanned-end : {from : ℕ} {s : Scan} → from ≤ s .block → q .blocks ≤ s .block → Reached q page s → Clean from (s .block) → Scanned q page from s
   scanned-end l i r h = record { low = l; inside = r .inside; clean = h; left = r .left; damaged = λ k. absurd (omega arith); ahead = r .ahead }
 
-  -- what is known of the next block stays known
-  pub scanned-reached : {from : ℕ} {s : Scan} → Scanned q page from s → Reached q page s
-  scanned-reached x = record { inside = x .inside; left = x .left; ahead = x .ahead }
-
   -- block 0 before the later ones
   pub scanned-first : {r : Scan} → Clean 0 1 → Scanned q page 1 r → Scanned q page 0 r
   scanned-first {r} h x = record {
