@@ -70,16 +70,20 @@ four-joined l i er ea eb ec ed ha hb hc hd =
     let xd = byte-run l (i + 3) (s + 8 + 8 + 8) (omega arith) ed hd in
     omega (arith, number-run-append f s 8 24, number-run-append f (s + 8) 8 16, number-run-append f (s + 8 + 8) 8 8)
 
--- a word of 64 bits from its halves and the byte that follows
+-- a word of 64 bits from its halves
+pub halves-joined : (l : List ℕ) (i : ℕ) {u v r : ℕ} → r ≡ u * 4294967296 + v → u ≡ number (run (bitOf l) (8 * i) 32)
+    → v ≡ number (run (bitOf l) (8 * (i + 4)) 32) → r ≡ number (run (bitOf l) (8 * i) 64)
+halves-joined l i er eu ev =
+    let s : ℕ = 8 * i in
+    let q : 8 * (i + 4) ≡ s + 32 = omega arith in
+    er ∙ ap₂ (λ (x y : ℕ). x * 4294967296 + y) eu (ev ∙ ap (λ (r : ℕ). number (run (bitOf l) r 32)) q) ∙ sym (number-run-append (bitOf l) s 32 32)
+
+-- the same from any bit on, with the byte that follows
 pub word-joined : (l : List ℕ) (p : ℕ) {u v b r : ℕ} → r ≡ (u * 4294967296 + v) * 2 ^ (p % 8) % 18446744073709551616 + b / 2 ^ (8 - p % 8)
     → u ≡ number (run (bitOf l) (8 * (p / 8)) 32) → v ≡ number (run (bitOf l) (8 * (p / 8 + 4)) 32) → b ≡ getD l (p / 8 + 8) 0 → b < 256
     → r ≡ number (run (bitOf l) p 64)
-word-joined l p {u} {v} er eu ev eb hb =
-    let s : ℕ = 8 * (p / 8) in
-    let q : 8 * (p / 8 + 4) ≡ s + 32 = omega arith in
-    let w : u * 4294967296 + v ≡ number (run (bitOf l) s 64) =
-    ap₂ (λ (x y : ℕ). x * 4294967296 + y) eu (ev ∙ ap (λ (r : ℕ). number (run (bitOf l) r 32)) q) ∙ sym (number-run-append (bitOf l) s 32 32) in
-    er ∙ joined-run l s 64 (p % 8) (p / 8 + 8) p (omega arith) (omega arith) (omega arith) (omega arith) w eb hb
+word-joined l p er eu ev eb hb =
+    er ∙ joined-run l (8 * (p / 8)) 64 (p % 8) (p / 8 + 8) p (omega arith) (omega arith) (omega arith) (omega arith) (halves-joined l (p / 8) refl eu ev) eb hb
 
 -- the first n bits of a byte
 pub bits-first : (f : ℕ → Bool) (s n : ℕ) {b : ℕ} → n ≤ 8 → b ≡ number (run f s 8) → b / 2 ^ (8 - n) ≡ number (run f s n)

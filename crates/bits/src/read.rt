@@ -81,6 +81,16 @@ fn four_near_end(page: &[u8], i: usize) -> u32
     four_of(a, b, c, d)
 }
 
+// The 64 bits from byte i on, where the page has them.
+pub fn eight_at(page: &[u8], i: usize) -> u64
+    requires { ⌜ i + 8 ≤ length (now page) ⌝ }
+    ensures { λ r. ⌜ r ≡ number (run (bitOf (now (page .entry))) (8 * i) 64) ⌝ }
+{
+    let upper = four_at(page, i);
+    let lower = four_at(page, i + 4);
+    upper as u64 * 4294967296 + lower as u64
+}
+
 // The 64 bits from bit k on of a word in two halves and the byte that follows it.
 fn word_of(upper: u32, lower: u32, next: u8, k: usize) -> u64
     requires { ⌜ k < 8 ⌝ }

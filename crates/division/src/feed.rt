@@ -2,23 +2,45 @@
 // far in its first words, which it fills: the divisor has the degree 64 used.
 ghost use mathlib.Core.Path.{_≡_};
 ghost use Prim.Native.Nat.{ℕ, _+_, _*_, _^_, _≤_, _<_};
-ghost use lib.ListN.{getD};
+ghost use lib.ListN.{length, getD};
 ghost use Rattle.bits.specs.Bits.{bitOf, run, number};
 ghost use Rattle.code.specs.Register.{register};
 ghost use Rattle.remainder.specs.Parity.{parityFrom};
 ghost use Rattle.division_table.specs.Table.{divisorOf, Rests};
+use bits::read::eight_at;
 use bits::read::word_at;
 use division_steps::long_step;
+use division_steps::nine_step;
 use division_steps::step_bits;
 use division_steps::step_word;
 use remainder::Register;
 
+// Up to 16 words of a run of bits from byte `from` on, where the slice has them.
+fn whole_words(bytes: &[u8], from: usize, count: usize) -> [u64; 16]
+    requires { ⌜ (count ≤ 16) × (from + 8 * count ≤ length (now bytes)) ⌝ }
+    ensures { λ r. ⌜ ((k : ℕ) → k < count → getD r k 0 ≡ number (run (bitOf (now (bytes .entry))) (8 * from + 64 * k) 64)) ⌝ }
+{
+    let mut words = [0u64; 16];
+    let mut i = 0;
+    while i < count {
+        words[i] = eight_at(bytes, from + 8 * i);
+        i += 1;
+    }
+    words
+}
+
 // Up to 16 words of a run of bits from position `at` on, wherever that lies in a byte. They are read before any is fed, so that no call
 // stands among the steps, and the compiler keeps the register of the parity in those of the processor.
-fn words_from(bytes: &[u8], at: usize, count: usize) -> [u64; 16]
+pub fn words_from(bytes: &[u8], at: usize, count: usize) -> [u64; 16]
     requires { ⌜ (count ≤ 16) × (at + 64 * count < 18446744073709551616) ⌝ }
     ensures { λ r. ⌜ ((k : ℕ) → k < count → getD r k 0 ≡ number (run (bitOf (now (bytes .entry))) (at + 64 * k) 64)) ⌝ }
 {
+    let from = at / 8;
+    if at % 8 == 0 {
+        if from + 8 * count <= bytes.len() {
+            return whole_words(bytes, from, count);
+        }
+    }
     let mut words = [0u64; 16];
     let mut i = 0;
     while i < count {
@@ -51,7 +73,7 @@ fn feed_four_words(
     r
 }
 
-// The same for rows of nine words, and any number of words of the run. Each is read as it is fed, which is faster here.
+// The same for rows of nine words.
 fn feed_nine_words(
     state: Register,
     table: &[u64],
@@ -59,21 +81,22 @@ fn feed_nine_words(
     at: usize,
     count: usize,
 ) -> Register
-    requires { ⌜ (Rests 9 (now table)) × (register (state .words) < 2 ^ (64 * 9)) × (at + 64 * count < 18446744073709551616) ⌝ }
+    requires { ⌜ (Rests 9 (now table)) × (register (state .words) < 2 ^ (64 * 9)) × (at + 64 * count < 18446744073709551616) × (count ≤ 16) ⌝ }
     ensures { λ r. ⌜ register (r .words)
         ≡ parityFrom (64 * 9) (divisorOf 9 (now (table .entry))) (register (state .words)) (run (bitOf (now (bytes .entry))) at (64 * count)) ⌝ }
 {
+    let words = words_from(bytes, at, count);
     let mut r = state;
     let mut fed = 0;
     while fed < count {
-        let w = word_at(bytes, at + 64 * fed);
-        r = step_word(r, table, 9, w);
+        let w = words[fed];
+        r = nine_step(r, table, w);
         fed += 1;
     }
     r
 }
 
-// Up to 16 words for rows of fourteen words, read before they are fed.
+// The same for rows of fourteen words.
 fn feed_long_words(
     state: Register,
     table: &[u64],
@@ -119,7 +142,7 @@ fn feed_few_words(
 }
 
 // How many words are fed at a time where so many are left.
-fn next_words(left: usize) -> usize
+pub fn next_words(left: usize) -> usize
     ensures { λ r. ⌜ (r ≤ left) × (r ≤ 16) × (0 < left → 0 < r) ⌝ }
 {
     if left < 16 { left } else { 16 }
@@ -149,7 +172,7 @@ fn feed_words(
 }
 
 // A run of bits of which there are fewer than 64.
-fn feed_bits(
+pub fn feed_bits(
     state: Register,
     table: &[u64],
     used: usize,

@@ -6,9 +6,19 @@
 //
 //   runs    the remainder of a run by the table of a level, and the parity of a message and of more of it
 //   feed    runs of bits of a byte slice fed by a table: words of 64 bits, and the odd bits at the end in one step
+//   pairs   two runs side by side
 //
 // The register is moved up so that it fills four, nine or fourteen words, and moved down at the end. What a remainder is stands in the
 // crates `remainder` and `code`, what a table is in `division_table`; the steps and the laws are in `division_steps`, and
 // `bitwise_division` does the same bit by bit, with no table.
 mod feed;
+mod pairs;
 pub mod runs;
+
+use remainder::Register;
+
+// The registers of two runs that are divided side by side.
+pub struct Pair {
+    pub first: Register,
+    pub second: Register,
+}

@@ -10,7 +10,9 @@ ghost use Rattle.code.specs.Generator.{generator, remainder};
 ghost use Rattle.code.specs.Register.{register};
 ghost use Rattle.remainder.specs.Parity.{parityFrom};
 ghost use Rattle.division_table.specs.Table.{Table};
+use crate::Pair;
 use crate::feed::feed_run;
+use crate::pairs::feed_two_runs;
 use division_table::row_words;
 use field::Field;
 use register_digits::number_at;
@@ -75,4 +77,89 @@ pub fn remainder_of(
     let parity = parity_of(f, t, table, bytes, at, message);
     let last = number_at(bytes, at + message, d);
     added(last, parity)
+}
+
+// The parities of two messages of n bits, from positions `at` and `to` on, each by itself.
+fn parities_alone(
+    f: Field,
+    t: usize,
+    table: &[u64],
+    bytes: &[u8],
+    at: usize,
+    to: usize,
+    n: usize,
+) -> Pair
+    requires { ⌜ (Table f t (now table)) × (at + n < 18446744073709551616) × (to + n < 18446744073709551616) ⌝ }
+    ensures { λ r. ⌜ register (r .first .words) ≡ remainder f t (run (bitOf (now (bytes .entry))) at n ++ replicate (degree f * t) false) ⌝ }
+    ensures { λ r. ⌜ register (r .second .words) ≡ remainder f t (run (bitOf (now (bytes .entry))) to n ++ replicate (degree f * t) false) ⌝ }
+{
+    let first = parity_of(f, t, table, bytes, at, n);
+    let second = parity_of(f, t, table, bytes, to, n);
+    Pair {
+        first: first,
+        second: second,
+    }
+}
+
+// The same side by side where the rows of the table have four words.
+fn two_parities(
+    f: Field,
+    t: usize,
+    table: &[u64],
+    bytes: &[u8],
+    at: usize,
+    to: usize,
+    n: usize,
+) -> Pair
+    requires { ⌜ (Table f t (now table)) × (0 < t) × (at + n < 18446744073709551616) × (to + n < 18446744073709551616) ⌝ }
+    ensures { λ r. ⌜ register (r .first .words) ≡ remainder f t (run (bitOf (now (bytes .entry))) at n ++ replicate (degree f * t) false) ⌝ }
+    ensures { λ r. ⌜ register (r .second .words) ≡ remainder f t (run (bitOf (now (bytes .entry))) to n ++ replicate (degree f * t) false) ⌝ }
+{
+    let d = parity_bits(f, t);
+    let used = row_words(d);
+    if used != 4 {
+        return parities_alone(f, t, table, bytes, at, to, n);
+    }
+    let gap = 64 * used - d;
+    let start = raised(zero(), gap);
+    let pair = feed_two_runs(start, table, bytes, at, to, n);
+    let first = lowered(pair.first, gap);
+    let second = lowered(pair.second, gap);
+    Pair {
+        first: first,
+        second: second,
+    }
+}
+
+// The remainders of two runs of n bits, from positions `at` and `to` on.
+pub fn two_remainders(
+    f: Field,
+    t: usize,
+    table: &[u64],
+    bytes: &[u8],
+    at: usize,
+    to: usize,
+    n: usize,
+) -> Pair
+    requires { ⌜ (Table f t (now table)) × (0 < t) × (at + n < 18446744073709551616) × (to + n < 18446744073709551616) ⌝ }
+    ensures { λ r. ⌜ register (r .first .words) ≡ remainder f t (run (bitOf (now (bytes .entry))) at n) ⌝ }
+    ensures { λ r. ⌜ register (r .second .words) ≡ remainder f t (run (bitOf (now (bytes .entry))) to n) ⌝ }
+{
+    let d = parity_bits(f, t);
+    if n < d {
+        let first = number_at(bytes, at, n);
+        let second = number_at(bytes, to, n);
+        return Pair {
+            first: first,
+            second: second,
+        };
+    }
+    let message = n - d;
+    let parities = two_parities(f, t, table, bytes, at, to, message);
+    let first = number_at(bytes, at + message, d);
+    let second = number_at(bytes, to + message, d);
+    Pair {
+        first: added(first, parities.first),
+        second: added(second, parities.second),
+    }
 }

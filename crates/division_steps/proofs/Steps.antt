@@ -40,12 +40,12 @@ digit-inside four k hv h el = last-five k hv h el
 digit-inside nine k hv h el = last-five k hv h el
 digit-inside fourteen k hv h el = omega arith
 
--- a digit below another begins within the 64 binary digits, where the other begins there or at their end
-pub digit-before : (b k to : ℕ) → 0 < b → k < to → b * to ≤ 64 → b * k < 64
-digit-before b k to hb l h = before (to - k - 1) (omega arith)
+-- a digit begins within the 64 binary digits, where one that is no lower begins there
+pub digit-before : (b k to : ℕ) → k < to → b * (to - 1) < 64 → b * k < 64
+digit-before b k to l h = before (to - k - 1) (omega arith)
   where
-    before : (d : ℕ) → to ≡ k + 1 + d → b * k < 64
-    before d e = let m : b * (k + 1 + d) ≤ 64 = subst (λ n. b * n ≤ 64) e h in omega arith
+    before : (d : ℕ) → to - 1 ≡ k + d → b * k < 64
+    before d e = let m : b * (k + d) < 64 = subst (λ n. b * n < 64) e h in omega arith
 
 pub digit-small : (b k : ℕ) → 0 < b → b * k < 64 → k < 64
 digit-small zero k hb h = absurd (omega arith)

@@ -1,7 +1,8 @@
 // Coefficients of a message taken in 64 at a time or fewer, by the table of a divisor (document 01, "The code"; document 02, E3).
 //
 //   step_word    the 64 coefficients of a word
-//   long_step    the same for rows of fourteen words only, written so that the compiler unrolls it
+//   nine_step    the same for rows of nine words only, and
+//   long_step    for rows of fourteen, both written so that the compiler unrolls them, the highest word of a row first
 //   step_bits    up to 63 coefficients
 //
 // A register has the parity so far in its first words, which it fills: the divisor has the degree 64 used. A step moves it up and adds the
@@ -74,7 +75,7 @@ fn rows_between(
     from: usize,
     to: usize,
 ) -> Register
-    requires { ⌜ (Rests used (now table)) × (register (state .words) < 2 ^ (64 * used)) × (from < to) × (digitBits used * to ≤ 64) ⌝ }
+    requires { ⌜ (Rests used (now table)) × (register (state .words) < 2 ^ (64 * used)) × (from < to) × (digitBits used * (to - 1) < 64) ⌝ }
     ensures { λ r. ⌜ ((s : ℕ) → register (state .words) ≡ bitXor (rest (64 * used) (divisorOf used (now (table .entry))) (v % 2 ^ (digitBits used * from))) s
         → register (r .words) ≡ bitXor (rest (64 * used) (divisorOf used (now (table .entry))) (v % 2 ^ (digitBits used * to))) s) ⌝ }
 {
@@ -89,6 +90,17 @@ fn rows_between(
         k += 1;
     }
     r
+}
+
+// The sum as above for rows of nine words, in three parts.
+fn nine_rows_added(state: Register, table: &[u64], v: u64) -> Register
+    requires { ⌜ (Rests 9 (now table)) × (register (state .words) < 2 ^ (64 * 9)) ⌝ }
+    ensures { λ r. ⌜ register (r .words)
+        ≡ bitXor (rest (64 * 9) (divisorOf 9 (now (table .entry))) v) (register (state .words)) ⌝ }
+{
+    let four = rows_between(state, table, 9, v, 0, 4);
+    let eight = rows_between(four, table, 9, v, 4, 8);
+    rows_between(eight, table, 9, v, 8, 13)
 }
 
 // The sum as above for rows of fourteen words, four digits at a time: the compiler unrolls loops over four such rows, not over 16.
@@ -140,6 +152,18 @@ pub fn step_word(state: Register, table: &[u64], used: usize, w: u64) -> Registe
     let v = words[used - 1] ^ w;
     let next = word_up(state, used);
     rows_added(next, table, used, v)
+}
+
+// The same for rows of nine words.
+pub fn nine_step(state: Register, table: &[u64], w: u64) -> Register
+    requires { ⌜ (Rests 9 (now table)) × (register (state .words) < 2 ^ (64 * 9)) ⌝ }
+    ensures { λ r. ⌜ register (r .words)
+        ≡ parityFrom (64 * 9) (divisorOf 9 (now (table .entry))) (register (state .words)) (digits w 64) ⌝ }
+{
+    let words = state.words;
+    let v = words[8] ^ w;
+    let next = word_up(state, 9);
+    nine_rows_added(next, table, v)
 }
 
 // The same for rows of fourteen words.

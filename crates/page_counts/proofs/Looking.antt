@@ -3,7 +3,7 @@
 -- clear-next, clear-end                the counts passed are 0
 -- underway-start                       the blocks before the first damaged one have the count 0
 -- clean-sound                          where no block is damaged, none is ruined
--- underway-left                        the block at hand has its remainder
+-- underway-left, underway-reached      the block at hand has its remainder
 -- underway-next                        one damaged block more
 -- underway-end                         no block is left
 -- first-lowest, first-sound            the first block with the count 255 is the lowest ruined one
@@ -21,7 +21,7 @@ use Rattle.page_theory.specs.Reading.{RefusedAt, Lowest, outcome, countOf, coun
 use Rattle.page_theory.proofs.Reading.{of-good, of-erased, gives-outcome, outcome-ruined, ruined-outcome, counts-at, counts-length}
 use Rattle.page_plan.specs.Plans.{Planned}
 use Rattle.page_decide.specs.declared.Scan.{Scan}
-use Rattle.page_decide.specs.Scanning.{Scanned, Left}
+use Rattle.page_decide.specs.Scanning.{Reached, Scanned, Left}
 use Rattle.page_decide.specs.Deciding.{DecidedAt}
 use Rattle.page_decide.proofs.Deciding.{clean-decided, decided-sound, decided-count}
 use Rattle.page_counts.specs.Looking.{Underway, FirstRuined}
@@ -55,6 +55,7 @@ module _ (q : Plan) (page : List ℕ) (planned : Planned q) where
     counted = λ b m. zeros-at n b ∙ clean-count 0 b s x (omega arith) m;
     fresh = λ b m. zeros-at n b;
     left = x .left;
+    ahead = x .ahead;
     size = length-replicate {A = ℕ} n 0 ∙ k;
   })
 
@@ -66,6 +67,9 @@ module _ (q : Plan) (page : List ℕ) (planned : Planned q) where
     pub underway-left : s .block < q .blocks → Left q page s
     underway-left k = record { inside = k; is = u .left k }
 
+    pub underway-reached : Reached q page s
+    underway-reached = record { inside = u .inside; left = u .left; ahead = u .ahead }
+
     pub underway-next : {b n : ℕ} {ps : List ℕ} {s' : Scan} → s .block ≡ b → b < q .blocks → DecidedAt q page b ps n → Scanned q page (b + 1) s'
         → Underway q page s' (set l b n)
     underway-next {b} {n} {ps} {s'} at inside d x = record {
@@ -73,6 +77,7 @@ module _ (q : Plan) (page : List ℕ) (planned : Planned q) where
       counted = counted;
       fresh = λ c k. getD-set-other l b c n 0 (λ e. omega (arith, x .low)) ∙ u .fresh c (omega (arith, x .low));
       left = x .left;
+      ahead = x .ahead;
       size = length-set l b n ∙ u .size;
     }
       where

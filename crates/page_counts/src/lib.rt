@@ -55,7 +55,7 @@ fn count_from(
         let n = last.count;
         let i = b as usize;
         counts[i] = n;
-        at = next_damaged(plan, page, table, b + 1);
+        at = next_damaged(plan, page, table, at);
     }
 }
 
@@ -88,7 +88,7 @@ pub fn count_damaged(plan: Plan, page: &[u8], scan: Scan, table: &[u64], counts:
     let decided = decide_alone(plan, page, scan);
     let n = decided.count;
     counts[0] = n;
-    let next = next_damaged(plan, page, table, 1);
+    let next = next_damaged(plan, page, table, scan);
     let block = next.block;
     if block == plan.blocks {
         return;

@@ -1,5 +1,5 @@
 -- Looking for the first damaged block.
-use mathlib.Core.Path.{_≡_, sym, _∙_}
+use mathlib.Core.Path.{_≡_, sym, ap, _∙_}
 use mathlib.Core.Bool.{Bool, true, false, not}
 use mathlib.Core.List.{List}
 use Prim.Native.Nat.{ℕ, _+_, _≤_, _<_}
@@ -12,23 +12,32 @@ use Rattle.layout_plan.specs.declared.Plan.{Plan}
 use Rattle.code.specs.Register.{register}
 use Rattle.remainder.specs.declared.Register.{Register}
 use Rattle.page_decide.specs.declared.Scan.{Scan}
-use Rattle.page_decide.specs.Scanning.{remainderAt, Scanned}
+use Rattle.page_decide.specs.Scanning.{remainderAt, Reached, Scanned}
 
 module _ (q : Plan) (page : List ℕ) where
   -- the blocks from a to b have remainders of zero
   abbrev pub Clean : ℕ → ℕ → Type 0
   Clean a b = (c : ℕ) → a ≤ c → c < b → remainderAt q page c ≡ 0
 
+  -- a block by itself
+  pub reached-one : {s : Scan} {b : ℕ} {v : Register} → s .block ≡ b → s .remainder ≡ v → s .known ≡ false → b ≤ q .blocks
+      → (b < q .blocks → register (v .words) ≡ remainderAt q page b) → Reached q page s
+  reached-one {s} {b} {v} e er ek i h = record {
+    inside = rw e i;
+    left = λ k. ap (λ (x : Register). register (x .words)) er ∙ h (omega arith) ∙ ap (remainderAt q page) (sym e);
+    ahead = λ k. absurd (let z : _≡_ {A = ℕ} 0 1 = cc in omega arith);
+  }
+
   -- a test for zero that fails
-  pub scanned-found : {from b : ℕ} {s : Register} (z : Bool) → from ≤ b → b ≤ q .blocks → Clean from b
-      → register (s .words) ≡ remainderAt q page b → z ≡ eqb (register (s .words)) 0 → not z ≡ true
-      → Scanned q page from (record { block = b; remainder = s })
-  scanned-found z l i h e t n = record {
+  pub scanned-found : {from : ℕ} {s : Scan} (z : Bool) → from ≤ s .block → Reached q page s → Clean from (s .block)
+      → z ≡ eqb (register (s .remainder .words)) 0 → not z ≡ true → Scanned q page from s
+  scanned-found z l r h t n = record {
     low = l;
-    inside = i;
+    inside = r .inside;
     clean = h;
-    left = λ k. e;
+    left = r .left;
     damaged = λ k. pos-of-ne-zero (eqb-false _ 0 (sym t ∙ not-true z n));
+    ahead = r .ahead;
   }
 
   -- a test for zero that holds
@@ -39,8 +48,8 @@ module _ (q : Plan) (page : List ℕ) where
   ]
 
   -- no block is left
-  pub scanned-end : {from b : ℕ} (s : Register) → from ≤ b → b ≡ q .blocks → Clean from b → Scanned q page from (record { block = b; remainder = s })
-  scanned-end s l i h = record { low = l; inside = omega arith; clean = h; left = λ k. absurd (omega arith); damaged = λ k. absurd (omega arith) }
+  pub scanned-end : {from : ℕ} {s : Scan} → from ≤ s .block → q .blocks ≤ s .block → Reached q page s → Clean from (s .block) → Scanned q page from s
+  scanned-end l i r h = record { low = l; inside = r .inside; clean = h; left = r .left; damaged = λ k. absurd (omega arith); ahead = r .ahead }
 
   -- block 0 before the later ones
   pub scanned-first : {r : Scan} → Clean 0 1 → Scanned q page 1 r → Scanned q page 0 r
@@ -50,4 +59,5 @@ module _ (q : Plan) (page : List ℕ) where
     clean = λ c l m. elim (decLt c 1) [ yes y ↦ h c l y | no y ↦ x .clean c (omega arith) m ];
     left = x .left;
     damaged = x .damaged;
+    ahead = x .ahead;
   }

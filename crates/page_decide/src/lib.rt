@@ -22,10 +22,12 @@ pub mod decide;
 use decoder::Found;
 use remainder::Register;
 
-// The first damaged block of those looked at, with its remainder; the number of blocks where there is none.
+// A block that was looked at, with its remainder and, if `known`, that of the next one; the number of blocks where there is none.
 pub struct Scan {
     pub block: u16,
     pub remainder: Register,
+    pub known: bool,
+    pub next: Register,
 }
 
 // A block that was decided, if `known`: whether it is one of the first, which share a shape, its remainder, what was found for it, and its

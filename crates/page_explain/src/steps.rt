@@ -94,6 +94,8 @@ fn explain_lent(plan: Plan, page: &[u8], block: u16, list: &mut [u32]) -> BlockA
     let scan = Scan {
         block: block,
         remainder: remainder,
+        known: false,
+        next: remainder,
     };
     explain_damaged(plan, page, scan, list)
 }

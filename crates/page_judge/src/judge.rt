@@ -8,6 +8,7 @@ ghost use Rattle.page_plan.specs.Plans.{Planned, Ready, Sound};
 ghost use Rattle.page_decide.specs.Scanning.{remainderAt, Left};
 ghost use Rattle.page_judge.specs.Answers.{judgeNumber, judgeBlock, judgeFlips};
 use crate::JudgeAnswer;
+use division_table::lay;
 use division_table::make_table;
 use layout::Acceptance;
 use layout::check_layout;
@@ -33,6 +34,7 @@ pub fn own_remainder(plan: Plan, page: &[u8], block: u16) -> Register
     let f = shape.field;
     let t = shape.level as usize;
     let mut table = [0u64; 3600];
+    lay(&mut table);
     make_table(f, t, &mut table);
     block_remainder(plan, page, &table, block)
 }
@@ -64,6 +66,8 @@ fn judge_lent(plan: Plan, page: &[u8], block: u16) -> JudgeAnswer
     let scan = Scan {
         block: block,
         remainder: remainder,
+        known: false,
+        next: remainder,
     };
     judge_damaged(plan, page, scan)
 }

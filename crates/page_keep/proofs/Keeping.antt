@@ -4,7 +4,7 @@
 -- keptFor-none, keptFor-next           keeping one exponent more
 -- blockKept-some, blockKept-none       a block with exponents, and one without
 -- zeros-at, underway-start             nothing is kept at first
--- underway-left                        the block at hand has its remainder
+-- underway-left, underway-reached      the block at hand has its remainder
 -- decided-room                         its exponents have room in the table
 -- underway-ruined                      the first ruined block is the lowest
 -- underway-next                        one damaged block more
@@ -23,7 +23,7 @@ use Rattle.layout_plan.specs.declared.Plan.{Plan}
 use Rattle.page_theory.specs.Reading.{Lowest}
 use Rattle.page_plan.specs.Plans.{Planned}
 use Rattle.page_decide.specs.declared.Scan.{Scan}
-use Rattle.page_decide.specs.Scanning.{remainderAt, Scanned, Left}
+use Rattle.page_decide.specs.Scanning.{remainderAt, Reached, Scanned, Left}
 use Rattle.page_decide.specs.Deciding.{DecidedAt}
 use Rattle.page_decide.proofs.Remainders.{located-below}
 use Rattle.page_decide.proofs.Deciding.{clean-decided, decided-few, decided-sound}
@@ -110,6 +110,7 @@ module _ (q : Plan) (page : List ℕ) (planned : Planned q) where
     };
     fresh = λ c l. z c;
     left = n .left;
+    ahead = n .ahead;
     room = a;
     flips-length = b;
   }
@@ -121,6 +122,9 @@ module _ (q : Plan) (page : List ℕ) (planned : Planned q) where
   module _ {s : Scan} {places flips : List ℕ} (u : Underway q page s places flips) where
     pub underway-left : s .block < q .blocks → Left q page s
     underway-left k = record { inside = k; is = u .left k }
+
+    pub underway-reached : Reached q page s
+    underway-reached = record { inside = u .inside; left = u .left; ahead = u .ahead }
 
     pub underway-sound : q .blocks ≤ s .block → AllDecided q page (q .blocks) places flips
     underway-sound l = let e : s .block ≡ q .blocks = omega (arith, u .inside) in rw e at (u .decided)
@@ -140,6 +144,7 @@ module _ (q : Plan) (page : List ℕ) (planned : Planned q) where
         decided = record { each = each; sound = sound };
         fresh = λ c l. k .other-flips c (λ i. omega (arith, x .low)) ∙ u .fresh c (omega (arith, x .low));
         left = x .left;
+        ahead = x .ahead;
         room = rw (k .places-length) (u .room);
         flips-length = k .flips-length ∙ u .flips-length;
       }

@@ -6,11 +6,13 @@
 -- BlockKept b n ps before .. after         so are they where n is no count of an erased block, and n is kept as the count of block b
 -- AllDecided q page n places flips         the first n blocks are decided, and none of them is ruined
 -- Underway q page s places flips           the blocks before s are decided, nothing is kept for the others, and s has its remainder
+--                                          and, if it is known, that of the next block
 -- Pending q page words s places flips      what deciding from s on counts on: the page has its size, the words are the table of the
 --                                          later blocks' generator, and the blocks before s are decided
 -- PageDecided q page places flips r        what a decision says of a page: every block is decided, or the lowest ruined one
 -- Kept q places flips                      few exponents are kept for each block that is not erased, those of covered bits
 use mathlib.Core.Path.{_≡_}
+use mathlib.Core.Bool.{true}
 use mathlib.Core.List.{List}
 use Prim.Native.Nat.{ℕ, _+_, _*_, _≤_, _<_}
 use lib.ListN.{length, take, getD}
@@ -53,6 +55,7 @@ pub record Underway (q : Plan) (page : List ℕ) (s : Scan) (places flips : List
   pub decided : AllDecided q page (s .block) places flips
   pub fresh : (c : ℕ) → s .block ≤ c → getD flips c 0 ≡ 0
   pub left : s .block < q .blocks → register (s .remainder .words) ≡ remainderAt q page (s .block)
+  pub ahead : s .known ≡ true → register (s .next .words) ≡ remainderAt q page (s .block + 1)
   pub room : 64 * q .blocks ≤ length places
   pub flips-length : length flips ≡ 256
 

@@ -83,7 +83,7 @@ fn keep_from(
             return Decision::Ruined(b);
         }
         keep_block(last, b, places, flips);
-        at = next_damaged(plan, page, table, b + 1);
+        at = next_damaged(plan, page, table, at);
     }
     Decision::Sound
 }
@@ -135,7 +135,7 @@ fn keep_lent(
         return Decision::Ruined(0);
     }
     keep_block(decided, 0, places, flips);
-    let next = next_damaged(plan, page, table, 1);
+    let next = next_damaged(plan, page, table, scan);
     let block = next.block;
     if block == plan.blocks {
         return Decision::Sound;

@@ -9,6 +9,7 @@ ghost use Rattle.page_plan.specs.Plans.{Planned, Ready, Sound};
 ghost use Rattle.page_look.specs.Answers.{lookNumber, lookBlock};
 ghost use Rattle.page_counts.specs.Looking.{Pending};
 use crate::LookAnswer;
+use division_table::lay;
 use layout::Acceptance;
 use layout::check_layout;
 use layout::refusal_of;
@@ -56,6 +57,7 @@ fn look_lent(plan: Plan, page: &[u8], counts: &mut [u8]) -> LookAnswer
     ensures { λ r. ⌜ lookEnded (lookNumber r) (lookBlock r) (now (counts .exit)) ≡ lookIn plan (now (page .entry)) (now (counts .entry)) ⌝ }
 {
     let mut table = [0u64; 3600];
+    lay(&mut table);
     let scan = scan_page(plan, page, &mut table);
     let block = scan.block;
     clear(counts);

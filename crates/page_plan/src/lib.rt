@@ -2,6 +2,7 @@
 //
 //   block_reply      the reply to a page's length and a block number
 //   message_start    where the message of a block starts in the payload
+//   same_generator   whether two blocks have the same generator
 //   later_table      the table of the later blocks' generator, made where that of block 0 stands
 //
 // specs/Plans.antt says what the plan of an accepted layout has, and proofs/Plans.antt shows it; that is all the code asks of a plan.
@@ -58,7 +59,7 @@ pub fn message_start(plan: Plan, block: u16) -> usize
 }
 
 // Whether two blocks have the same generator: the same field and the same level.
-fn same_generator(first: Shape, later: Shape) -> bool
+pub fn same_generator(first: Shape, later: Shape) -> bool
     ensures { λ r. ⌜ r ≡ cond (eqb (degree (first .field)) (degree (later .field))) (eqb (first .level) (later .level)) false ⌝ }
 {
     let f = first.field;

@@ -10,6 +10,7 @@ ghost use Rattle.page_plan.specs.Plans.{Planned, Ready, Sound};
 ghost use Rattle.page_decide.specs.Scanning.{Scanned};
 ghost use Rattle.page_take.specs.Answers.{takeNumber, takeBlock};
 use crate::TakeAnswer;
+use division_table::lay;
 use layout::Acceptance;
 use layout::check_layout;
 use layout::refusal_of;
@@ -113,6 +114,7 @@ fn take_lent(plan: Plan, page: &[u8], metadata: &mut [u8], data: &mut [u8]) -> T
         ≡ takeIn plan (now (page .entry)) (now (metadata .entry)) (now («data» .entry)) ⌝ }
 {
     let mut table = [0u64; 3600];
+    lay(&mut table);
     let scan = scan_page(plan, page, &mut table);
     let block = scan.block;
     if block == plan.blocks {

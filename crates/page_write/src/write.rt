@@ -3,6 +3,7 @@
 use crate::WriteAnswer;
 use crate::lengths::write_reply;
 use block_write::write_block;
+use division_table::lay;
 use division_table::make_table;
 use layout::Acceptance;
 use layout::check_layout;
@@ -53,6 +54,7 @@ fn write_blocks(plan: Plan, metadata: &[u8], data: &[u8], page: &mut [u8])
     let first = plan.first;
     let mark = plan.mark;
     let mut table = [0u64; 3600];
+    lay(&mut table);
     write_first(plan, &mut table, metadata, data, page);
     let mut at = first.message as usize;
     let mut block = 1;

@@ -26,14 +26,13 @@ mul-left : tie.Need-mul-left Inv-loop μ-loop
 mul-left c =
     let a = c .before .before in
     let e = c .digit-bits .ensures in
-    let s = bits-some (a .args .used) in
-    let l = digit-before (digitBits (a .args .used)) (a .args .from) (a .args .to) s (a .pre .2) (a .pre .3) in
+    let l = digit-before (digitBits (a .args .used)) (a .args .from) (a .args .to) (a .pre .2) (a .pre .3) in
     record { fits = rw e (omega arith) }
 
 shr-left : tie.Need-shr-left Inv-loop μ-loop
 shr-left c =
     let a = c .before .before in
-    rw (c .digit-bits .ensures) (digit-before (digitBits (a .args .used)) (a .args .from) (a .args .to) (bits-some (a .args .used)) (a .pre .2) (a .pre .3))
+    rw (c .digit-bits .ensures) (digit-before (digitBits (a .args .used)) (a .args .from) (a .args .to) (a .pre .2) (a .pre .3))
 
 loop-holds : tie.Need-loop-holds Inv-loop μ-loop
 loop-holds c = (c .digit-bits .ensures, (let l = c .before .before .pre .2 in omega arith), refl, λ s h. h)
@@ -44,7 +43,7 @@ digit-row-requires c κs =
     let a = c .before .before .before .before in
     let b = digitBits (a .args .used) in
     let some = bits-some (a .args .used) in
-    let l = digit-before b (s .k) (a .args .to) some (let t = c .loop-test in omega arith) (a .pre .3) in
+    let l = digit-before b (s .k) (a .args .to) (let t = c .loop-test in omega arith) (a .pre .3) in
     (rw (s .inv .0) (bits-most (a .args .used)), digit-small b (s .k) some l)
 
 mul-row-added-down : tie.Need-mul-row-added-down Inv-loop μ-loop
@@ -52,7 +51,7 @@ mul-row-added-down c =
     let t = c .before in
     let s = t .before .loop in
     let a = t .before .before .before .before in
-    record { fits = row-fits (a .args .used) _ (a .pre .0) (s .inv .0) (a .args .v) (a .fits .v .fits) (s .k) (let d = t .loop-test in rw (s .inv .0) (digit-before (digitBits (a .args .used)) (s .k) (a .args .to) (bits-some (a .args .used)) (omega arith) (a .pre .3))) (s .inv .2) (c .digit-row .ensures) }
+    record { fits = row-fits (a .args .used) _ (a .pre .0) (s .inv .0) (a .args .v) (a .fits .v .fits) (s .k) (let d = t .loop-test in rw (s .inv .0) (digit-before (digitBits (a .args .used)) (s .k) (a .args .to) (omega arith) (a .pre .3))) (s .inv .2) (c .digit-row .ensures) }
 
 row-added-down-requires : tie.Need-row-added-down-requires Inv-loop μ-loop
 row-added-down-requires c κs =
@@ -62,7 +61,7 @@ row-added-down-requires c κs =
     let p = a .pre in
     let f = a .fits .v .fits in (
       wide-most (p .0 .wide),
-      row-room (a .args .used) _ (p .0) (s .inv .0) (a .args .v) f (s .k) (let d = t .loop-test in rw (s .inv .0) (digit-before (digitBits (a .args .used)) (s .k) (a .args .to) (bits-some (a .args .used)) (omega arith) (a .pre .3))) (s .inv .2) (c .digit-row .ensures),
+      row-room (a .args .used) _ (p .0) (s .inv .0) (a .args .v) f (s .k) (let d = t .loop-test in rw (s .inv .0) (digit-before (digitBits (a .args .used)) (s .k) (a .args .to) (omega arith) (a .pre .3))) (s .inv .2) (c .digit-row .ensures),
       part-below (a .args .used) _ (p .0) (s .inv .0) (a .args .v) f (a .args .from) (s .k) (p .1) (s .inv .3),
     )
 
@@ -90,7 +89,7 @@ loop-again c =
       e,
       (let l = t .loop-test in omega arith),
       left-next (a .args .used) _ p e (a .args .v) f (s .k) (s .inv .2),
-      λ x h. rows-next (a .args .used) _ p e (a .args .v) f x (s .k) (let d = t .loop-test in rw (s .inv .0) (digit-before (digitBits (a .args .used)) (s .k) (a .args .to) (bits-some (a .args .used)) (omega arith) (a .pre .3))) (s .inv .2) (w .digit-row .ensures) (s .inv .3 x h) (c .row-added-down .ensures),
+      λ x h. rows-next (a .args .used) _ p e (a .args .v) f x (s .k) (let d = t .loop-test in rw (s .inv .0) (digit-before (digitBits (a .args .used)) (s .k) (a .args .to) (omega arith) (a .pre .3))) (s .inv .2) (w .digit-row .ensures) (s .inv .3 x h) (c .row-added-down .ensures),
     )
 
 returns : tie.Need-returns Inv-loop μ-loop

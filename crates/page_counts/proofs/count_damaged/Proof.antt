@@ -6,7 +6,7 @@ use borrow.Author.Needs.{needs}
 use borrow.Author.Tests.{not-true, not-false}
 use Rattle.page_theory.proofs.Reading.{counts-length}
 use Rattle.page_decide.proofs.Deciding.{later-field}
-use Rattle.page_counts.proofs.Looking.{underway-left, underway-next, underway-end}
+use Rattle.page_counts.proofs.Looking.{underway-left, underway-reached, underway-next, underway-end}
 use Rattle.page_counts.proofs.count_damaged.Statement.{statement}
 use Rattle.page_counts.proofs.count_damaged.Tie as tie
 
@@ -36,7 +36,9 @@ slice-write-counts c =
     omega (arith, p .underway .size, p .ready .plan .some)
 
 next-damaged-requires : tie.Need-next-damaged-requires
-next-damaged-requires c κs = search needs
+next-damaged-requires c κs =
+    let p = c .before .before .before .before .before .before .pre in
+    ((p .0 .ready, underway-reached _ _ (p .0 .ready .plan) (p .0 .underway)), (p .1, p .0 .table))
 
 same-length-2 : tie.Need-same-length-2
 same-length-2 c = search needs
@@ -50,7 +52,7 @@ returns-2 c =
     let plan = p .0 .ready .plan in
     let e = a .apart .ensures .1 (not-false _ (d .before .if1 .left)) in
     underway-end _ _ plan
-    (underway-next _ _ plan (p .0 .underway) e (plan .some) (rw e at (d .decide-alone .ensures .at)) (n .next-damaged .ensures)) (omega arith)
+    (underway-next _ _ plan (p .0 .underway) e (plan .some) (rw e at (d .decide-alone .ensures .at)) (rw e at (n .next-damaged .ensures))) (omega arith)
 
 count-alike-requires-2 : tie.Need-count-alike-requires-2
 count-alike-requires-2 c κs =
@@ -63,7 +65,7 @@ count-alike-requires-2 c κs =
       record {
         ready = p .0 .ready;
         table = p .0 .table;
-        underway = underway-next _ _ plan (p .0 .underway) e (plan .some) (rw e at (d .decide-alone .ensures .at)) (n .next-damaged .ensures);
+        underway = underway-next _ _ plan (p .0 .underway) e (plan .some) (rw e at (d .decide-alone .ensures .at)) (rw e at (n .next-damaged .ensures));
       },
       later-field _ _ plan (omega (arith, n .next-damaged .ensures .low)),
     )

@@ -6,7 +6,7 @@ use borrow.Author.Needs.{needs}
 use Rattle.page_decide.specs.Deciding.{Remembers}
 use Rattle.page_decide.proofs.Deciding.{remembers-nothing}
 use Rattle.page_counts.specs.Looking.{Underway}
-use Rattle.page_counts.proofs.Looking.{underway-left, underway-next, underway-end}
+use Rattle.page_counts.proofs.Looking.{underway-left, underway-reached, underway-next, underway-end}
 use Rattle.page_counts.proofs.count_from.Statement.{statement}
 use Rattle.page_counts.proofs.count_from.Tie as tie
 
@@ -36,16 +36,11 @@ cast-i c = search needs
 slice-write-counts : tie.Need-slice-write-counts Inv-loop μ-loop
 slice-write-counts c = let k = c .before in omega (arith, k .if1 .taken, k .before .before .loop .inv .1 .size)
 
-add-next-damaged : tie.Need-add-next-damaged Inv-loop μ-loop
-add-next-damaged c =
-    let k = c .before in
-    omega (arith, k .if1 .taken, k .before .before .before .before .before .before .before .pre .0 .ready .plan .few)
-
 next-damaged-requires : tie.Need-next-damaged-requires Inv-loop μ-loop
 next-damaged-requires c κs =
     let k = c .before in
     let p = k .before .before .before .before .before .before .before .pre .0 in
-    (p .ready, (omega arith, omega (arith, k .if1 .taken), p .table))
+    ((p .ready, underway-reached _ _ (p .ready .plan) (k .before .before .loop .inv .1)), (k .if1 .taken, p .table))
 
 loop-less : tie.Need-loop-less Inv-loop μ-loop
 loop-less c = omega (arith, c .before .before .if1 .taken, c .next-damaged .ensures .low)
@@ -80,7 +75,6 @@ count-from-spec =
     decide-block-requires
     cast-i
     slice-write-counts
-    add-next-damaged
     next-damaged-requires
     loop-less
     loop-again

@@ -16,7 +16,7 @@ feed-nine-words-requires : tie.Need-feed-nine-words-requires
 feed-nine-words-requires c κs =
     let a = c .before .before .before .before in
     let e = c .if2 .taken in
-    (rw e at (a .pre .0), rw e at (a .pre .1), a .pre .2)
+    (rw e at (a .pre .0), rw e at (a .pre .1), a .pre .2, a .pre .3)
 
 returns-2 : tie.Need-returns-2
 returns-2 c = c .feed-nine-words .ensures ∙ rw (c .before .if2 .taken)

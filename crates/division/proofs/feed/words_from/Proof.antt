@@ -1,5 +1,5 @@
-use Prim.Native.Nat.{ℕ, _≤_, _<_, _-_, _+_, _*_}
-use mathlib.Core.Path.{_≡_}
+use Prim.Native.Nat.{ℕ, _≤_, _<_, _-_, _+_, _*_, _/_}
+use mathlib.Core.Path.{_≡_, ap, _∙_}
 use native.Mathlib.Omega.{arith}
 use borrow.Author.Needs.{needs}
 use lib.ListN.{length, getD}
@@ -9,10 +9,25 @@ use Rattle.division.proofs.feed.words_from.Statement.{statement}
 use Rattle.division.proofs.feed.words_from.Tie as tie
 
 abbrev Inv-loop : tie.InvT-loop
-Inv-loop bytes at count words₀ i₀ words i = (i ≤ count) × (length words ≡ 16) × ((k : ℕ) → k < i → getD words k 0 ≡ number (run (bitOf bytes) (at + 64 * k) 64))
+Inv-loop bytes at count from words₀ i₀ words i = (i ≤ count) × (length words ≡ 16) × ((k : ℕ) → k < i → getD words k 0 ≡ number (run (bitOf bytes) (at + 64 * k) 64))
 
 abbrev μ-loop : tie.MeasureT-loop
-μ-loop bytes at count words₀ i₀ words i = count - i
+μ-loop bytes at count from words₀ i₀ words i = count - i
+
+mul-if2 : tie.Need-mul-if2 Inv-loop μ-loop
+mul-if2 c = search needs
+
+add-if2 : tie.Need-add-if2 Inv-loop μ-loop
+add-if2 c = search needs
+
+whole-words-requires : tie.Need-whole-words-requires Inv-loop μ-loop
+whole-words-requires c κs = search needs
+
+returns : tie.Need-returns Inv-loop μ-loop
+returns c =
+    let a = c .before .before .before .before .args in
+    let e : 8 * (a .at / 8) ≡ a .at = omega arith in
+    λ k h. c .whole-words .ensures k h ∙ ap (λ (p : ℕ). number (run (bitOf (a .bytes .now)) (p + 64 * k) 64)) e
 
 loop-holds : tie.Need-loop-holds Inv-loop μ-loop
 loop-holds c = (search needs, search needs, λ k h. absurd (omega arith))
@@ -41,11 +56,11 @@ loop-less c = search needs
 loop-again : tie.Need-loop-again Inv-loop μ-loop
 loop-again c =
     let s = c .before .before .loop in
-    let a = c .before .before .before .before .args in
+    let a = c .before .before .before .before .before .args in
     (omega arith, search needs, stored-next (λ k. number (run (bitOf (a .bytes .now)) (a .at + 64 * k) 64)) (s .words) (s .i) (omega arith) (s .inv .2) (c .word-at .ensures))
 
-returns : tie.Need-returns Inv-loop μ-loop
-returns c =
+returns-2 : tie.Need-returns-2 Inv-loop μ-loop
+returns-2 c =
     let s = c .before .loop in
     λ k h. s .inv .2 k (omega arith)
 
@@ -55,6 +70,10 @@ words-from-spec =
     (tie.spec
     Inv-loop
     μ-loop
+    mul-if2
+    add-if2
+    whole-words-requires
+    returns
     loop-holds
     mul-word-at
     add-word-at
@@ -64,4 +83,4 @@ words-from-spec =
     add-i
     loop-less
     loop-again
-    returns)
+    returns-2)

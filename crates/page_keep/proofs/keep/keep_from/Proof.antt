@@ -7,7 +7,7 @@ use lib.ListN.{length}
 use Rattle.page_decide.specs.Deciding.{Remembers}
 use Rattle.page_decide.proofs.Deciding.{remembers-nothing}
 use Rattle.page_keep.specs.Keeping.{Underway, PageDecided}
-use Rattle.page_keep.proofs.Keeping.{underway-left, decided-room, underway-ruined, underway-next, underway-sound}
+use Rattle.page_keep.proofs.Keeping.{underway-left, underway-reached, decided-room, underway-ruined, underway-next, underway-sound}
 use Rattle.page_keep.proofs.keep.keep_from.Statement.{statement}
 use Rattle.page_keep.proofs.keep.keep_from.Tie as tie
 
@@ -53,16 +53,11 @@ keep-block-requires c κs =
       (omega (arith, u .room, k .if1 .taken), u .flips-length),
     )
 
-add-next-damaged : tie.Need-add-next-damaged Inv-loop μ-loop
-add-next-damaged c =
-    let k = c .before .before .before .before .before .before .before in
-    omega (arith, k .if1 .taken, k .before .before .before .before .before .before .before .pre .0 .ready .plan .few)
-
 next-damaged-requires : tie.Need-next-damaged-requires Inv-loop μ-loop
 next-damaged-requires c κs =
     let k = c .before .before .before .before .before .before .before in
     let p = k .before .before .before .before .before .before .before .pre .0 in
-    (p .ready, (omega arith, omega (arith, k .if1 .taken), p .table))
+    ((p .ready, underway-reached _ _ (p .ready .plan) (k .before .before .loop .inv .1)), (k .if1 .taken, p .table))
 
 loop-less : tie.Need-loop-less Inv-loop μ-loop
 loop-less c = omega (arith, c .before .before .before .before .before .before .before .before .if1 .taken, c .next-damaged .ensures .low)
@@ -103,7 +98,6 @@ keep-from-spec =
     same-length
     returns
     keep-block-requires
-    add-next-damaged
     next-damaged-requires
     loop-less
     loop-again

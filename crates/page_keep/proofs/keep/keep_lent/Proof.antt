@@ -5,7 +5,7 @@ use borrow.Author.Needs.{needs}
 use borrow.Author.Tests.{not-true, not-false}
 use Rattle.page_decide.proofs.Deciding.{later-field}
 use Rattle.page_keep.specs.Keeping.{PageDecided}
-use Rattle.page_keep.proofs.Keeping.{underway-left, decided-room, underway-ruined, underway-next, underway-sound}
+use Rattle.page_keep.proofs.Keeping.{underway-left, underway-reached, decided-room, underway-ruined, underway-next, underway-sound}
 use Rattle.page_keep.proofs.keep.keep_lent.Statement.{statement}
 use Rattle.page_keep.proofs.keep.keep_lent.Tie as tie
 
@@ -51,8 +51,8 @@ keep-block-requires c κs =
 
 next-damaged-requires : tie.Need-next-damaged-requires
 next-damaged-requires c κs =
-    let p = c .before .before .before .before .before .before .before .before .before .before .before .before .before .before .before .pre .0 in
-    (p .ready, (omega arith, omega (arith, p .ready .plan .some), p .table))
+    let p = c .before .before .before .before .before .before .before .before .before .before .before .before .before .before .before .pre in
+    ((p .0 .ready, underway-reached _ _ (p .0 .ready .plan) (p .0 .underway)), (p .1 .0, p .0 .table))
 
 same-length-2 : tie.Need-same-length-2
 same-length-2 c = search needs
@@ -71,7 +71,7 @@ returns-3 c =
     let e = a .apart .ensures .1 (not-false _ (f .if1 .left)) in
     underway-sound _ _ plan
     (underway-next _ _ plan (p .0 .underway) e (plan .some) (rw e at (d .decide-lent .ensures .0 .at)) (o .if2 .left) refl (k .keep-block .ensures)
-    (n .next-damaged .ensures)) (omega arith)
+    (rw e at (n .next-damaged .ensures))) (omega arith)
 
 keep-alike-requires-2 : tie.Need-keep-alike-requires-2
 keep-alike-requires-2 c κs =
@@ -88,7 +88,7 @@ keep-alike-requires-2 c κs =
         ready = p .0 .ready;
         table = p .0 .table;
         underway = underway-next _ _ plan (p .0 .underway) e (plan .some) (rw e at (d .decide-lent .ensures .0 .at)) (o .if2 .left) refl
-            (k .keep-block .ensures) (n .next-damaged .ensures);
+            (k .keep-block .ensures) (rw e at (n .next-damaged .ensures));
       },
       (later-field _ _ plan (omega (arith, n .next-damaged .ensures .low)), d .decide-lent .ensures .1 .0, d .decide-lent .ensures .1 .1, d .decide-lent .ensures .1 .2),
     )

@@ -18,6 +18,12 @@ Inv-loop plan metadata «data» page₀ blocks mark table at₀ block₀ page at
 abbrev μ-loop : tie.MeasureT-loop
 μ-loop plan metadata «data» page₀ blocks mark table at₀ block₀ page at block = blocks - block
 
+slice-aggregate-lay : tie.Need-slice-aggregate-lay Inv-loop μ-loop
+slice-aggregate-lay c = search needs
+
+lay-requires : tie.Need-lay-requires Inv-loop μ-loop
+lay-requires c κs = search needs
+
 slice-aggregate-write-first : tie.Need-slice-aggregate-write-first Inv-loop μ-loop
 slice-aggregate-write-first c = search needs
 
@@ -30,7 +36,7 @@ cast-at c = search needs
 loop-holds : tie.Need-loop-holds Inv-loop μ-loop
 loop-holds c =
     let first = c .before .before .before .before in
-    let a = first .before .before .before .before .before .before .before .before in
+    let a = first .before .before .before .before .before .before .before .before .before .before .before in
     let q = a .args .plan in
     (omega arith, a .pre .0 .some, from-one q (shape-zero q (a .pre .0)), streamed-first q _ _ (shape-zero q (a .pre .0)) (a .pre .1 .size) (first .write-first .ensures .0))
 
@@ -47,7 +53,7 @@ write-block-requires : tie.Need-write-block-requires Inv-loop μ-loop
 write-block-requires c κs =
     let turn = c .before .before .before .before .before in
     let first = turn .before .before .before .before .before in
-    let a = first .before .before .before .before .before .before .before .before in
+    let a = first .before .before .before .before .before .before .before .before .before .before .before in
     let q = a .args .plan in
     let s = turn .loop in
     let h = a .pre .1 in
@@ -67,7 +73,7 @@ cast-at-2 c = search needs
 add-at : tie.Need-add-at Inv-loop μ-loop
 add-at c =
     let turn = c .before .before .before .before .before .before .before .before .before in
-    let a = turn .before .before .before .before .before .before .before .before .before .before .before .before .before in
+    let a = turn .before .before .before .before .before .before .before .before .before .before .before .before .before .before .before .before in
     let q = a .args .plan in
     let s = turn .loop in
     let h = a .pre .1 in
@@ -78,7 +84,7 @@ add-at c =
 add-block : tie.Need-add-block Inv-loop μ-loop
 add-block c =
     let turn = c .before .before .before .before .before .before .before .before .before in
-    let a = turn .before .before .before .before .before .before .before .before .before .before .before .before .before in
+    let a = turn .before .before .before .before .before .before .before .before .before .before .before .before .before .before .before .before in
     let x : a .args .plan .blocks < 65536 = search needs in
     let l = c .before .before .before .before .before .before .before .before .loop-test .taken in
     record { fits = omega arith }
@@ -89,7 +95,7 @@ loop-less c = search needs
 loop-again : tie.Need-loop-again Inv-loop μ-loop
 loop-again c =
     let turn = c .before .before .before .before .before .before .before .before .before in
-    let a = turn .before .before .before .before .before .before .before .before .before .before .before .before .before in
+    let a = turn .before .before .before .before .before .before .before .before .before .before .before .before .before .before .before .before in
     let q = a .args .plan in
     let s = turn .loop in
     let l = c .before .before .before .before .before .before .before .before .loop-test .taken in
@@ -109,7 +115,7 @@ cast-room c = search needs
 sub-room : tie.Need-sub-room Inv-loop μ-loop
 sub-room c =
     let turn = c .before .before .before in
-    let a = turn .before .before .before .before .before .before .before .before .before .before .before .before .before in
+    let a = turn .before .before .before .before .before .before .before .before .before .before .before .before .before .before .before .before in
     let n = streamed-size (a .args .plan) _ _ (turn .loop .inv .3) in
     let i = a .pre .0 .valid .inside in
     omega arith
@@ -117,7 +123,7 @@ sub-room c =
 mul-room : tie.Need-mul-room Inv-loop μ-loop
 mul-room c =
     let turn = c .before .before .before in
-    let a = turn .before .before .before .before .before .before .before .before .before .before .before .before .before in
+    let a = turn .before .before .before .before .before .before .before .before .before .before .before .before .before .before .before .before in
     let n = streamed-size (a .args .plan) _ _ (turn .loop .inv .3) in
     let x = a .pre .0 .size in
     record { fits = omega arith }
@@ -126,7 +132,7 @@ sub-fill-ones : tie.Need-sub-fill-ones Inv-loop μ-loop
 unfolding room
 sub-fill-ones c =
     let turn = c .before .before .before .before in
-    let a = turn .before .before .before .before .before .before .before .before .before .before .before .before .before in
+    let a = turn .before .before .before .before .before .before .before .before .before .before .before .before .before .before .before .before in
     let q = a .args .plan in
     let n = streamed-size q _ _ (turn .loop .inv .3) in
     let r = a .pre .0 .valid .fits in
@@ -136,7 +142,7 @@ fill-ones-requires : tie.Need-fill-ones-requires Inv-loop μ-loop
 unfolding room
 fill-ones-requires c κs =
     let turn = c .before .before .before .before in
-    let a = turn .before .before .before .before .before .before .before .before .before .before .before .before .before in
+    let a = turn .before .before .before .before .before .before .before .before .before .before .before .before .before .before .before .before in
     let q = a .args .plan in
     let n = streamed-size q _ _ (turn .loop .inv .3) in
     let r = a .pre .0 .valid .fits in
@@ -148,7 +154,7 @@ same-length : tie.Need-same-length Inv-loop μ-loop
 same-length c =
     let done = c .before .before in
     let turn = done .before .before .before .before .before in
-    let a = turn .before .before .before .before .before .before .before .before .before .before .before .before .before in
+    let a = turn .before .before .before .before .before .before .before .before .before .before .before .before .before .before .before .before in
     let n = streamed-size (a .args .plan) _ _ (turn .loop .inv .3) in
     let m = a .pre .1 .size in
     search needs
@@ -158,7 +164,7 @@ returns c =
     let done = c .before .before in
     let turn = done .before .before .before .before .before in
     let first = turn .before .before .before .before .before in
-    let a = first .before .before .before .before .before .before .before .before in
+    let a = first .before .before .before .before .before .before .before .before .before .before .before in
     let q = a .args .plan in
     let s = turn .loop in
     let e : s .block ≡ q .blocks = omega arith in
@@ -171,6 +177,8 @@ write-blocks-spec =
     (tie.spec
     Inv-loop
     μ-loop
+    slice-aggregate-lay
+    lay-requires
     slice-aggregate-write-first
     write-first-requires
     cast-at
