@@ -105,7 +105,7 @@ enum rudderfig_reply_number {
  * Bytes of stack that a call takes at most on any of the four processors, its return address included. `make lib` and `make boards` compare them with
  * the code.
  * Most of it are the decoder's tables, which are filled only where a block is damaged or erased. On x86-64 taking an undamaged page takes about 66,000
- * bytes; looking at one about 103,000 and judging an undamaged block about 73,000, since the compiler makes room for the tables on entry.
+ * bytes; looking at one about 104,000 and judging an undamaged block about 73,000, since the compiler makes room for the tables on entry.
  */
 #define RUDDERFIG_STACK_CHECK_LAYOUT 256
 #define RUDDERFIG_STACK_LOCATE_BIT 512
