@@ -4,11 +4,11 @@ use mathlib.Core.List.{List}
 use Prim.Native.Nat.{ℕ, zero, suc, _+_, _-_, _*_, _/_, _%_, _^_, _<_, _≤_}
 use native.Mathlib.Omega.{arith}
 use native.Mathlib.Decide.{decLt}
-use native.Mathlib.Nat.{add-zero, mul-one, suc-mul, mod-lt, mod-le, mod-eq-of-lt}
+use native.Mathlib.Nat.{add-zero, mul-one, suc-mul, mod-lt, mod-le, mod-eq-of-lt, zero-div}
 use lib.ListN.{length, getD, drop, set}
-use lib.Seq.{getD-set-same, getD-set-other}
+use lib.Seq.{getD-set-same, getD-set-other, getD-drop, set-getD}
 use lib.Pow.{pow-pos, pow-mono, shr-lt, shr-shr, shl-shr, high, mod-pow-add}
-use lib.Bits.{bitXor, xor-lt, xor-zero-l, xor-self, xor-shifted, xor-block}
+use lib.Bits.{bitXor, xor-lt, xor-zero-l, xor-zero-r, xor-self, xor-shifted, xor-block, xor-shr}
 use Rattle.bits.specs.Bits.{bitOf, run, number, digits}
 use Rattle.bits.proofs.Numbers.{number-append, digits-number}
 use Rattle.bits.proofs.Pages.{number-run-lt}
@@ -19,7 +19,7 @@ use Rattle.code.specs.Register.{low, register}
 use Rattle.remainder.specs.Parity.{parityFrom}
 use Rattle.remainder.specs.Parity.{rest}
 use Rattle.division_table.specs.Table.{RowWords, four, nine, fourteen, digitBits, rowsOf, place, rowOf, divisorOf, Rests}
-use Rattle.remainder.proofs.Words.{Words, low-lt, low-lt-next, register-zeros, register-mod, top-digits}
+use Rattle.remainder.proofs.Words.{Words, low-next, low-lt, low-lt-next, register-zeros, register-mod, top-digits, words-drop}
 use Rattle.division_table.proofs.Filling.{wide-some, row-inside, row-product, place-row}
 use Rattle.remainder.proofs.Parity.{mod-up, rest-xor, rest-zero, rest-below, parity-append, parity-digits, parity-below}
 
@@ -50,6 +50,14 @@ digit-before b k to l h = before (to - k - 1) (omega arith)
 pub digit-small : (b k : ℕ) → 0 < b → b * k < 64 → k < 64
 digit-small zero k hb h = absurd (omega arith)
 digit-small (suc b) k hb h = let e : suc b * k ≡ b * k + k = suc-mul b k in omega arith
+
+-- the highest of u words
+low-top : (ws : List ℕ) → Words ws → (u : ℕ) → 0 < u → getD ws (u - 1) 0 ≡ low ws u / 2 ^ (64 * u - 64)
+low-top ws hw u some =
+    let e : u - 1 + 1 ≡ u = omega arith in
+    let m : 64 * (u - 1) ≡ 64 * u - 64 = omega arith in
+    sym (high (getD ws (u - 1) 0) (64 * (u - 1)) (low-lt ws hw (u - 1))) ∙ ap (λ x. x / 2 ^ (64 * (u - 1))) (sym (low-next ws (u - 1)) ∙ ap (low ws) e)
+    ∙ ap (λ n. low ws u / 2 ^ n) m
 
 -- The digits of a number v, of b binary digits each, the lowest first: k of them are done, and `left` has the others.
 module _ (u : ℕ) (words : List ℕ) (table : Rests u words) {b : ℕ} (eb : b ≡ digitBits u) (v : ℕ) (hv : v < 18446744073709551616) where
@@ -116,6 +124,35 @@ module _ (u : ℕ) (words : List ℕ) (table : Rests u words) {b : ℕ} (eb : b 
       let e : bitXor y (bitXor y r) ≡ r = sym (xor-assoc y y r) ∙ ap (λ n. bitXor n r) (xor-self y) ∙ xor-zero-l r in
       rows-below (bitXor y r) k (rows-below r from h refl) (f (bitXor y r) (sym e))
 
+  -- the highest word of the same sums
+  module _ (r : ℕ) where
+    pub highest-first : r ≡ bitXor (rest (64 * u) (divisorOf u words) (v % 2 ^ (b * 0)) / 2 ^ (64 * u - 64)) r
+    highest-first =
+        let z : b * 0 ≡ 0 = omega arith in
+        let e : v % 2 ^ (b * 0) ≡ 0 = ap (λ n. v % 2 ^ n) z ∙ omega arith in
+        sym (ap (λ n. bitXor (rest (64 * u) (divisorOf u words) n / 2 ^ (64 * u - 64)) r) e ∙ ap (λ n. bitXor (n / 2 ^ (64 * u - 64)) r) (rest-zero (64 * u) (divisorOf u words))
+        ∙ ap (λ n. bitXor n r) (zero-div (2 ^ (64 * u - 64))) ∙ xor-zero-l r)
+
+    pub highest-next : Words words → (k : ℕ) {left row x y : ℕ} → b * k < 64 → left ≡ v / 2 ^ (b * k) → row ≡ 2 ^ b * k + left % 2 ^ b
+        → x ≡ bitXor (rest (64 * u) (divisorOf u words) (v % 2 ^ (b * k)) / 2 ^ (64 * u - 64)) r → y ≡ bitXor (getD words (row * u + (u - 1)) 0) x
+        → y ≡ bitXor (rest (64 * u) (divisorOf u words) (v % 2 ^ (b * (k + 1))) / 2 ^ (64 * u - 64)) r
+    highest-next hw k {left} {row} h el er ex ey =
+        let g : ℕ = divisorOf u words in
+        let p : ℕ = 64 * u - 64 in
+        let a : ℕ = rest (64 * u) g (v % 2 ^ (b * k)) in
+        let l : ℕ = low (drop (row * u) words) u in
+        let n : bitXor l a ≡ rest (64 * u) g (v % 2 ^ (b * (k + 1))) = rows-next 0 k h el er (sym (xor-zero-r a)) refl ∙ xor-zero-r (rest (64 * u) g (v % 2 ^ (b * (k + 1)))) in
+        let t : getD words (row * u + (u - 1)) 0 ≡ l / 2 ^ p =
+        sym (getD-drop (row * u) words (u - 1) 0) ∙ low-top (drop (row * u) words) (words-drop words hw (row * u)) u (wide-some (table .wide)) in
+        ey ∙ ap₂ bitXor t ex ∙ sym (xor-assoc (l / 2 ^ p) (a / 2 ^ p) r) ∙ ap (λ z. bitXor z r) (sym (xor-shr l a p) ∙ ap (λ z. z / 2 ^ p) n)
+
+    pub highest-all : (k : ℕ) {x : ℕ} → 64 ≤ b * k → x ≡ bitXor (rest (64 * u) (divisorOf u words) (v % 2 ^ (b * k)) / 2 ^ (64 * u - 64)) r
+        → x ≡ bitXor (rest (64 * u) (divisorOf u words) v / 2 ^ (64 * u - 64)) r
+    highest-all k h ex =
+        let m : 2 ^ 64 ≤ 2 ^ (b * k) = pow-mono h in
+        let e : v % 2 ^ (b * k) ≡ v = mod-eq-of-lt (omega arith) in
+        ex ∙ ap (λ n. bitXor (rest (64 * u) (divisorOf u words) n / 2 ^ (64 * u - 64)) r) e
+
 -- From the parity r, with the k coefficients b: h has the k highest digits of r, and the rows of v are added.
 -- One step by the table is as many single steps as it takes coefficients.
 pub table-step : (u : ℕ) (words : List ℕ) → Rests u words → (r b k : ℕ) → r < 2 ^ (64 * u) → k ≤ 64 → b < 2 ^ k → {h n x : ℕ} → h ≡ r / 2 ^ (64 * u - k)
@@ -135,6 +172,26 @@ up-end ws vs hv u some l m inv above =
 
 pub top-word : (ws : List ℕ) → Words ws → (u : ℕ) → 0 < u → u ≤ length ws → register ws < 2 ^ (64 * u) → getD ws (u - 1) 0 ≡ register ws / 2 ^ (64 * u - 64)
 top-word ws h u some l r = sym (ap (λ n. n / 1) (sym (mul-one (getD ws (u - 1) 0))) ∙ shl-shr (getD ws (u - 1) 0) 0) ∙ top-digits ws h u 64 some l (omega arith) r
+
+-- the highest word of what is moved up by one word was the second
+pub up-top : (ws : List ℕ) → Words ws → (u : ℕ) → 1 < u → u ≤ length ws → {n : ℕ} → n ≡ register ws * 18446744073709551616 % 2 ^ (64 * u) → getD ws (u - 2) 0 ≡ n / 2 ^ (64 * u - 64)
+up-top ws hw u some l {n} en =
+    let e : 64 * u ≡ 64 * (u - 1) + 64 = omega arith in
+    let d : u - 1 - 1 ≡ u - 2 = omega arith in
+    let p : 64 * u - 64 ≡ 64 + (64 * (u - 1) - 64) = omega arith in
+    let m : n ≡ low ws (u - 1) * 2 ^ 64 =
+    en ∙ ap (λ i. register ws * 18446744073709551616 % 2 ^ i) e ∙ mod-up (register ws) (64 * (u - 1)) 64 ∙ ap (λ x. x * 2 ^ 64) (register-mod ws hw (u - 1) (omega arith)) in
+    let q : n / 2 ^ (64 * u - 64) ≡ low ws (u - 1) / 2 ^ (64 * (u - 1) - 64) =
+    ap₂ (λ (x i : ℕ). x / 2 ^ i) m p ∙ sym (shr-shr (low ws (u - 1) * 2 ^ 64) 64 (64 * (u - 1) - 64)) ∙ ap (λ x. x / 2 ^ (64 * (u - 1) - 64)) (shl-shr (low ws (u - 1)) 64) in
+    ap (λ i. getD ws i 0) (sym d) ∙ low-top ws hw (u - 1) (omega arith) ∙ sym q
+
+-- A sum of two numbers whose highest word is stored once more.
+pub highest-stored : (ws : List ℕ) → Words ws → (u : ℕ) → 0 < u → u ≤ length ws → (a n : ℕ) {h s : ℕ} → register ws ≡ bitXor a n → register ws < 2 ^ (64 * u)
+    → h ≡ bitXor (a / 2 ^ (64 * u - 64)) s → s ≡ n / 2 ^ (64 * u - 64) → register (set ws (u - 1) h) ≡ bitXor a n
+highest-stored ws hw u some l a n {h} er hr eh es =
+    let p : ℕ = 64 * u - 64 in
+    let e : h ≡ getD ws (u - 1) 0 = eh ∙ ap (bitXor (a / 2 ^ p)) es ∙ sym (xor-shr a n p) ∙ ap (λ x. x / 2 ^ p) (sym er) ∙ sym (top-word ws hw u some l hr) in
+    ap (λ x. register (set ws (u - 1) x)) e ∙ ap register (set-getD ws (u - 1) 0) ∙ er
 
 pub step-pushed : (x u : ℕ) {n : ℕ} → n ≡ (x + 0) % 2 ^ (64 * u) → n ≡ x % 2 ^ (64 * u)
 step-pushed x u en = en ∙ ap (λ y. y % 2 ^ (64 * u)) (add-zero x)

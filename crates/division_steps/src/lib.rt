@@ -5,9 +5,13 @@
 //   long_step    for rows of fourteen, both written so that the compiler unrolls them, the highest word of a row first
 //   step_bits    up to 63 coefficients
 //
+//   highest      the highest word of a sum of rows, by itself
+//
 // A register has the parity so far in its first words, which it fills: the divisor has the degree 64 used. A step moves it up and adds the
 // rows of the digits of what leaves it. What a table is stands in `division_table`; proofs/ has the laws, for the crates of the runs and of
 // the division bit by bit too: Steps (the steps by a table, and runs of them), Level (what is moved up to whole words).
+mod highest;
+
 ghost use mathlib.Core.Path.{_≡_};
 ghost use Prim.Native.Nat.{ℕ, _+_, _-_, _*_, _/_, _%_, _^_, _≤_, _<_};
 ghost use lib.ListN.{length, drop};
@@ -18,6 +22,7 @@ ghost use Rattle.remainder.specs.Parity.{parityFrom, rest};
 ghost use Rattle.division_table.specs.Table.{digitBits, divisorOf, Rests};
 use division_table::digits::digit_bits;
 use division_table::digits::digit_row;
+use highest::highest_added;
 use register_shifts::pushed;
 use remainder::Register;
 use remainder::add::row_added;
@@ -154,7 +159,8 @@ pub fn step_word(state: Register, table: &[u64], used: usize, w: u64) -> Registe
     rows_added(next, table, used, v)
 }
 
-// The same for rows of nine words.
+// The same for rows of nine words. The highest word comes first, by itself: the next step waits for it alone, and of the sum of the rows the
+// compiler leaves it out.
 pub fn nine_step(state: Register, table: &[u64], w: u64) -> Register
     requires { ⌜ (Rests 9 (now table)) × (register (state .words) < 2 ^ (64 * 9)) ⌝ }
     ensures { λ r. ⌜ register (r .words)
@@ -162,8 +168,12 @@ pub fn nine_step(state: Register, table: &[u64], w: u64) -> Register
 {
     let words = state.words;
     let v = words[8] ^ w;
+    let highest = highest_added(words[7], table, 9, v);
     let next = word_up(state, 9);
-    nine_rows_added(next, table, v)
+    let all = nine_rows_added(next, table, v);
+    let mut sum = all.words;
+    sum[8] = highest;
+    Register { words: sum }
 }
 
 // The same for rows of fourteen words.

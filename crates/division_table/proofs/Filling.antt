@@ -10,13 +10,13 @@ use lib.Dec.{eqb}
 use lib.ListN.{length, drop}
 use lib.Pow as Pow
 use lib.Pow.{high, pow-pos, pow-add, pow-mono}
-use lib.Bits.{bitXor, xor-zero-r, xor-shifted}
+use lib.Bits.{bitXor, xor-zero-r, xor-shifted, xor-comm}
 use Rattle.bits.specs.Bits.{bit}
 use Rattle.bits.proofs.Numbers.{bit-lt}
-use Rattle.code.specs.Register.{low}
+use Rattle.code.specs.Register.{low, register}
 use Rattle.remainder.specs.Parity.{rest}
-use Rattle.division_table.specs.Table.{RowWords, four, nine, fourteen, digitBits, rowsOf, place, powerRow, rowOf, Filled, Only, Apart, before, after}
-use Rattle.remainder.proofs.Words.{Words, low-lt}
+use Rattle.division_table.specs.Table.{RowWords, four, nine, fourteen, digitBits, rowsOf, place, powerRow, rowOf, Filled, Begun, Only, Apart, before, after}
+use Rattle.remainder.proofs.Words.{Words, low-lt, register-short}
 use Rattle.division_table.proofs.Rows.{only-apart}
 use Rattle.remainder.proofs.Parity.{xor-up, rest-xor, rest-zero, rest-one, rest-below, rest-double}
 
@@ -125,6 +125,24 @@ place-row b k v h =
 pub place-zero : (b k : ℕ) → place b (2 ^ b * k) ≡ 0
 place-zero b k = ap (place b) (sym (add-zero (2 ^ b * k))) ∙ place-row b k 0 (pow-pos b) ∙ zero-mul (2 ^ (b * k))
 
+-- they have room in a register
+place-small : (b v e : ℕ) → b + b * (v / 2 ^ b) ≤ e → place b v < 2 ^ e
+unfolding place
+place-small b v e h =
+    let x : ℕ = 2 ^ (b * (v / 2 ^ b)) in
+    let l : v % 2 ^ b < 2 ^ b = mod-lt v (pow-pos b) in
+    let m : suc (v % 2 ^ b) * x ≤ 2 ^ b * x = mul-le-mul-right x l in
+    let p : 2 ^ (b + b * (v / 2 ^ b)) ≡ 2 ^ b * x = pow-add 2 b (b * (v / 2 ^ b)) in
+    let k : 2 ^ (b + b * (v / 2 ^ b)) ≤ 2 ^ e = pow-mono h in
+    let z : 0 < x = pow-pos (b * (v / 2 ^ b)) in
+    omega arith
+
+place-below : {u : ℕ} → RowWords u → (v : ℕ) → v < rowsOf u → place (digitBits u) v < 2 ^ (64 * u)
+unfolding digitBits rowsOf
+place-below four v h = place-small 5 v 256 (omega arith)
+place-below nine v h = place-small 5 v 576 (omega arith)
+place-below fourteen v h = place-small 4 v 896 (omega arith)
+
 -- the rows of 0 and 1
 pub place-first : (b v : ℕ) → 0 < b → v < 2 → place b v ≡ v
 place-first b v h l =
@@ -192,6 +210,25 @@ module _ (b : ℕ) (some : 0 < b) where
       let r : suc (i % b - 1) ≡ i % b = omega arith in
       let t : 2 ^ (i % b) ≡ 2 ^ (i % b - 1) * 2 = ap (λ n. 2 ^ n) (sym r) ∙ pow-suc 2 (i % b - 1) in
       rw (p .0, p .1) (omega arith)
+
+  -- the rows of larger powers come later
+  power-rise : (i : ℕ) → powerRow b i < powerRow b (suc i)
+  power-rise i =
+      let z = pow-pos (i % b) in
+      let e : suc i - 1 ≡ i = omega arith in
+      elim (ℕ-discrete (suc i % b) 0) [
+        | yes c ↦ let d = rw e at (digit-first (suc i) (omega arith) c) in let x = d .0 in let y = d .1 in omega arith
+        | no c ↦ let d = rw e at (digit-later (suc i) c) in omega arith
+      ]
+
+  pub power-order : (j i : ℕ) → j < i → powerRow b j < powerRow b i
+  power-order j zero h = absurd (omega arith)
+  power-order j (suc i) h =
+      let r = power-rise i in
+      elim (ℕ-discrete j i) [
+        | yes e ↦ rw e r
+        | no e ↦ let l = power-order j i (omega arith) in omega arith
+      ]
 
 pub power-within : (u i : ℕ) → i % digitBits u ≤ 5
 power-within u i = let l = mod-lt i (bits-some u) in let m = bits-most u in omega arith
@@ -274,27 +311,100 @@ next-filled u g n {words} {end} filled e r o = record {
   ];
 }
 
-pub sum-filled : (u g i v : ℕ) {words end : List ℕ} {n a b p : ℕ} → Filled u g n words → v < 2 ^ (i % digitBits u) → n ≡ powerRow (digitBits u) i + v
-    → a ≡ powerRow (digitBits u) i - 2 ^ (i % digitBits u) + v → length end ≡ length words → p ≡ rest (64 * u) g (place (digitBits u) (powerRow (digitBits u) i))
-    → low (drop (n * u) end) u ≡ bitXor p (low (drop (a * u) words) u) → Only (n * u) u words end → b ≡ n + 1 → Filled u g b end
+-- A row that is written keeps what is there.
+next-begun : (u g n k : ℕ) {words end : List ℕ} → Begun u g n k words → length end ≡ length words → rowOf u end n ≡ rest (64 * u) g (place (digitBits u) n)
+    → Only (n * u) u words end → Begun u g (n + 1) k end
+next-begun u g n k {words} {end} begun e r o = record {
+  filled = next-filled u g n (begun .filled) e r o;
+  powers = λ i h. elim (ℕ-discrete (powerRow (digitBits u) i) n) [
+    | yes z ↦ rw z r ∙ ap (rest (64 * u) g) (sym (ap (place (digitBits u)) z) ∙ power-place (digitBits u) (bits-some u) i)
+    | no z ↦ row-kept u (powerRow (digitBits u) i) n z o ∙ begun .powers i h
+  ];
+}
+
+-- Row 1 is that of 2^0.
+pub begun-first : (u g : ℕ) {words : List ℕ} → Filled u g 2 words → Begun u g 2 1 words
+begun-first u g {words} filled = record { filled = filled; powers = λ i h. first i (omega arith) }
+  where
+    first : (i : ℕ) → i ≡ 0 → rowOf u words (powerRow (digitBits u) i) ≡ rest (64 * u) g (2 ^ i)
+    first i z =
+        let t : 2 ^ (0 % digitBits u) ≡ 1 = rw (zero-mod (digitBits u)) (omega arith) in
+        let e : powerRow (digitBits u) 0 ≡ 1 = (let p = power-first u in omega arith) in
+        rw z (rw e (filled .rows 1 (omega arith) ∙ ap (rest (64 * u) g) (place-first (digitBits u) 1 (bits-some u) (omega arith))))
+
+-- The row of one more power.
+pub power-begun : (u g i : ℕ) {words end : List ℕ} {x h b : ℕ} → Begun u g 2 i words → 0 < i → h ≡ powerRow (digitBits u) i → length end ≡ length words
+    → low (drop (h * u) end) u ≡ x → x ≡ rest (64 * u) g (2 ^ i) → Only (h * u) u words end → b ≡ i + 1 → Begun u g 2 b end
 unfolding rowOf
-sum-filled u g i v {words} {end} {n} {a} {b} filled h en ea el er ex o eb =
+power-begun u g i {words} {end} {x} {h} begun some eh el ex er o eb = rw eb (record {
+  filled = record {
+    wide = begun .filled .wide;
+    size = rw el (begun .filled .size);
+    monic = begun .filled .monic;
+    rows = λ v l. row-kept u v h (λ z. (let p = above in omega arith)) o ∙ begun .filled .rows v l;
+  };
+  powers = λ j l. elim (ℕ-discrete j i) [
+    | yes z ↦ rw (z, ← eh) (ex ∙ er)
+    | no z ↦ row-kept u (powerRow (digitBits u) j) h (λ y. (let q = power-order (digitBits u) (bits-some u) j i (omega arith) in omega arith)) o ∙ begun .powers j (omega arith)
+  ];
+})
+  where
+    above : 1 < h
+    above =
+        let q = power-order (digitBits u) (bits-some u) 0 i some in
+        let p = power-first u in
+        let e : 2 ^ (0 % digitBits u) ≡ 1 = rw (zero-mod (digitBits u)) (omega arith) in
+        omega arith
+
+-- The row of a power of 2 is there already.
+pub power-there : (u g i : ℕ) {words : List ℕ} → Begun u g (powerRow (digitBits u) i) 64 words → i < 64 → Begun u g (powerRow (digitBits u) i + 1) 64 words
+power-there u g i begun h = record {
+  filled = record {
+    wide = begun .filled .wide;
+    size = begun .filled .size;
+    monic = begun .filled .monic;
+    rows = λ v l. elim (ℕ-discrete v (powerRow (digitBits u) i)) [
+      | yes z ↦ rw z (begun .powers i h ∙ ap (rest (64 * u) g) (sym (power-place (digitBits u) (bits-some u) i)))
+      | no z ↦ begun .filled .rows v (omega arith)
+    ];
+  };
+  powers = begun .powers;
+}
+
+-- That row as it is read into a register.
+pub power-read : (u g i n : ℕ) {words : List ℕ} {h r z : ℕ} → Begun u g n 64 words → i < 64 → h ≡ powerRow (digitBits u) i → z ≡ 0
+    → r ≡ bitXor (low (drop (h * u) words) u) z → r ≡ rest (64 * u) g (2 ^ i)
+unfolding rowOf
+power-read u g i n {words} {h} {r} {z} begun l eh ez er =
+    let e : bitXor (low (drop (h * u) words) u) z ≡ low (drop (h * u) words) u = rw ez (xor-zero-r (low (drop (h * u) words) u)) in
+    let f : low (drop (h * u) words) u ≡ rest (64 * u) g (2 ^ i) = rw eh (begun .powers i l) in
+    er ∙ e ∙ f
+
+-- Such a row plus another one.
+pub sum-begun : (u g i v : ℕ) (ws : List ℕ) {words end : List ℕ} {n a b p : ℕ} → Begun u g n 64 words → u ≤ length ws → n < rowsOf u → v < 2 ^ (i % digitBits u)
+    → n ≡ powerRow (digitBits u) i + v → a ≡ powerRow (digitBits u) i - 2 ^ (i % digitBits u) + v → length end ≡ length words → p ≡ rest (64 * u) g (2 ^ i)
+    → register ws ≡ bitXor (low (drop (a * u) words) u) p → low (drop (n * u) end) u ≡ low ws u → Only (n * u) u words end → b ≡ n + 1 → Begun u g b 64 end
+unfolding rowOf
+sum-begun u g i v ws {words} {end} {n} {a} {b} {p} begun len inside h en ea el er ex es o eb =
     let c : ℕ = digitBits u in
     let q : 0 < 2 ^ (i % c) = pow-pos (i % c) in
     let s : 2 ^ (i % c) ≤ powerRow c i = power-holds c i refl in
-    let x : low (drop (a * u) words) u ≡ rest (64 * u) g (place c a) = filled .rows a (omega arith) in
-    let y : low (drop (n * u) end) u ≡ rest (64 * u) g (place c n) =
-    ex ∙ ap₂ bitXor er x ∙ sym (rest-xor (64 * u) g (place c (powerRow c i)) (place c a)) ∙ ap (rest (64 * u) g) (rw (ea, en) (sym (power-sum c (bits-some u) i v h))) in
-    rw eb (next-filled u g n filled el y o)
+    let f = begun .filled in
+    let y : low (drop (a * u) words) u ≡ rest (64 * u) g (place c a) = f .rows a (omega arith) in
+    let z : p ≡ rest (64 * u) g (place c (powerRow c i)) = er ∙ ap (rest (64 * u) g) (sym (power-place c (bits-some u) i)) in
+    let x : register ws ≡ rest (64 * u) g (place c n) =
+    ex ∙ xor-comm (low (drop (a * u) words) u) p ∙ ap₂ bitXor z y ∙ sym (rest-xor (64 * u) g (place c (powerRow c i)) (place c a))
+    ∙ ap (rest (64 * u) g) (rw (ea, en) (sym (power-sum c (bits-some u) i v h))) in
+    let w = wide-some (f .wide) in
+    let k : register ws < 2 ^ (64 * u) = rw x (rest-below (64 * u) g (omega arith) (f .monic) (place c n) (place-below (f .wide) n inside)) in
+    rw eb (next-begun u g n 64 begun el (es ∙ sym (register-short ws u len k) ∙ x) o)
 
-pub zero-filled : (u g n : ℕ) {words end : List ℕ} {b p : ℕ} → Filled u g n words → 0 < n → place (digitBits u) n ≡ 0 → length end ≡ length words
-    → p ≡ 0 → low (drop (n * u) end) u ≡ bitXor p (low words u) → Only (n * u) u words end → b ≡ n + 1 → Filled u g b end
+pub zero-begun : (u g n : ℕ) {words end : List ℕ} {b x : ℕ} → Begun u g n 64 words → place (digitBits u) n ≡ 0 → length end ≡ length words
+    → low (drop (n * u) end) u ≡ x → x ≡ 0 → Only (n * u) u words end → b ≡ n + 1 → Begun u g b 64 end
 unfolding rowOf
-zero-filled u g n {words} {end} filled h z el er ex o eb =
-    let f : low (drop (0 * u) words) u ≡ 0 = filled .rows 0 h ∙ ap (rest (64 * u) g) (place-first (digitBits u) 0 (bits-some u) (omega arith)) ∙ rest-zero (64 * u) g in
-    let f0 : low words u ≡ 0 = rw (zero-mul u) at f in
-    let y : low (drop (n * u) end) u ≡ rest (64 * u) g (place (digitBits u) n) = ex ∙ rw (er, f0, z) (sym (rest-zero (64 * u) g)) in
-    rw eb (next-filled u g n filled el y o)
+zero-begun u g n {words} {end} begun z el ex er o eb =
+    let y : low (drop (n * u) end) u ≡ rest (64 * u) g (place (digitBits u) n) = ex ∙ er ∙ rw z (sym (rest-zero (64 * u) g)) in
+    rw eb (next-begun u g n 64 begun el y o)
 
 -- The remainder of twice a number: c is the highest digit of that of the number, r.
 pub double-filled : (u g n : ℕ) {words : List ℕ} → Filled u g n words → 1 < n → (v : ℕ) → v * 2 < 2 ^ 64 → {r c x y : ℕ} → r ≡ rest (64 * u) g v → c ≡ bit r (64 * u - 1)
@@ -310,10 +420,10 @@ double-filled u g n {words} filled some v hv {r} {c} {x} er ec ex ey =
     ey ∙ ap (λ y. bitXor y x) w ∙ sym (rest-double (64 * u) g (omega arith) (filled .monic) v (omega arith) (ec ∙ ap (λ y. bit y (64 * u - 1)) er) q)
 
 -- The first two rows: zero, and the divisor.
-pub start-filled : (u : ℕ) (divisor : List ℕ) {mid end : List ℕ} → Words divisor → RowWords u → rowsOf u * u ≤ length end
-    → low mid u ≡ 0 → low (drop u end) u ≡ bitXor (low divisor u) (low mid u) → Only u u mid end → Filled u (2 ^ (64 * u) + low divisor u) 2 end
+pub start-filled : (u : ℕ) (divisor : List ℕ) {mid end : List ℕ} {x : ℕ} → Words divisor → RowWords u → rowsOf u * u ≤ length end
+    → low mid u ≡ x → x ≡ 0 → low (drop u end) u ≡ low divisor u → Only u u mid end → Filled u (2 ^ (64 * u) + low divisor u) 2 end
 unfolding rowOf
-start-filled u divisor {mid} {end} hw wide size e0 e1 o = record { wide = wide; size = size; monic = monic; rows = row }
+start-filled u divisor {mid} {end} hw wide size e0 z0 e1 o = record { wide = wide; size = size; monic = monic; rows = row }
   where
     g : ℕ
     g = 2 ^ (64 * u) + low divisor u
@@ -322,16 +432,13 @@ start-filled u divisor {mid} {end} hw wide size e0 e1 o = record { wide = wide; 
     monic = divisor-monic u (low divisor u) (low-lt divisor hw u)
 
     first : low end u ≡ 0
-    first = only-apart 0 u u (before (omega arith)) o u (omega arith) ∙ e0
-
-    second : low (drop u end) u ≡ low divisor u
-    second = e1 ∙ rw e0 (xor-zero-r (low divisor u))
+    first = only-apart 0 u u (before (omega arith)) o u (omega arith) ∙ e0 ∙ z0
 
     row : (v : ℕ) → v < 2 → rowOf u end v ≡ rest (64 * u) g (place (digitBits u) v)
     row zero h = rw (place-first (digitBits u) 0 (bits-some u) h, zero-mul, rest-zero (64 * u) g) first
     row (suc zero) h =
         let s = wide-some wide in
-        rw (place-first (digitBits u) 1 (bits-some u) h, one-mul, rest-one (64 * u) g (omega arith) monic, divisor-rest u (low divisor u) (low-lt divisor hw u)) second
+        rw (place-first (digitBits u) 1 (bits-some u) h, one-mul, rest-one (64 * u) g (omega arith) monic, divisor-rest u (low divisor u) (low-lt divisor hw u)) e1
     row (suc (suc v)) h = absurd (omega arith)
 
 -- The row that is doubled: that of 1 first.

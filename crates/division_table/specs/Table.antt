@@ -15,7 +15,8 @@
 -- rowOf u words v        the number in row v of a table
 -- divisorOf u words      the divisor of a table: its row 1, and x^(64u)
 -- Filled u g n words     the first n rows are the remainders by g of their numbers, moved up to the degree of g
--- Rests u words          that holds for all rows and the divisor of the table
+-- Begun u g n k words    that holds, and the rows of 2^0 to 2^(k-1) are there
+-- Rests u words          the first holds for all rows and the divisor of the table
 -- Apart a b n            n words from a on and n words from b on do not overlap
 -- Only at n before after  nothing but n words from `at` on has changed
 -- Table f t words        the divisor is the generator of the level t, moved up
@@ -68,6 +69,11 @@ pub record Filled (u g n : ℕ) (words : List ℕ) : Type 0 where
   pub size : rowsOf u * u ≤ length words
   pub monic : g / 2 ^ (64 * u) ≡ 1
   pub rows : (v : ℕ) → v < n → rowOf u words v ≡ rest (64 * u) g (place (digitBits u) v)
+
+-- The table while it is made.
+pub record Begun (u g n k : ℕ) (words : List ℕ) : Type 0 where
+  pub filled : Filled u g n words
+  pub powers : (i : ℕ) → i < k → rowOf u words (powerRow (digitBits u) i) ≡ rest (64 * u) g (2 ^ i)
 
 abbrev pub Rests : ℕ → List ℕ → Type 0
 Rests u words = Filled u (divisorOf u words) (rowsOf u) words

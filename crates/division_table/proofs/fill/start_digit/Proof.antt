@@ -1,10 +1,12 @@
 use Prim.Native.Nat.{_*_, _/_}
 use mathlib.Core.Path.{_≡_}
 use native.Mathlib.Omega.{arith}
-use native.Mathlib.Nat.{zero-mul, div-le-self}
-use Rattle.remainder.proofs.Words.{zeros-low}
+use native.Mathlib.Nat.{div-le-self}
+use lib.ListN.{length}
+use Rattle.code.specs.Register.{low}
+use Rattle.remainder.proofs.Words.{low-register}
 use Rattle.division_table.specs.Table.{digitBits}
-use Rattle.division_table.proofs.Filling.{wide-most, bits-some, bits-most, digit-small, row-inside, row-product, rows-apart, digit-begins, digit-later, zero-filled}
+use Rattle.division_table.proofs.Filling.{wide-most, bits-some, bits-most, digit-small, row-inside, row-product, digit-begins, digit-later, zero-begun}
 use borrow.Author.Needs.{needs}
 use Rattle.division_table.proofs.fill.start_digit.Statement.{statement}
 use Rattle.division_table.proofs.fill.start_digit.Tie as tie
@@ -30,38 +32,45 @@ mul-first c =
     let m = digit-small b (i / b) (rw (d .digit-bits .ensures) (bits-most _)) (c .power .ensures) (omega arith) in
     record { fits = omega arith }
 
-mul-add-words : tie.Need-mul-add-words
-mul-add-words c =
-    let p = c .before in
-    let d = p .before .before in
-    let a = d .before .before in
-    let x = digit-begins (a .pre .0 .wide) (a .args .i) (a .pre .1) (a .pre .2) (d .digit-bits .ensures) (p .power .ensures) (p .before .if1 .taken) in
-    record { fits = row-product _ (a .pre .0 .wide) (x .inside) }
+zero-requires : tie.Need-zero-requires
+zero-requires c κs = search needs
 
-add-words-requires : tie.Need-add-words-requires
-add-words-requires c κs =
-    let p = c .before in
+mul-store-row : tie.Need-mul-store-row
+mul-store-row c =
+    let p = c .before .before in
     let d = p .before .before in
     let a = d .before .before in
-    let u = a .args .used in
-    let f = a .pre .0 in
+    let f = a .pre .0 .filled in
     let x = digit-begins (f .wide) (a .args .i) (a .pre .1) (a .pre .2) (d .digit-bits .ensures) (p .power .ensures) (p .before .if1 .taken) in
-    let s = x .some in
-    let i = row-inside _ u _ (x .inside) (f .size) in
-    (wide-most (f .wide), omega arith, i, rw (zero-mul u) at (rows-apart 0 (p .power .result * (a .args .i / d .digit-bits .result)) u (λ z. omega arith)))
+    record { fits = row-product _ (f .wide) (x .inside) }
+
+store-row-requires : tie.Need-store-row-requires
+store-row-requires c κs =
+    let p = c .before .before in
+    let d = p .before .before in
+    let a = d .before .before in
+    let f = a .pre .0 .filled in
+    let x = digit-begins (f .wide) (a .args .i) (a .pre .1) (a .pre .2) (d .digit-bits .ensures) (p .power .ensures) (p .before .if1 .taken) in
+    (wide-most (f .wide), row-inside _ (a .args .used) _ (x .inside) (f .size))
 
 same-length : tie.Need-same-length
 same-length c = search needs
 
 returns : tie.Need-returns
 returns c =
-    let q = c .before .before in
-    let p = q .before .before in
+    let q = c .before .before .store-row in
+    let z = c .before .before .before .zero in
+    let p = c .before .before .before .before .before in
     let d = p .before .before in
     let a = d .before .before in
-    let f = a .pre .0 in
+    let f = a .pre .0 .filled in
     let x = digit-begins (f .wide) (a .args .i) (a .pre .1) (a .pre .2) (d .digit-bits .ensures) (p .power .ensures) (p .before .if1 .taken) in
-    zero-filled (a .args .used) _ _ (rw (x .next) at f) (x .some) (x .zero-there) (q .add-words .kept .0) (zeros-low 14 (a .args .used)) (q .add-words .ensures .0) (q .add-words .ensures .1) (x .then)
+    let ok = z .ok in
+    let len : length (z .result .words) ≡ 14 = search needs in
+    let m = wide-most (f .wide) in
+    let l = low-register (z .result .words) (a .args .used) (omega arith) in
+    let e : low (z .result .words) (a .args .used) ≡ 0 = (let y = z .ensures in omega arith) in
+    zero-begun (a .args .used) _ _ (rw (x .next) at (a .pre .0)) (x .zero-there) (q .kept .0) (q .ensures .0) e (q .ensures .1) (x .then)
 
 returns-2 : tie.Need-returns-2
 returns-2 c =
@@ -80,8 +89,9 @@ start-digit-spec =
     power-requires
     div-first
     mul-first
-    mul-add-words
-    add-words-requires
+    zero-requires
+    mul-store-row
+    store-row-requires
     same-length
     returns
     returns-2)
