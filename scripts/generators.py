@@ -90,8 +90,8 @@ def array(row, indent):
     return "[\n" + "".join(f"{indent}    {literal(word)},\n" for word in row) + f"{indent}]"
 
 
-def first_name(ecc):
-    return "row" if ecc == 0 else f"row_from_{2 * ecc}" if ecc < MOST else f"row_of_{2 * MOST}"
+def first_name(m, ecc):
+    return f"row{m}" if ecc == 0 else f"row{m}_from_{2 * ecc}" if ecc < MOST else f"row{m}_of_{2 * MOST}"
 
 
 def function(m, rows, first):
@@ -103,12 +103,12 @@ def function(m, rows, first):
     arms = "".join(f"        {ecc} => {array(rows[ecc], ' ' * 8)},\n" for ecc in range(first, after))
     return f"""
 // {about} of t = {levels}.
-{"pub " if first == 0 else ""}fn {first_name(first)}(ecc: usize) -> [u64; {WORDS}]
+{"pub " if first == 0 else ""}fn {first_name(m, first)}(ecc: usize) -> [u64; {WORDS}]
     requires {{ ⌜ {asked} ⌝ }}
     ensures {{ λ r. ⌜ r ≡ getD {NAMES[m]} ecc [] ⌝ }}
 {{
     match ecc {{
-{arms}        _ => {first_name(after)}(ecc),
+{arms}        _ => {first_name(m, after)}(ecc),
     }}
 }}
 """
@@ -127,7 +127,7 @@ ghost use Rattle.generators.specs.Rows.{{{NAMES[m]}}};
         + "".join(function(m, rows, first) for first in range(0, MOST, ARMS))
         + f"""
 // That of t = {2 * MOST}.
-fn {first_name(MOST)}(ecc: usize) -> [u64; {WORDS}]
+fn {first_name(m, MOST)}(ecc: usize) -> [u64; {WORDS}]
     requires {{ ⌜ ecc ≡ {MOST} ⌝ }}
     ensures {{ λ r. ⌜ r ≡ getD {NAMES[m]} ecc [] ⌝ }}
 {{

@@ -1,6 +1,6 @@
 // Copying n bits from any position of one slice to any position of another: whole bytes of the target at once, the odd bits at both ends apart.
 ghost use mathlib.Core.Path.{_≡_};
-ghost use Prim.Native.Nat.{_+_, _*_, _%_, _≤_, _<_};
+ghost use Prim.Native.Nat.{_+_, _-_, _*_, _%_, _≤_, _<_};
 ghost use lib.ListN.{length};
 ghost use Rattle.bits.specs.Bits.{bitOf, run, placed, Inside};
 use super::write::put_number;
@@ -60,6 +60,14 @@ fn copy_bytes(from: &[u8], at: usize, to: &mut [u8], position: usize, count: usi
     }
 }
 
+// The bits of a run of n that are left after the first `done`.
+fn copy_rest(from: &[u8], at: usize, to: &mut [u8], position: usize, n: usize, done: usize)
+    requires { ⌜ (done ≤ n) × (at + n < 18446744073709551616) × (position + n < 18446744073709551616) × ((position + done) % 8 + (n - done) ≤ 8) ⌝ }
+    ensures { λ r. ⌜ now (to .exit) ≡ placed (now (to .entry)) (position + done) (run (bitOf (now (from .entry))) (at + done) (n - done)) ⌝ }
+{
+    copy_part(from, at + done, to, position + done, n - done);
+}
+
 // Copies n bits from a position of one slice to a position of another.
 pub fn copy_bits(from: &[u8], at: usize, to: &mut [u8], position: usize, n: usize)
     requires { ⌜ Inside (now from) at n × Inside (now to) position n ⌝ }
@@ -74,5 +82,5 @@ pub fn copy_bits(from: &[u8], at: usize, to: &mut [u8], position: usize, n: usiz
     let count = (n - head) / 8;
     copy_bytes(from, at + head, to, position + head, count);
     let done = head + 8 * count;
-    copy_part(from, at + done, to, position + done, n - done);
+    copy_rest(from, at, to, position, n, done);
 }

@@ -2,7 +2,7 @@
 --
 -- block-locatable                     a block has room for its parity
 -- erasedAt-range                      the count of a block with no codeword near is no number of flips, and fits a byte
--- erasedAt-few, erasedAt-many         this count, from the zeros counted up to t + 1
+-- erasedAt-counted                    this count, from the zeros counted up to t + 1
 -- countAt-located, countAt-nowhere    the count of a block by what was found for it
 use mathlib.Core.Path.{_≡_, ap, _∙_}
 use mathlib.Core.Bool.{true, false}
@@ -39,7 +39,7 @@ module _ (q : Plan) (page : List ℕ) where
     ]
 
   -- the count of an erased block, from its zeros counted up to t + 1
-  pub erasedAt-few : (b : ℕ) {z t : ℕ} → t ≡ level q b → z ≡ zerosTo (t + 1) (blockWord q page b) → z ≤ t → 128 + z ≡ erasedAt q page b
+  erasedAt-few : (b : ℕ) {z t : ℕ} → t ≡ level q b → z ≡ zerosTo (t + 1) (blockWord q page b) → z ≤ t → 128 + z ≡ erasedAt q page b
   unfolding erasedAt erasedCount
   erasedAt-few b {z} {t} et ez l =
       let w = blockWord q page b in
@@ -47,12 +47,19 @@ module _ (q : Plan) (page : List ℕ) where
       let s : z ≡ zeros w = ez ∙ ap (λ n. zerosTo n w) (add-one t) ∙ zerosTo-few t w k in
       rw (le-leb (zeros w) (level q b) (omega arith)) (ap (λ n. 128 + n) s)
 
-  pub erasedAt-many : (b : ℕ) {z t : ℕ} → t ≡ level q b → z ≡ zerosTo (t + 1) (blockWord q page b) → t < z → 255 ≡ erasedAt q page b
+  erasedAt-many : (b : ℕ) {z t : ℕ} → t ≡ level q b → z ≡ zerosTo (t + 1) (blockWord q page b) → t < z → 255 ≡ erasedAt q page b
   unfolding erasedAt
   erasedAt-many b {z} {t} et ez l =
       let w = blockWord q page b in
       let m = zerosTo-many t w (rw (ez, add-one t) at l) in
       rw (lt-leb (zeros w) (level q b) (omega arith))
+
+  pub erasedAt-counted : (b : ℕ) {z t n : ℕ} → t ≡ level q b → z ≡ zerosTo (t + 1) (blockWord q page b)
+      → (z ≤ t → n ≡ 128 + z) → (t < z → n ≡ 255) → n ≡ erasedAt q page b
+  erasedAt-counted b {z} {t} et ez few many = elim (decLe z t) [
+    | yes l ↦ few l ∙ erasedAt-few b et ez l
+    | no l ↦ (let m : t < z = omega arith in many m ∙ erasedAt-many b et ez m)
+  ]
 
 module _ (q : Plan) (page : List ℕ) (b : ℕ) (r : Found) {n : ℕ} where
   pub countAt-located : r .located ≡ true → n ≡ r .count → n ≡ countAt q page b r

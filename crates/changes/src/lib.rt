@@ -7,6 +7,7 @@
 // specs/Lines.antt has the definitions; proofs/Showing.antt the laws: the change is exact, and the line by two counts is the one that the outcomes of
 // the two blocks say.
 ghost use mathlib.Core.Path.{_≡_};
+ghost use mathlib.Core.Bool.{true, false};
 ghost use lib.IntN.{natAbs};
 ghost use Rattle.changes.specs.Lines.{flipsOf, difference, changeOf, lineOf};
 
@@ -29,11 +30,18 @@ pub struct BlockLine {
     pub change: Change,
 }
 
+// Whether a count is that of a ruined block.
+fn is_ruined(count: u8) -> bool
+    ensures { λ r. ⌜ (r ≡ true → count ≡ 255) × (r ≡ false → count ≡ 255 → ⊥) ⌝ }
+{
+    count == 255
+}
+
 // What is shown of a block by its count.
 fn flips_of(count: u8) -> Flips
     ensures { λ r. ⌜ r ≡ flipsOf count ⌝ }
 {
-    if count == 255 {
+    if is_ruined(count) {
         return Flips::Ruined;
     }
     if count < 128 {

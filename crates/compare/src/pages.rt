@@ -13,11 +13,19 @@ use replies::Refusal;
 use replies::Verdict;
 ghost use mathlib.Core.Path.{_≡_};
 ghost use lib.ListN.{length};
+ghost use lib.Dec.{leb};
 ghost use Rattle.replies.specs.Replies.{verdictNumber};
 ghost use Rattle.layout_plan.specs.Record.{wordsOf};
 ghost use Rattle.page_theory.specs.Calls.{lookOf};
 ghost use Rattle.compare.specs.Calls.{pagesReply, countsReply, compared, compareNumber, compareLent, compareIn, compareOf, found, foundBy, differenceIn, differenceOf};
 ghost use Rattle.compare.specs.Steps.{Under};
+
+// Whether pages of a size are compared.
+fn is_compared(size: usize) -> bool
+    ensures { λ r. ⌜ r ≡ leb size 16384 ⌝ }
+{
+    size <= 16384
+}
 
 // What the lengths of two pages are refused for.
 fn pages_reply(plan: Plan, first: usize, second: usize) -> Verdict
@@ -30,7 +38,7 @@ fn pages_reply(plan: Plan, first: usize, second: usize) -> Verdict
     if second != size {
         return Verdict::Refused(Refusal::PageLength);
     }
-    if 16384 < size {
+    if !is_compared(size) {
         return Verdict::Refused(Refusal::BufferLength);
     }
     Verdict::Passed

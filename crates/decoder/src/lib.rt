@@ -13,7 +13,8 @@
 // 4. All roots are rechecked over the code: their power sums must be the syndromes. So neither locator nor proposal is trusted, and
 //    no exponent at or above n is reported.
 ghost use mathlib.Core.Path.{_≡_};
-ghost use Prim.Native.Nat.{_≤_};
+ghost use mathlib.Core.Bool.{true, false};
+ghost use Prim.Native.Nat.{_≤_, _<_};
 ghost use lib.ListN.{length, take};
 ghost use Rattle.field.specs.Field.{longest};
 ghost use Rattle.powers.specs.Powers.{Powers};
@@ -60,6 +61,13 @@ fn place(p: u16) -> usize
     p as usize
 }
 
+// Whether a place is below a bound.
+fn is_below(p: usize, bound: usize) -> bool
+    ensures { λ r. ⌜ (r ≡ true → p < bound) × (r ≡ false → bound ≤ p) ⌝ }
+{
+    p < bound
+}
+
 // Whether the first `count` places of a list descend from below n.
 fn descend_below(places: &[u16; 64], count: usize, n: usize) -> bool
     requires { ⌜ count ≤ 64 ⌝ }
@@ -69,7 +77,7 @@ fn descend_below(places: &[u16; 64], count: usize, n: usize) -> bool
     let mut k: usize = 0;
     while k < count {
         let p = place(places[k]);
-        if bound <= p {
+        if !is_below(p, bound) {
             return false;
         }
         bound = p;

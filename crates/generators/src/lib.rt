@@ -25,7 +25,7 @@ pub fn generator_row(f: Field, ecc: usize) -> [u64; 14]
     ensures { λ r. ⌜ register r ≡ generator f (2 * ecc) ⌝ }
 {
     match f {
-        Field::Thirteen => thirteen::row(ecc),
-        Field::Fourteen => fourteen::row(ecc),
+        Field::Thirteen => thirteen::row13(ecc),
+        Field::Fourteen => fourteen::row14(ecc),
     }
 }

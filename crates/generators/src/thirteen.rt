@@ -6,7 +6,7 @@ ghost use lib.ListN.{getD};
 ghost use Rattle.generators.specs.Rows.{thirteen};
 
 // The row of a level field: here those of t = 0, 2, 4, 6, 8, 10.
-pub fn row(ecc: usize) -> [u64; 14]
+pub fn row13(ecc: usize) -> [u64; 14]
     requires { ⌜ ecc ≤ 31 ⌝ }
     ensures { λ r. ⌜ r ≡ getD thirteen ecc [] ⌝ }
 {
@@ -62,12 +62,12 @@ pub fn row(ecc: usize) -> [u64; 14]
             0,
             0,
         ],
-        _ => row_from_12(ecc),
+        _ => row13_from_12(ecc),
     }
 }
 
 // Those of t = 12, 14, 16, 18, 20, 22.
-fn row_from_12(ecc: usize) -> [u64; 14]
+fn row13_from_12(ecc: usize) -> [u64; 14]
     requires { ⌜ (6 ≤ ecc) × (ecc ≤ 31) ⌝ }
     ensures { λ r. ⌜ r ≡ getD thirteen ecc [] ⌝ }
 {
@@ -168,12 +168,12 @@ fn row_from_12(ecc: usize) -> [u64; 14]
             0,
             0,
         ],
-        _ => row_from_24(ecc),
+        _ => row13_from_24(ecc),
     }
 }
 
 // Those of t = 24, 26, 28, 30, 32, 34.
-fn row_from_24(ecc: usize) -> [u64; 14]
+fn row13_from_24(ecc: usize) -> [u64; 14]
     requires { ⌜ (12 ≤ ecc) × (ecc ≤ 31) ⌝ }
     ensures { λ r. ⌜ r ≡ getD thirteen ecc [] ⌝ }
 {
@@ -274,12 +274,12 @@ fn row_from_24(ecc: usize) -> [u64; 14]
             0,
             0,
         ],
-        _ => row_from_36(ecc),
+        _ => row13_from_36(ecc),
     }
 }
 
 // Those of t = 36, 38, 40, 42, 44, 46.
-fn row_from_36(ecc: usize) -> [u64; 14]
+fn row13_from_36(ecc: usize) -> [u64; 14]
     requires { ⌜ (18 ≤ ecc) × (ecc ≤ 31) ⌝ }
     ensures { λ r. ⌜ r ≡ getD thirteen ecc [] ⌝ }
 {
@@ -380,12 +380,12 @@ fn row_from_36(ecc: usize) -> [u64; 14]
             0,
             0,
         ],
-        _ => row_from_48(ecc),
+        _ => row13_from_48(ecc),
     }
 }
 
 // Those of t = 48, 50, 52, 54, 56, 58.
-fn row_from_48(ecc: usize) -> [u64; 14]
+fn row13_from_48(ecc: usize) -> [u64; 14]
     requires { ⌜ (24 ≤ ecc) × (ecc ≤ 31) ⌝ }
     ensures { λ r. ⌜ r ≡ getD thirteen ecc [] ⌝ }
 {
@@ -486,12 +486,12 @@ fn row_from_48(ecc: usize) -> [u64; 14]
             0,
             0,
         ],
-        _ => row_from_60(ecc),
+        _ => row13_from_60(ecc),
     }
 }
 
 // That of t = 60.
-fn row_from_60(ecc: usize) -> [u64; 14]
+fn row13_from_60(ecc: usize) -> [u64; 14]
     requires { ⌜ (30 ≤ ecc) × (ecc ≤ 31) ⌝ }
     ensures { λ r. ⌜ r ≡ getD thirteen ecc [] ⌝ }
 {
@@ -512,12 +512,12 @@ fn row_from_60(ecc: usize) -> [u64; 14]
             0x1063,
             0,
         ],
-        _ => row_of_62(ecc),
+        _ => row13_of_62(ecc),
     }
 }
 
 // That of t = 62.
-fn row_of_62(ecc: usize) -> [u64; 14]
+fn row13_of_62(ecc: usize) -> [u64; 14]
     requires { ⌜ ecc ≡ 31 ⌝ }
     ensures { λ r. ⌜ r ≡ getD thirteen ecc [] ⌝ }
 {

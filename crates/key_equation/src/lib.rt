@@ -5,7 +5,9 @@
 // A word of bits has power sums of which every second is a square. So every second discrepancy is zero, and a step takes two terms.
 // Products go by the tables of powers and logarithms that the caller lends. Sums stop at the length in use; past it all is zero.
 // The laws of the algorithm are those of crate `algebra`; proofs/KeyEquation.antt carries them over to numbers.
-ghost use Prim.Native.Nat.{suc, _+_, _<_, _≤_};
+ghost use mathlib.Core.Path.{_≡_};
+ghost use mathlib.Core.Bool.{true, false};
+ghost use Prim.Native.Nat.{suc, _+_, _-_, _<_, _≤_};
 ghost use Rattle.algebra.specs.Array.{dot, Holds};
 ghost use Rattle.field.specs.Tables.{Tables};
 ghost use Rattle.field.proofs.Instance.{gf, num};
@@ -59,6 +61,23 @@ fn discrepancy(
     sum
 }
 
+// Whether a recurrence that fails at k keeps its length.
+fn keeps_length(k: usize, len: usize) -> bool
+    requires { ⌜ (len ≤ k) × (k < 128) ⌝ }
+    ensures { λ r. ⌜ (r ≡ true → k < len + len) × (r ≡ false → len + len ≤ k) ⌝ }
+{
+    let twice = len + len;
+    k < twice
+}
+
+// The length of a recurrence that failed at k and was too short.
+fn grown_length(k: usize, len: usize) -> usize
+    requires { ⌜ (len ≤ k) × (k < 128) ⌝ }
+    ensures { λ r. ⌜ r ≡ k + 1 - len ⌝ }
+{
+    k + 1 - len
+}
+
 // One step of the algorithm, by the power sums 2h and 2h + 1.
 fn step(
     f: Field,
@@ -91,7 +110,7 @@ fn step(
     }
     let e = quotient(f, powers, logs, d, b);
     let terms = k + 2 - len - gap;
-    if k < len + len {
+    if keeps_length(k, len) {
         mix(f, powers, logs, c, u, e, gap, terms);
         let wider = gap + 2;
         return Numbers {
@@ -103,7 +122,7 @@ fn step(
     let before = *c;
     mix(f, powers, logs, c, u, e, gap, terms);
     *u = before;
-    let grown = k + 1 - len;
+    let grown = grown_length(k, len);
     Numbers {
         b: d,
         len: grown,

@@ -18,6 +18,13 @@ ghost use Rattle.page_theory.specs.Calls.{claimEnded, claimIn, claimFor, claimO
 ghost use Rattle.page_plan.specs.Plans.{Planned, Ready, Sound};
 ghost use Rattle.page_claim.specs.Answers.{claimNumber};
 
+// The answer to a wrong claim.
+fn wrong() -> ClaimAnswer
+    ensures { λ r. ⌜ claimNumber r ≡ 10 ⌝ }
+{
+    ClaimAnswer::Refused(Refusal::ClaimWrong)
+}
+
 // Answers to a claim about a block of a page of the right length.
 fn claim_lent(plan: Plan, page: &[u8], block: u16, claims: &[u16]) -> ClaimAnswer
     requires { ⌜ (Ready plan (now page)) × (block < plan .blocks) ⌝ }
@@ -28,7 +35,7 @@ fn claim_lent(plan: Plan, page: &[u8], block: u16, claims: &[u16]) -> ClaimAnswe
     if is_right(shape, plan.mark, page, position, claims) {
         return ClaimAnswer::Accepted;
     }
-    ClaimAnswer::Refused(Refusal::ClaimWrong)
+    wrong()
 }
 
 // Answers to a claim under the plan of an accepted layout.

@@ -67,15 +67,21 @@ module _ (q : Plan) where
     joined-start m d a b =
         record { metadata = refl; «data» = refl; both = sym (placed-empty (m ++ d) 0 (rw (length-append m d) (bytes-append a b))) }
 
-    -- one message more, from the numbers of its block
-    pub joined-texts : (m d : List ℕ) {m₁ d₁ m₂ d₂ : List ℕ} (b : ℕ) {s p n : ℕ} → s ≡ start q b → p ≡ from q b → n ≡ bits q b
-        → Joined m d m₁ d₁ (placed (m ++ d) 0 (texts q page b)) → Joined m₁ d₁ m₂ d₂ (placed (m₁ ++ d₁) p (run (streamBit (q .mark) page) s n))
+    -- one message, from the numbers of its block
+    pub joined-message : {m d m' d' : List ℕ} (b : ℕ) {s p n : ℕ} → s ≡ start q b → p ≡ from q b → n ≡ bits q b
+        → Joined m d m' d' (placed (m ++ d) p (run (streamBit (q .mark) page) s n))
+        → Joined m d m' d' (placed (m ++ d) (from q b) (run (streamBit (q .mark) page) (start q b) (bits q b)))
+    joined-message b es ep en y = rw (es, ep, en) at y
+
+    -- one message more
+    pub joined-texts : (m d : List ℕ) {m₁ d₁ m₂ d₂ : List ℕ} (b : ℕ) → Joined m d m₁ d₁ (placed (m ++ d) 0 (texts q page b))
+        → Joined m₁ d₁ m₂ d₂ (placed (m₁ ++ d₁) (from q b) (run (streamBit (q .mark) page) (start q b) (bits q b)))
         → Joined m d m₂ d₂ (placed (m ++ d) 0 (texts q page (b + 1)))
     unfolding texts
-    joined-texts m d {m₁} {d₁} b es ep en x y = record {
+    joined-texts m d {m₁} {d₁} b x y = record {
       metadata = y .metadata ∙ x .metadata;
       «data» = y .«data» ∙ x .«data»;
-      both = y .both ∙ rw (es, ep, en, x .both)
+      both = y .both ∙ rw (x .both)
           (placed-append (m ++ d) 0 (from q b) (texts q page b) (run (streamBit (q .mark) page) (start q b) (bits q b)) (sym (zero-add _ ∙ texts-length b))
           ∙ rw (add-one b));
     }

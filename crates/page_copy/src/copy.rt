@@ -4,8 +4,9 @@ ghost use mathlib.Core.Path.{_≡_};
 ghost use mathlib.Core.List.{[], _∷_, _++_};
 ghost use Prim.Native.Nat.{_+_, _*_, _≤_, _<_};
 ghost use lib.ListN.{length};
-ghost use Rattle.bits.specs.Bits.{placed};
-ghost use Rattle.layout_plan.specs.Plan.{covered};
+ghost use Rattle.bits.specs.Bits.{run, placed};
+ghost use Rattle.mark.specs.Mark.{streamBit};
+ghost use Rattle.layout_plan.specs.Plan.{covered, start, from, bits};
 ghost use Rattle.code.specs.Word.{Below};
 ghost use Rattle.page_plan.specs.Plans.{Planned, Ready};
 ghost use Rattle.payload.specs.Payload.{Joined};
@@ -18,6 +19,21 @@ use layout_plan::block_start;
 use page_plan::message_start;
 use page_runs::read::copy_out;
 
+// Copies the message of a block out as it stands in the page.
+fn copy_message(plan: Plan, page: &[u8], block: u16, metadata: &mut [u8], data: &mut [u8])
+    requires { ⌜ (Ready plan (now page)) × (block < plan .blocks) × (length (now metadata) ≡ plan .metadata) × (length (now «data») ≡ plan .«data») ⌝ }
+    ensures { λ r. ⌜ Joined (now (metadata .entry)) (now («data» .entry)) (now (metadata .exit)) (now («data» .exit))
+        (placed (now (metadata .entry) ++ now («data» .entry)) (from plan block)
+        (run (streamBit (plan .mark) (now (page .entry))) (start plan block) (bits plan block))) ⌝ }
+{
+    let mark = plan.mark;
+    let shape = block_shape(plan, block);
+    let n = shape.message as usize;
+    let start = block_start(plan, block);
+    let position = message_start(plan, block);
+    copy_out(mark, page, start, metadata, data, position, n);
+}
+
 // Copies the messages of all blocks out as they stand in the page.
 pub fn copy_messages(plan: Plan, page: &[u8], metadata: &mut [u8], data: &mut [u8])
     requires { ⌜ (Ready plan (now page)) × (length (now metadata) ≡ plan .metadata) × (length (now «data») ≡ plan .«data») ⌝ }
@@ -25,14 +41,9 @@ pub fn copy_messages(plan: Plan, page: &[u8], metadata: &mut [u8], data: &mut [u
         (placed (now (metadata .entry) ++ now («data» .entry)) 0 (texts plan (now (page .entry)) (plan .blocks))) ⌝ }
 {
     let blocks = plan.blocks;
-    let mark = plan.mark;
     let mut b = 0;
     while b < blocks {
-        let shape = block_shape(plan, b);
-        let n = shape.message as usize;
-        let start = block_start(plan, b);
-        let position = message_start(plan, b);
-        copy_out(mark, page, start, metadata, data, position, n);
+        copy_message(plan, page, b, metadata, data);
         b += 1;
     }
 }

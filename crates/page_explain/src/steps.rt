@@ -1,5 +1,6 @@
 // The steps of the call `explain_block`: the lengths and the block number, the remainder, the decided block, the list.
 ghost use mathlib.Core.Path.{_≡_};
+ghost use mathlib.Core.Bool.{true, false};
 ghost use Prim.Native.Nat.{_≤_, _<_};
 ghost use lib.ListN.{length};
 ghost use Rattle.layout_plan.specs.Plan.{level};
@@ -32,6 +33,13 @@ fn wide(count: u8) -> usize
     count as usize
 }
 
+// Whether a count is that of a ruined block.
+fn is_ruined(count: u8) -> bool
+    ensures { λ r. ⌜ (r ≡ true → count ≡ 255) × (r ≡ false → count ≡ 255 → ⊥) ⌝ }
+{
+    count == 255
+}
+
 // Explains a decided block of the level t.
 fn explain_decided(
     plan: Plan,
@@ -48,7 +56,7 @@ fn explain_decided(
     let t = shape.level;
     let count = decided.count;
     let found = decided.found;
-    if count == 255 {
+    if is_ruined(count) {
         return BlockAnswer::Ruined {
             block: block,
             level: t,

@@ -1,5 +1,6 @@
 // Judging one block of a page.
 ghost use mathlib.Core.Path.{_≡_};
+ghost use mathlib.Core.Bool.{true, false};
 ghost use Prim.Native.Nat.{_<_};
 ghost use Rattle.code.specs.Register.{register};
 ghost use Rattle.layout_plan.specs.Record.{wordsOf};
@@ -39,6 +40,20 @@ pub fn own_remainder(plan: Plan, page: &[u8], block: u16) -> Register
     block_remainder(plan, page, &table, block)
 }
 
+// Whether a count is that of a ruined block.
+fn is_ruined(count: u8) -> bool
+    ensures { λ r. ⌜ (r ≡ true → count ≡ 255) × (r ≡ false → count ≡ 255 → ⊥) ⌝ }
+{
+    count == 255
+}
+
+// The answer to a ruined block.
+fn ruined(block: u16) -> JudgeAnswer
+    ensures { λ r. ⌜ judgeEnded (judgeNumber r) (judgeBlock r) (judgeFlips r) ≡ judgeEnded 9 block 0 ⌝ }
+{
+    JudgeAnswer::Refused(Refusal::Uncorrectable(block))
+}
+
 // Judges a damaged block: its count, or that it is ruined.
 fn judge_damaged(plan: Plan, page: &[u8], scan: Scan) -> JudgeAnswer
     requires { ⌜ (Ready plan (now page)) × (Left plan (now page) scan) ⌝ }
@@ -47,8 +62,8 @@ fn judge_damaged(plan: Plan, page: &[u8], scan: Scan) -> JudgeAnswer
     let decided = decide_alone(plan, page, scan);
     let count = decided.count;
     let block = scan.block;
-    if count == 255 {
-        return JudgeAnswer::Refused(Refusal::Uncorrectable(block));
+    if is_ruined(count) {
+        return ruined(block);
     }
     JudgeAnswer::Flips(count)
 }

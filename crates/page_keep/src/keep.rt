@@ -1,5 +1,6 @@
 // Deciding damaged blocks and keeping what repairs them.
 ghost use mathlib.Core.Path.{_≡_};
+ghost use mathlib.Core.Bool.{true, false};
 ghost use Prim.Native.Nat.{_+_, _*_, _≤_, _<_};
 ghost use lib.ListN.{length};
 ghost use Rattle.page_decide.specs.Deciding.{OneField, Serves};
@@ -55,6 +56,13 @@ fn keep_block(decided: Decided, block: u16, places: &mut [u16], flips: &mut [u8;
     keep(found, wide(count), block, places);
 }
 
+// Whether a count is that of a ruined block.
+fn is_ruined(count: u8) -> bool
+    ensures { λ r. ⌜ (r ≡ true → count ≡ 255) × (r ≡ false → count ≡ 255 → ⊥) ⌝ }
+{
+    count == 255
+}
+
 // Decides the damaged blocks from `scan` on with tables that serve them. `table` is that of the later
 // blocks' generator.
 fn keep_from(
@@ -79,7 +87,7 @@ fn keep_from(
         let b = at.block;
         last = decide_block(plan, page, at, last, powers, logs, rows);
         let n = last.count;
-        if n == 255 {
+        if is_ruined(n) {
             return Decision::Ruined(b);
         }
         keep_block(last, b, places, flips);
@@ -131,7 +139,7 @@ fn keep_lent(
     }
     let decided = decide_lent(plan, page, scan, powers, logs, rows);
     let count = decided.count;
-    if count == 255 {
+    if is_ruined(count) {
         return Decision::Ruined(0);
     }
     keep_block(decided, 0, places, flips);

@@ -2,6 +2,7 @@
 ghost use mathlib.Core.Path.{_≡_};
 ghost use Prim.Native.Nat.{_<_};
 ghost use lib.ListN.{length};
+ghost use lib.Dec.{eqb};
 ghost use Rattle.replies.specs.Replies.{verdictNumber};
 ghost use Rattle.layout_plan.specs.Record.{wordsOf};
 ghost use Rattle.page_theory.specs.Calls.{lookEnded, lookReply, lookIn, lookFor, lookOf};
@@ -23,17 +24,40 @@ use page_decide::damaged::scan_page;
 use replies::Refusal;
 use replies::Verdict;
 
+// Whether a page has the length of a plan.
+fn page_fits(plan: Plan, page: usize) -> bool
+    ensures { λ r. ⌜ r ≡ eqb page (plan .size) ⌝ }
+{
+    let size = plan.size as usize;
+    page == size
+}
+
+// Whether there is a count for each block of a plan, and no more.
+fn counts_fit(plan: Plan, counts: usize) -> bool
+    ensures { λ r. ⌜ r ≡ eqb counts (plan .blocks) ⌝ }
+{
+    let blocks = plan.blocks as usize;
+    counts == blocks
+}
+
 // What the lengths that are lent to a look are refused for.
 fn look_reply(plan: Plan, page: usize, counts: usize) -> Verdict
     ensures { λ r. ⌜ verdictNumber r ≡ lookReply plan page counts ⌝ }
 {
-    if page != plan.size as usize {
+    if !page_fits(plan, page) {
         return Verdict::Refused(Refusal::PageLength);
     }
-    if counts != plan.blocks as usize {
+    if !counts_fit(plan, counts) {
         return Verdict::Refused(Refusal::BufferLength);
     }
     Verdict::Passed
+}
+
+// The answer to a page whose lowest ruined block is known.
+fn ruined(block: u16) -> LookAnswer
+    ensures { λ r. ⌜ (lookNumber r ≡ 9) × (lookBlock r ≡ block) ⌝ }
+{
+    LookAnswer::Refused(Refusal::Uncorrectable(block))
 }
 
 // Looks at a page of which `scan` is the first damaged block; the counts before it are 0.
@@ -47,8 +71,7 @@ fn look_damaged(plan: Plan, page: &[u8], scan: Scan, table: &[u64], counts: &mut
     if b == plan.blocks as usize {
         return LookAnswer::Done;
     }
-    let block = b as u16;
-    LookAnswer::Refused(Refusal::Uncorrectable(block))
+    ruined(b as u16)
 }
 
 // Looks at a page where the lengths are right.

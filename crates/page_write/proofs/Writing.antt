@@ -2,7 +2,7 @@
 use mathlib.Core.Path.{_≡_, refl, sym, ap, _∙_}
 use mathlib.Core.Bool.{Bool, true, false, cond}
 use mathlib.Core.List.{List, _++_}
-use Prim.Native.Nat.{ℕ, zero, _+_, _-_, _*_, _<_}
+use Prim.Native.Nat.{ℕ, zero, _+_, _-_, _<_}
 use native.Mathlib.Omega.{arith}
 use native.Mathlib.Nat.{zero-add}
 use native.Mathlib.Numerals.{add-one}
@@ -86,13 +86,11 @@ module _ (q : Plan) (v : Valid q) (b : ℕ) (l : b < q .blocks) {s : Shape} (es 
 
 -- ---- block after block
 
-pub from-one : (q : Plan) → q .first ≡ shape q 0 → q .first .message ≡ from q 1
-unfolding from
-from-one q e = ap (λ (s : Shape). s .message) e ∙ sym (zero-add (bits q 0))
-
-pub from-next : (q : Plan) (b : ℕ) {s : Shape} → s ≡ shape q b → from q b + s .message ≡ from q (b + 1)
-unfolding from
-from-next q b e = rw e (sym (ap (from q) (add-one b)))
+-- one block, from its numbers
+pub put-block : (q : Plan) (b : ℕ) {s : Shape} {at position : ℕ} (d page : List ℕ) {after : List ℕ} → s ≡ shape q b → at ≡ from q b → position ≡ start q b
+    → after ≡ put (q .mark) page position (padded s (run (bitOf d) at (s .message)))
+    → after ≡ put (q .mark) page (start q b) (padded (shape q b) (run (bitOf d) (from q b) (bits q b)))
+put-block q b d page es ea ep e = e ∙ rw (es, ea, ep)
 
 -- what is put twice is put once
 put-again : (k : Mark) (page : List ℕ) (s : ℕ) (w : Word) → put k (put k page s w) s w ≡ put k page s w
@@ -129,20 +127,20 @@ module _ (q : Plan) (d : List ℕ) where
     pub streamed-size : (n : ℕ) {page : List ℕ} → Streamed q d lent n page → length page ≡ q .size
     streamed-size n h = ap length (h .stands) ∙ put-length (q .mark) lent 0 (stream q d n) ∙ h .size
 
-    pub streamed-next : Valid q → (b : ℕ) {s : Shape} {at position : ℕ} {page after : List ℕ} → Streamed q d lent b page → s ≡ shape q b → at ≡ from q b
-        → position ≡ start q b → after ≡ put (q .mark) page position (padded s (run (bitOf d) at (s .message))) → Streamed q d lent (b + 1) after
+    pub streamed-next : Valid q → (b : ℕ) {page after : List ℕ} → Streamed q d lent b page
+        → after ≡ put (q .mark) page (start q b) (padded (shape q b) (run (bitOf d) (from q b) (bits q b))) → Streamed q d lent (b + 1) after
     unfolding stream padded theory.padded ones encoded written message
-    streamed-next v b h es ea ep e = record {
+    streamed-next v b h e = record {
       size = h .size;
-      stands = e ∙ rw (es, ea, ep, h .stands, add-one b)
+      stands = e ∙ rw (h .stands, add-one b)
           (put-append (q .mark) lent 0 (start q b) (stream q d b) _ (sym (zero-add _ ∙ stream-length q v d b)));
     }
 
-    pub streamed-end : Valid q → {page after : List ℕ} {u n : ℕ} → Streamed q d lent (q .blocks) page → u ≡ used q
-        → n ≡ 8 * (length page - q .mark .length) → after ≡ put (q .mark) page u (ones (n - u)) → after ≡ pageOf q lent d
-    unfolding filled ones room
-    streamed-end v h eu en e =
+    pub streamed-end : Valid q → {page after : List ℕ} → Streamed q d lent (q .blocks) page
+        → after ≡ put (q .mark) page (q .used) (ones (room q - q .used)) → after ≡ pageOf q lent d
+    unfolding filled ones
+    streamed-end v h e =
         let w = stream q d (q .blocks) in
-        e ∙ rw (en, eu, streamed-size (q .blocks) h, h .stands)
+        e ∙ rw (h .stands)
         (put-append (q .mark) lent 0 (used q) w _ (sym (zero-add _ ∙ stream-length q v d (q .blocks) ∙ sym (v .total))))
         ∙ filled-page q v d lent (h .size)

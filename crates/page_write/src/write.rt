@@ -13,15 +13,17 @@ use layout_plan::block_shape;
 use layout_plan::block_start;
 use layout_plan::plan_of;
 use page_plan::later_table;
+use page_plan::message_start;
 use page_runs::write::fill_ones;
 use replies::Verdict;
 ghost use mathlib.Core.Path.{_≡_};
 ghost use mathlib.Core.List.{_++_};
-ghost use Prim.Native.Nat.{_+_, _≤_, _<_};
+ghost use Prim.Native.Nat.{_-_, _≤_, _<_};
 ghost use lib.ListN.{length};
-ghost use Rattle.bits.specs.Bits.{bitOf, run};
+ghost use Rattle.bits.specs.Bits.{bitOf, run, ones};
 ghost use Rattle.mark.specs.Mark.{put};
 ghost use Rattle.division_table.specs.Table.{Table};
+ghost use Rattle.layout_plan.specs.Plan.{shape, bits, start, room, from};
 ghost use Rattle.layout_plan.specs.Record.{wordsOf};
 ghost use Rattle.page_theory.specs.Page.{pageOf};
 ghost use Rattle.page_theory.specs.Calls.{writeEnded, writeIn, writeFor, writeOf};
@@ -45,29 +47,46 @@ fn write_first(plan: Plan, table: &mut [u64], metadata: &[u8], data: &[u8], page
     later_table(plan, table);
 }
 
+// Writes a later block, by the table of their generator.
+fn write_later(plan: Plan, block: u16, table: &[u64], metadata: &[u8], data: &[u8], page: &mut [u8])
+    requires { ⌜ Planned plan × Lent plan (now metadata) (now «data») (now page) × Table (plan .later .field) (plan .later .level) (now table) ⌝ }
+    requires { ⌜ (0 < block) × (block < plan .blocks) ⌝ }
+    ensures { λ r. ⌜ now (page .exit)
+        ≡ put (plan .mark) (now (page .entry)) (start plan block)
+        (padded (shape plan block) (run (bitOf (now (metadata .entry) ++ now («data» .entry))) (from plan block) (bits plan block))) ⌝ }
+{
+    let shape = block_shape(plan, block);
+    let position = block_start(plan, block);
+    let at = message_start(plan, block);
+    write_block(shape, table, metadata, data, at, plan.mark, page, position);
+}
+
+// Writes ones into the tail.
+fn fill_tail(plan: Plan, page: &mut [u8])
+    requires { ⌜ Planned plan × (length (now page) ≡ plan .size) ⌝ }
+    ensures { λ r. ⌜ now (page .exit) ≡ put (plan .mark) (now (page .entry)) (plan .used) (ones (room plan - plan .used)) ⌝ }
+{
+    let mark = plan.mark;
+    let used = plan.used as usize;
+    let room = 8 * (page.len() - mark.length as usize);
+    fill_ones(mark, page, used, room - used);
+}
+
 // Writes all blocks and the tail. The mark keeps what was lent.
 fn write_blocks(plan: Plan, metadata: &[u8], data: &[u8], page: &mut [u8])
     requires { ⌜ Planned plan × Lent plan (now metadata) (now «data») (now page) ⌝ }
     ensures { λ r. ⌜ now (page .exit) ≡ pageOf plan (now (page .entry)) (now (metadata .entry) ++ now («data» .entry)) ⌝ }
 {
     let blocks = plan.blocks;
-    let first = plan.first;
-    let mark = plan.mark;
     let mut table = [0u64; 3600];
     lay(&mut table);
     write_first(plan, &mut table, metadata, data, page);
-    let mut at = first.message as usize;
     let mut block = 1;
     while block < blocks {
-        let shape = block_shape(plan, block);
-        let position = block_start(plan, block);
-        write_block(shape, &table, metadata, data, at, mark, page, position);
-        at += shape.message as usize;
+        write_later(plan, block, &table, metadata, data, page);
         block += 1;
     }
-    let used = plan.used as usize;
-    let room = 8 * (page.len() - mark.length as usize);
-    fill_ones(mark, page, used, room - used);
+    fill_tail(plan, page);
 }
 
 // Writes a page under the plan of an accepted layout.

@@ -11,12 +11,12 @@ use register_digits::to_bytes;
 use remainder::Register;
 use replies::offered;
 ghost use mathlib.Core.Path.{_≡_};
-ghost use Prim.Native.Nat.{_+_, _≤_};
-ghost use mathlib.Core.Bool.{true};
+ghost use Prim.Native.Nat.{_+_, _≤_, _<_};
+ghost use mathlib.Core.Bool.{true, false};
 ghost use lib.ListN.{length};
 ghost use Rattle.piece_states.specs.State.{choiceOf, after};
 ghost use Rattle.piece_rules.specs.Rules.{usable};
-ghost use Rattle.piece_states.specs.Calls.{startIn, startOf, feedIn, feedOf, finished, finishIn, finishOf};
+ghost use Rattle.piece_states.specs.Calls.{answered, startIn, startOf, feedIn, feedOf, finished, finishIn, finishOf};
 
 // The number of a field choice.
 fn choice_of(f: Field) -> u64
@@ -90,6 +90,26 @@ fn advanced(f: Field, state: State, piece: &[u8]) -> State
     }
 }
 
+// Whether a piece of n bytes would pass the stated length.
+fn passes_length(state: State, n: u64) -> bool
+    requires { ⌜ state .fed ≤ state .size ⌝ }
+    ensures { λ r. ⌜ (r ≡ true → state .size < state .fed + n) × (r ≡ false → state .fed + n ≤ state .size) ⌝ }
+{
+    let left = state.size - state.fed;
+    left < n
+}
+
+// The answer to a piece that would pass the stated length.
+fn too_long(state: State) -> Answered
+    ensures { λ r. ⌜ r ≡ answered 6 state ⌝ }
+{
+    let refused = state;
+    Answered {
+        reply: 6,
+        state: refused,
+    }
+}
+
 // Feeds a piece in a field.
 fn feed_in(f: Field, state: State, piece: &[u8]) -> Answered
     ensures { λ r. ⌜ r ≡ feedIn f state (now (piece .entry)) ⌝ }
@@ -100,12 +120,8 @@ fn feed_in(f: Field, state: State, piece: &[u8]) -> Answered
             state: state,
         };
     }
-    if state.size - state.fed < piece.len() as u64 {
-        let refused = state;
-        return Answered {
-            reply: 6,
-            state: refused,
-        };
+    if passes_length(state, piece.len() as u64) {
+        return too_long(state);
     }
     let next = advanced(f, state, piece);
     Answered {

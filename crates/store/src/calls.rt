@@ -19,7 +19,8 @@ use version_list::close_gap;
 use version_list::held;
 use version_list::index_of;
 ghost use mathlib.Core.Path.{_≡_};
-ghost use Prim.Native.Nat.{_<_};
+ghost use mathlib.Core.Bool.{true, false};
+ghost use Prim.Native.Nat.{_≤_, _<_};
 ghost use lib.ListN.{set};
 ghost use Rattle.layout_plan.specs.Record.{wordsOf};
 ghost use Rattle.replies.specs.Replies.{among};
@@ -83,20 +84,34 @@ pub fn find_version(store: Store, version: u64) -> Lookup
     Lookup::Found(layout)
 }
 
+// Whether a store with this many layouts has no place left.
+fn is_full(count: usize) -> bool
+    ensures { λ r. ⌜ (r ≡ true → 32 ≤ count) × (r ≡ false → count < 32) ⌝ }
+{
+    32 <= count
+}
+
+// Whether every number was given.
+fn are_used_up(next: u32) -> bool
+    ensures { λ r. ⌜ (r ≡ true → 65536 ≤ next) × (r ≡ false → next < 65536) ⌝ }
+{
+    65536 <= next
+}
+
 // Adds a layout under the next number.
 fn add_layout(store: Store, edition: u64, plan: Plan) -> Stored
     ensures { λ r. ⌜ ended (answerReply (r .answer)) (answerVersion (r .answer)) (listed (r .store)) ≡ addOf (listed store) edition plan ⌝ }
 {
     let mut layouts = store.layouts;
     let count = held(layouts, store.count);
-    if 32 <= count {
+    if is_full(count) {
         return Stored {
             answer: VersionAnswer::Refused(Refusal::Full),
             store: store,
         };
     }
     let next = store.next;
-    if 65536 <= next {
+    if are_used_up(next) {
         return Stored {
             answer: VersionAnswer::Refused(Refusal::NumbersUsedUp),
             store: store,

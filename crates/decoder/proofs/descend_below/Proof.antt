@@ -2,6 +2,7 @@
 use mathlib.Core.Path.{_≡_}
 use Prim.Native.Nat.{_-_, _≤_}
 use native.Mathlib.Omega.{arith}
+use borrow.Author.Tests.{not-true, not-false}
 use borrow.Author.Needs.{needs}
 use Rattle.bits.proofs.Decides.{decides-true, decides-false}
 use Rattle.decoder.proofs.Locating.{Ordered, ordered-start, ordered-next, ordered-high}
@@ -26,9 +27,14 @@ element-copy-out-place c = search needs
 place-requires : tie.Need-place-requires Inv-loop μ-loop
 place-requires c κs = search needs
 
+is-below-requires : tie.Need-is-below-requires Inv-loop μ-loop
+is-below-requires c κs = search needs
+
 returns : tie.Need-returns Inv-loop μ-loop
-returns c = let l = c .before .before .before .before in
-    decides-false (ordered-high _ (l .loop .inv .1) (omega arith) (omega (arith, c .before .place .ensures)))
+returns c =
+    let b = c .before in
+    let l = b .before .before .before .before in
+    decides-false (ordered-high _ (l .loop .inv .1) (omega arith) (omega (arith, b .before .place .ensures, b .is-below .ensures .1 (not-true _ (c .if1 .taken)))))
 
 add-k : tie.Need-add-k Inv-loop μ-loop
 add-k c = search needs
@@ -38,9 +44,10 @@ loop-less c = search needs
 
 loop-again : tie.Need-loop-again Inv-loop μ-loop
 loop-again c =
-    let l = c .before .before .before .before in
-    let e = c .before .place .ensures in
-    (omega arith, rw e (ordered-next _ (l .loop .inv .1) (omega arith)))
+    let b = c .before in
+    let l = b .before .before .before .before in
+    let e = b .before .place .ensures in
+    (omega arith, rw e (ordered-next _ (l .loop .inv .1) (omega (arith, b .is-below .ensures .0 (not-false _ (c .if1 .left))))))
 
 returns-2 : tie.Need-returns-2 Inv-loop μ-loop
 returns-2 c =
@@ -57,6 +64,7 @@ descend-below-spec =
     mul-place
     element-copy-out-place
     place-requires
+    is-below-requires
     returns
     add-k
     loop-less

@@ -38,12 +38,14 @@ sub-terms c = search needs
 sub-terms-2 : tie.Need-sub-terms-2
 sub-terms-2 c = search needs
 
-add-if2 : tie.Need-add-if2
-add-if2 c = search needs
+keeps-length-requires : tie.Need-keeps-length-requires
+keeps-length-requires c κs =
+    let p = c .before .before .before .before .pre in
+    (p .1 .1 .state .state .fits, omega arith)
 
 mix-requires : tie.Need-mix-requires
 mix-requires c κs =
-    let q = c .before .before .before in
+    let q = c .before .before .before .before in
     let p = q .before .before .before .before .pre in
     let h = p .1 .1 in
     (p .0, ((small-elements _ (h .small-c), small-elements _ (h .small-u)), (q .quotient .ensures .0, omega (arith, h .room), step-terms _ h)))
@@ -53,31 +55,33 @@ add-wider-2 c = search needs
 
 returns-2 : tie.Need-returns-2
 returns-2 c =
-    let q = c .before .before .before .before in
+    let k = c .before .before .before .before in
+    let q = k .before in
     let d = q .before .before in
     let p = d .before .before .pre in
-    step-patched _ (p .1 .0 .2) (p .1 .0 .0) (p .1 .1) (d .discrepancy .ensures) _ (q .quotient .ensures .1) (c .mix .ensures) (c .before .before .before .if2 .taken)
+    step-patched _ (p .1 .0 .2) (p .1 .0 .0) (p .1 .1) (d .discrepancy .ensures) _ (q .quotient .ensures .1) (c .mix .ensures) (k .keeps-length .ensures .0 (c .before .before .before .if2 .taken))
 
 mix-requires-2 : tie.Need-mix-requires-2
 mix-requires-2 c κs =
-    let q = c .before .before .before .before in
+    let q = c .before .before .before .before .before in
     let p = q .before .before .before .before .pre in
     let h = p .1 .1 in
     (p .0, ((small-elements _ (h .small-c), small-elements _ (h .small-u)), (q .quotient .ensures .0, omega (arith, h .room), step-terms _ h)))
 
-add-grown : tie.Need-add-grown
-add-grown c = search needs
-
-sub-grown : tie.Need-sub-grown
-sub-grown c = search needs
+grown-length-requires : tie.Need-grown-length-requires
+grown-length-requires c κs =
+    let p = c .before .before .before .before .before .before .before .before .before .before .pre in
+    (p .1 .1 .state .state .fits, omega arith)
 
 returns-3 : tie.Need-returns-3
 returns-3 c =
-    let q = c .before .before .before .before .before in
+    let k = c .before .before .before .before .before .before in
+    let q = k .before in
     let d = q .before .before in
     let p = d .before .before .pre in
-    step-grown _ (p .1 .0 .2) (p .1 .0 .0) (p .1 .1) (d .discrepancy .ensures) _ (q .quotient .ensures .1) (c .mix2 .ensures)
-    (q .before .if1 .left) (omega arith)
+    rw (c .grown-length .ensures) (
+    step-grown _ (p .1 .0 .2) (p .1 .0 .0) (p .1 .1) (d .discrepancy .ensures) _ (q .quotient .ensures .1) (c .before .mix2 .ensures)
+    (q .before .if1 .left) (k .keeps-length .ensures .1 (c .before .before .before .before .before .if2 .left)))
 
 pub step-spec : {M : Type 1} → statement M
 step-spec =
@@ -91,11 +95,10 @@ step-spec =
     add-terms
     sub-terms
     sub-terms-2
-    add-if2
+    keeps-length-requires
     mix-requires
     add-wider-2
     returns-2
     mix-requires-2
-    add-grown
-    sub-grown
+    grown-length-requires
     returns-3)

@@ -41,17 +41,8 @@ mul-done c = search needs
 add-done : tie.Need-add-done
 add-done c = search needs
 
-add-copy-part : tie.Need-add-copy-part
-add-copy-part c = search needs
-
-add-copy-part-2 : tie.Need-add-copy-part-2
-add-copy-part-2 c = search needs
-
-sub-copy-part : tie.Need-sub-copy-part
-sub-copy-part c = search needs
-
-copy-part-requires-3 : tie.Need-copy-part-requires-3
-copy-part-requires-3 c κs = search needs
+copy-rest-requires : tie.Need-copy-rest-requires
+copy-rest-requires c κs = search needs
 
 same-length-2 : tie.Need-same-length-2
 same-length-2 c = search needs
@@ -63,7 +54,7 @@ returns-2 c =
     let p = q .before .before .before .before in
     let a = p .before .before .before .before .before .args in
     let head = (8 - a .position % 8) % 8 in
-    placed-three _ _ _ _ head (8 * ((a .n - head) / 8)) _ (omega arith) (p .copy-part2 .ensures) (q .copy-bytes .ensures) (t .copy-part3 .ensures)
+    placed-three _ _ _ _ head (8 * ((a .n - head) / 8)) _ (omega arith) (p .copy-part2 .ensures) (q .copy-bytes .ensures) (t .copy-rest .ensures)
 
 pub copy-bits-spec : {M : Type 1} → statement M
 copy-bits-spec =
@@ -81,9 +72,6 @@ copy-bits-spec =
     copy-bytes-requires
     mul-done
     add-done
-    add-copy-part
-    add-copy-part-2
-    sub-copy-part
-    copy-part-requires-3
+    copy-rest-requires
     same-length-2
     returns-2)

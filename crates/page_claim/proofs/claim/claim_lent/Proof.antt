@@ -1,6 +1,5 @@
 -- `page_claim::claim::claim_lent` meets its contract.
 use borrow.Author.Needs.{needs}
-use Rattle.replies.specs.Replies.{number}
 use Rattle.page_plan.proofs.Plans.{shape-stored, shape-fits, block-inside}
 use Rattle.page_claim.specs.Answers.{claimNumber}
 use Rattle.page_claim.proofs.Ends.{claim-accepted, claim-rejected}
@@ -34,15 +33,19 @@ returns c =
     claim-accepted (a .args .plan) (a .args .page .now) (a .args .block) (a .pre .0 .size) (a .pre .1) (a .args .claims .now) (s .block-shape .ensures)
     (judged .before .block-start .ensures .0) (judged .is-right .ensures) (c .if1 .taken)
 
+wrong-requires : tie.Need-wrong-requires
+wrong-requires c κs = search needs
+
 returns-2 : tie.Need-returns-2
-unfolding claimNumber number
 returns-2 c =
-    let judged = c .before in
+    let left = c .before in
+    let judged = left .before in
     let s = judged .before .before in
     let a = s .before .before .before in
+    rw (c .wrong .ensures) (
     claim-rejected (a .args .plan) (a .args .page .now) (a .args .block) (a .pre .0 .size) (a .pre .1) (a .args .claims .now) (s .block-shape .ensures)
-    (judged .before .block-start .ensures .0) (judged .is-right .ensures) (c .if1 .left)
+    (judged .before .block-start .ensures .0) (judged .is-right .ensures) (left .if1 .left))
 
 pub claim-lent-spec : {M : Type 1} → statement M
 claim-lent-spec =
-    tie.close (tie.spec block-shape-requires block-start-requires is-right-requires returns returns-2)
+    tie.close (tie.spec block-shape-requires block-start-requires is-right-requires returns wrong-requires returns-2)

@@ -1,51 +1,36 @@
 -- `page_copy::copy::copy_messages` meets its contract. The loop's invariant: the messages of the blocks passed were put into the payload.
 use Prim.Native.Nat.{_-_, _≤_}
-use mathlib.Core.Path.{_≡_, refl, ap, _∙_}
+use mathlib.Core.Path.{_≡_, refl, _∙_}
 use mathlib.Core.List.{_++_}
 use native.Mathlib.Omega.{arith}
 use borrow.Author.Needs.{needs}
 use Rattle.bits.specs.Bits.{placed}
-use Rattle.layout_plan.specs.declared.Shape.{Shape}
 use Rattle.payload.specs.Payload.{Joined}
 use Rattle.page_copy.specs.Copying.{texts}
-use Rattle.page_copy.proofs.Messages.{joined-start, joined-texts, message-room}
+use Rattle.page_copy.proofs.Messages.{joined-start, joined-texts}
 use Rattle.page_copy.proofs.copy.copy_messages.Statement.{statement}
 use Rattle.page_copy.proofs.copy.copy_messages.Tie as tie
 
 abbrev Inv-loop : tie.InvT-loop
-Inv-loop plan page metadata₀ data₀ blocks mark b₀ metadata «data» b =
+Inv-loop plan page metadata₀ data₀ blocks b₀ metadata «data» b =
     (b ≤ blocks) × Joined metadata₀ data₀ metadata «data» (placed (metadata₀ ++ data₀) 0 (texts plan page b))
 
 abbrev μ-loop : tie.MeasureT-loop
-μ-loop plan page metadata₀ data₀ blocks mark b₀ metadata «data» b = blocks - b
+μ-loop plan page metadata₀ data₀ blocks b₀ metadata «data» b = blocks - b
 
 loop-holds : tie.Need-loop-holds Inv-loop μ-loop
 loop-holds c = (
   search needs,
-  joined-start _ _ _ _ (record { count = refl; small = λ i. c .before .before .slice-known .given i .fits })
-      (record { count = refl; small = λ i. c .before .slice-known2 .given i .fits }),
+  joined-start _ _ _ _ (record { count = refl; small = λ i. c .before .slice-known .given i .fits })
+      (record { count = refl; small = λ i. c .slice-known2 .given i .fits }),
 )
 
-block-shape-requires : tie.Need-block-shape-requires Inv-loop μ-loop
-block-shape-requires c κs = search needs
-
-cast-n : tie.Need-cast-n Inv-loop μ-loop
-cast-n c = search needs
-
-block-start-requires : tie.Need-block-start-requires Inv-loop μ-loop
-block-start-requires c κs = search needs
-
-message-start-requires : tie.Need-message-start-requires Inv-loop μ-loop
-message-start-requires c κs = search needs
-
-copy-out-requires : tie.Need-copy-out-requires Inv-loop μ-loop
-copy-out-requires c κs =
-    let s = c .before .before .before in
-    let l = s .before .before .before .before .loop in
-    let a = s .before .before .before .before .before .before .before .before .before in
+copy-message-requires : tie.Need-copy-message-requires Inv-loop μ-loop
+copy-message-requires c κs =
+    let l = c .before .before .before .loop in
+    let a = c .before .before .before .before .before .before .before in
     let j = l .inv .1 in
-    message-room _ _ (a .pre .0) _ (search needs) (j .metadata ∙ a .pre .1) (j .«data» ∙ a .pre .2)
-    (s .block-start .ensures .0) (c .before .before .message-start .ensures .0) (ap (λ (x : Shape). x .message) (s .before .before .block-shape .ensures))
+    (a .pre .0, c .before .before .loop-test .taken, j .metadata ∙ a .pre .1, j .«data» ∙ a .pre .2)
 
 add-b : tie.Need-add-b Inv-loop μ-loop
 add-b c = search needs
@@ -56,12 +41,8 @@ loop-less c = search needs
 loop-again : tie.Need-loop-again Inv-loop μ-loop
 loop-again c =
     let k = c .before .before .before .before in
-    let s = k .before .before .before .before in
-    let l = s .before .before .before .before .loop in (
-      omega arith,
-      joined-texts _ _ _ _ (l .b) (s .block-start .ensures .0) (k .before .before .before .message-start .ensures .0)
-          (ap (λ (x : Shape). x .message) (s .before .before .block-shape .ensures)) (l .inv .1) (k .copy-out .ensures),
-    )
+    let l = k .before .before .before .before .loop in
+    (omega arith, joined-texts _ _ _ _ (l .b) (l .inv .1) (k .copy-message .ensures))
 
 same-length : tie.Need-same-length Inv-loop μ-loop
 same-length c = search needs
@@ -72,7 +53,7 @@ same-length-2 c = search needs
 returns : tie.Need-returns Inv-loop μ-loop
 returns c =
     let l = c .before .loop in
-    let e : l .b ≡ c .before .before .before .before .before .before .args .plan .blocks = omega arith in
+    let e : l .b ≡ c .before .before .before .before .before .args .plan .blocks = omega arith in
     rw e at (l .inv .1)
 
 pub copy-messages-spec : {M : Type 1} → statement M
@@ -82,11 +63,7 @@ copy-messages-spec =
     Inv-loop
     μ-loop
     loop-holds
-    block-shape-requires
-    cast-n
-    block-start-requires
-    message-start-requires
-    copy-out-requires
+    copy-message-requires
     add-b
     loop-less
     loop-again

@@ -10,17 +10,24 @@ use Rattle.page_explain.proofs.steps.explain_decided.Tie as tie
 block-shape-requires : tie.Need-block-shape-requires
 block-shape-requires c κs = search needs
 
+is-ruined-requires : tie.Need-is-ruined-requires
+is-ruined-requires c κs = search needs
+
 returns : tie.Need-returns
 returns c =
-    let s = c .before .before in
+    let r = c .before in
+    let s = r .before .before in
     let p = s .before .before .before .pre in
-    decided-ruined _ _ (p .0 .0 .plan .valid) _ (p .0 .1) _ (s .block-shape .ensures) (p .0 .2 .at) (c .if1 .taken)
+    decided-ruined _ _ (p .0 .0 .plan .valid) _ (p .0 .1) _ (s .block-shape .ensures) (p .0 .2 .at) (r .is-ruined .ensures .0 (c .if1 .taken))
 
 returns-2 : tie.Need-returns-2
 returns-2 c =
-    let s = c .before .before .before in
+    let k = c .before in
+    let r = k .before in
+    let s = r .before .before in
     let p = s .before .before .before .pre in
-    decided-erased _ _ (p .0 .0 .plan .valid) _ (p .0 .1) _ (s .block-shape .ensures) (p .0 .2 .at) (c .if2 .taken) (c .before .if1 .left)
+    decided-erased _ _ (p .0 .0 .plan .valid) _ (p .0 .1) _ (s .block-shape .ensures) (p .0 .2 .at) (c .if2 .taken)
+    (r .is-ruined .ensures .1 (k .if1 .left))
 
 wide-requires : tie.Need-wide-requires
 wide-requires c κs = search needs
@@ -29,7 +36,7 @@ list-flips-requires : tie.Need-list-flips-requires
 list-flips-requires c κs =
     let w = c .before in
     let f = w .before in
-    let p = f .before .before .before .before .before .before .pre in
+    let p = f .before .before .before .before .before .before .before .pre in
     let v = p .0 .0 .plan .valid in
     let d = p .0 .2 .at in
     let low = f .if2 .left in
@@ -50,7 +57,7 @@ returns-3 c =
     let l = c .before .before in
     let w = l .before .before in
     let f = w .before in
-    let s = f .before .before .before in
+    let s = f .before .before .before .before in
     let p = s .before .before .before .pre in
     decided-flips _ _ (p .0 .0 .plan .valid) _ (p .0 .1) _ (s .block-shape .ensures) (p .0 .2 .at) (f .if2 .left)
     (rw (w .wide .ensures) at (l .list-flips .ensures))
@@ -60,6 +67,7 @@ explain-decided-spec =
     tie.close
     (tie.spec
     block-shape-requires
+    is-ruined-requires
     returns
     returns-2
     wide-requires

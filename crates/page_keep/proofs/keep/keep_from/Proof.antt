@@ -31,20 +31,24 @@ decide-block-requires c κs =
     let ready = p .0 .ready in
     ((ready, underway-left _ _ (ready .plan) (l .inv .1) (c .if1 .taken), l .inv .2), p .1 .each _ (l .inv .0) (c .if1 .taken))
 
+is-ruined-requires : tie.Need-is-ruined-requires Inv-loop μ-loop
+is-ruined-requires c κs = search needs
+
 same-length : tie.Need-same-length Inv-loop μ-loop
-same-length c = let k = c .before .before in k .before .before .loop .inv .3
+same-length c = let k = c .before .before .before in k .before .before .loop .inv .3
 
 returns : tie.Need-returns Inv-loop μ-loop
 unfolding PageDecided
 returns c =
-    let d = c .before in
+    let r = c .before in
+    let d = r .before in
     let k = d .before in
     let plan = k .before .before .before .before .before .before .before .pre .0 .ready .plan in
-    underway-ruined _ _ plan (k .before .before .loop .inv .1) refl (k .if1 .taken) (d .decide-block .ensures .at) (c .if2 .taken)
+    underway-ruined _ _ plan (k .before .before .loop .inv .1) refl (k .if1 .taken) (d .decide-block .ensures .at) (r .is-ruined .ensures .0 (c .if2 .taken))
 
 keep-block-requires : tie.Need-keep-block-requires Inv-loop μ-loop
 keep-block-requires c κs =
-    let d = c .before .before .before in
+    let d = c .before .before .before .before in
     let k = d .before in
     let u = k .before .before .loop .inv .1 in
     let plan = k .before .before .before .before .before .before .before .pre .0 .ready .plan in
@@ -55,24 +59,25 @@ keep-block-requires c κs =
 
 next-damaged-requires : tie.Need-next-damaged-requires Inv-loop μ-loop
 next-damaged-requires c κs =
-    let k = c .before .before .before .before .before .before .before in
+    let k = c .before .before .before .before .before .before .before .before in
     let p = k .before .before .before .before .before .before .before .pre .0 in
     ((p .ready, underway-reached _ _ (p .ready .plan) (k .before .before .loop .inv .1)), (k .if1 .taken, p .table))
 
 loop-less : tie.Need-loop-less Inv-loop μ-loop
-loop-less c = omega (arith, c .before .before .before .before .before .before .before .before .if1 .taken, c .next-damaged .ensures .low)
+loop-less c = omega (arith, c .before .before .before .before .before .before .before .before .before .if1 .taken, c .next-damaged .ensures .low)
 
 loop-again : tie.Need-loop-again Inv-loop μ-loop
 loop-again c =
     let b = c .before .before .before in
     let o = b .before .before .before in
-    let d = o .before in
+    let r = o .before in
+    let d = r .before in
     let k = d .before in
     let l = k .before .before .loop in
     let plan = k .before .before .before .before .before .before .before .pre .0 .ready .plan in
     let e = d .decide-block .ensures in (
       omega (arith, l .inv .0, c .next-damaged .ensures .low),
-      underway-next _ _ plan (l .inv .1) refl (k .if1 .taken) (e .at) (o .if2 .left) refl (b .keep-block .ensures) (c .next-damaged .ensures),
+      underway-next _ _ plan (l .inv .1) refl (k .if1 .taken) (e .at) (r .is-ruined .ensures .1 (o .if2 .left)) refl (b .keep-block .ensures) (c .next-damaged .ensures),
       e .remembers,
       b .keep-block .ensures .places-length ∙ l .inv .3,
     )
@@ -95,6 +100,7 @@ keep-from-spec =
     nothing-requires
     loop-holds
     decide-block-requires
+    is-ruined-requires
     same-length
     returns
     keep-block-requires

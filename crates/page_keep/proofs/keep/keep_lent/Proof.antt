@@ -30,20 +30,24 @@ decide-lent-requires c κs =
     let p = c .before .before .before .before .before .before .before .before .pre in
     ((p .0 .ready, underway-left _ _ (p .0 .ready .plan) (p .0 .underway) (p .1 .0)), (p .1 .1, p .1 .2, p .1 .3))
 
+is-ruined-requires : tie.Need-is-ruined-requires
+is-ruined-requires c κs = search needs
+
 returns-2 : tie.Need-returns-2
 unfolding PageDecided
 returns-2 c =
-    let d = c .before in
+    let r = c .before in
+    let d = r .before in
     let f = d .before .before .before .before in
     let a = f .before in
     let p = a .before .before .before .before .pre in
     let plan = p .0 .ready .plan in
     let e = a .apart .ensures .1 (not-false _ (f .if1 .left)) in
-    underway-ruined _ _ plan (p .0 .underway) e (plan .some) (rw e at (d .decide-lent .ensures .0 .at)) (c .if2 .taken)
+    underway-ruined _ _ plan (p .0 .underway) e (plan .some) (rw e at (d .decide-lent .ensures .0 .at)) (r .is-ruined .ensures .0 (c .if2 .taken))
 
 keep-block-requires : tie.Need-keep-block-requires
 keep-block-requires c κs =
-    let d = c .before .before .before in
+    let d = c .before .before .before .before in
     let p = d .before .before .before .before .before .before .before .before .before .pre in
     let u = p .0 .underway in
     let e = d .decide-lent .ensures .0 in
@@ -51,7 +55,7 @@ keep-block-requires c κs =
 
 next-damaged-requires : tie.Need-next-damaged-requires
 next-damaged-requires c κs =
-    let p = c .before .before .before .before .before .before .before .before .before .before .before .before .before .before .before .pre in
+    let p = c .before .before .before .before .before .before .before .before .before .before .before .before .before .before .before .before .pre in
     ((p .0 .ready, underway-reached _ _ (p .0 .ready .plan) (p .0 .underway)), (p .1 .0, p .0 .table))
 
 same-length-2 : tie.Need-same-length-2
@@ -63,14 +67,15 @@ returns-3 c =
     let n = c .before .before in
     let k = n .before .before .before in
     let o = k .before .before .before in
-    let d = o .before in
+    let r = o .before in
+    let d = r .before in
     let f = d .before .before .before .before in
     let a = f .before in
     let p = a .before .before .before .before .pre in
     let plan = p .0 .ready .plan in
     let e = a .apart .ensures .1 (not-false _ (f .if1 .left)) in
     underway-sound _ _ plan
-    (underway-next _ _ plan (p .0 .underway) e (plan .some) (rw e at (d .decide-lent .ensures .0 .at)) (o .if2 .left) refl (k .keep-block .ensures)
+    (underway-next _ _ plan (p .0 .underway) e (plan .some) (rw e at (d .decide-lent .ensures .0 .at)) (r .is-ruined .ensures .1 (o .if2 .left)) refl (k .keep-block .ensures)
     (rw e at (n .next-damaged .ensures))) (omega arith)
 
 keep-alike-requires-2 : tie.Need-keep-alike-requires-2
@@ -78,7 +83,8 @@ keep-alike-requires-2 c κs =
     let n = c .before .before .before .before .before .before .before in
     let k = n .before .before .before in
     let o = k .before .before .before in
-    let d = o .before in
+    let r = o .before in
+    let d = r .before in
     let f = d .before .before .before .before in
     let a = f .before in
     let p = a .before .before .before .before .pre in
@@ -87,7 +93,7 @@ keep-alike-requires-2 c κs =
       record {
         ready = p .0 .ready;
         table = p .0 .table;
-        underway = underway-next _ _ plan (p .0 .underway) e (plan .some) (rw e at (d .decide-lent .ensures .0 .at)) (o .if2 .left) refl
+        underway = underway-next _ _ plan (p .0 .underway) e (plan .some) (rw e at (d .decide-lent .ensures .0 .at)) (r .is-ruined .ensures .1 (o .if2 .left)) refl
             (k .keep-block .ensures) (rw e at (n .next-damaged .ensures));
       },
       (later-field _ _ plan (omega (arith, n .next-damaged .ensures .low)), d .decide-lent .ensures .1 .0, d .decide-lent .ensures .1 .1, d .decide-lent .ensures .1 .2),
@@ -108,6 +114,7 @@ keep-lent-spec =
     same-length
     returns
     decide-lent-requires
+    is-ruined-requires
     returns-2
     keep-block-requires
     next-damaged-requires

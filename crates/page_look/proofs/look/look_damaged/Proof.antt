@@ -1,7 +1,7 @@
 -- `page_look::look::look_damaged` meets its contract.
+use mathlib.Core.Path.{_∙_}
 use native.Mathlib.Omega.{arith}
 use borrow.Author.Needs.{needs}
-use Rattle.replies.specs.Replies.{number, block}
 use Rattle.page_look.specs.Answers.{lookNumber, lookBlock}
 use Rattle.page_counts.proofs.Looking.{first-lowest, first-sound}
 use Rattle.page_look.proofs.Ends.{look-done, look-ruined}
@@ -29,20 +29,24 @@ returns c =
     look-done _ _ (p .ready) _ (p .underway .size) (d .count-damaged .ensures)
     (first-sound _ _ (p .ready .plan) (d .count-damaged .ensures) (f .first-ruined .ensures) (c .if1 .taken))
 
-cast-block : tie.Need-cast-block
-cast-block c = search needs
+cast-ruined : tie.Need-cast-ruined
+cast-ruined c = search needs
+
+ruined-requires : tie.Need-ruined-requires
+ruined-requires c κs = search needs
 
 same-length-2 : tie.Need-same-length-2
 same-length-2 c = search needs
 
 returns-2 : tie.Need-returns-2
-unfolding lookNumber lookBlock number block
 returns-2 c =
-    let f = c .before .before in
+    let i = c .before in
+    let f = i .before .before in
     let d = f .before .before .before .before in
     let p = d .before .before .before .before .before .pre .0 in
+    rw (c .ruined .ensures .0, c .ruined .ensures .1) (
     look-ruined _ _ (p .ready) _ (p .underway .size) (d .count-damaged .ensures) _
-    (first-lowest _ _ (p .ready .plan) (d .count-damaged .ensures) (f .first-ruined .ensures) (c .if1 .left))
+    (first-lowest _ _ (p .ready .plan) (d .count-damaged .ensures) (f .first-ruined .ensures) (i .if1 .left)))
 
 pub look-damaged-spec : {M : Type 1} → statement M
 look-damaged-spec =
@@ -53,6 +57,7 @@ look-damaged-spec =
     cast-if1
     same-length
     returns
-    cast-block
+    cast-ruined
+    ruined-requires
     same-length-2
     returns-2)
