@@ -1,10 +1,10 @@
--- `page_commands::claiming::exponents` meets its contract.
+-- `nandpage::claiming::exponents` meets its contract.
 use mathlib.Core.Path.{_≡_}
 use Prim.Native.Nat.{_≤_, _-_}
 use lib.ListN.{length}
 use borrow.Author.Needs.{needs}
-use Rattle.page_commands.proofs.claiming.exponents.Statement.{statement}
-use Rattle.page_commands.proofs.claiming.exponents.Tie as tie
+use Rattle.nandpage.proofs.claiming.exponents.Statement.{statement}
+use Rattle.nandpage.proofs.claiming.exponents.Tie as tie
 
 abbrev Inv-loop : tie.InvT-loop
 Inv-loop words claims₀ i₀ claims i = (i ≤ 256) × (length claims ≡ 256)

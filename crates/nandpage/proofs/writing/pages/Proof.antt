@@ -1,10 +1,10 @@
--- `write_command::pages` meets its contract.
+-- `nandpage::writing::pages` meets its contract.
 use mathlib.Core.Path.{_≡_}
 use Prim.Native.Nat.{_≤_}
 use lib.ListN.{length}
 use borrow.Author.Needs.{needs}
-use Rattle.write_command.proofs.pages.Statement.{statement}
-use Rattle.write_command.proofs.pages.Tie as tie
+use Rattle.nandpage.proofs.writing.pages.Statement.{statement}
+use Rattle.nandpage.proofs.writing.pages.Tie as tie
 
 abbrev Inv-loop : tie.InvT-loop
 Inv-loop out₀ edition «record» plan run metadata₀ data₀ page₀ image₀ turns₀ out metadata «data» page image turns = (length metadata ≡ length metadata₀) × ((length «data» ≡ length data₀) × ((length page ≡ length page₀) × (turns ≤ turns₀)))
