@@ -63,6 +63,16 @@ fn judge_in(out: &mut [u8; 32768], options: Options, record: &[u8], plan: Plan, 
     }
 }
 
+fn judge_under(out: &mut [u8; 32768], options: Options) {
+    let Number::Is(block) = arguments::number(out, arguments::place(options.at, 3), b"BLOCK") else {
+        return;
+    };
+    let Planned::Under { words, plan } = plans::plan_of_words(out, options) else {
+        return;
+    };
+    judge_in(out, options, &arguments::record_of(words), plan, block);
+}
+
 // nandpage judge [--edition N] [--mark WORD2] [--page K] WORD0 WORD1 PAGE BLOCK
 pub fn judge(out: &mut [u8; 32768]) {
     let options = arguments::find_options(
@@ -80,11 +90,5 @@ pub fn judge(out: &mut [u8; 32768]) {
     ) {
         return;
     }
-    let Number::Is(block) = arguments::number(out, arguments::place(options.at, 3), b"BLOCK") else {
-        return;
-    };
-    let Planned::Under { words, plan } = plans::plan_of_words(out, options) else {
-        return;
-    };
-    judge_in(out, options, &arguments::record_of(words), plan, block);
+    judge_under(out, options);
 }

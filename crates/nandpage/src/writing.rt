@@ -1,5 +1,6 @@
 // The command write of the tool: a page, or an image of many, from files that hold the metadata and the data of all pages, one after
 // the other.
+use arguments::LayoutWords;
 use arguments::Options;
 use layout_plan::Plan;
 use libc::ENOENT;
@@ -8,8 +9,12 @@ use plans::Planned;
 use replies::refusal_number;
 use streams::Filled;
 
-// The descriptors of metadata, data, the page that is written and the file that stands in its place. One below 0 is an empty file.
+// The edition, the layout record and its plan; the descriptors of metadata, data, the page that is written and the file that stands in its
+// place. One below 0 is an empty file.
 struct Run {
+    edition: u64,
+    record: [u8; 12],
+    plan: Plan,
     metadata: i32,
     data: i32,
     page: i32,
@@ -106,7 +111,8 @@ fn erase(page: &mut [u8]) {
 
 // Puts to the buffer what the next page is written over, since it keeps the mark of that: the page that stands in its place or, where none
 // does, ones, as erased flash has. Says whether that is done.
-fn lay(plan: Plan, run: Run, page: &mut [u8]) -> bool {
+fn lay(run: Run, page: &mut [u8]) -> bool {
+    let plan = run.plan;
     if plan.mark.length == 0 {
         return true;
     }
@@ -121,25 +127,23 @@ fn lay(plan: Plan, run: Run, page: &mut [u8]) -> bool {
 
 fn write_from(
     out: &mut [u8; 32768],
-    edition: u64,
-    record: &[u8],
-    plan: Plan,
     run: Run,
     image: Image,
     metadata: &[u8],
     data: &[u8],
     page: &mut [u8],
 ) -> Image {
-    if !lay(plan, run, page) {
+    if !lay(run, page) {
         return stopped(image, Failed::Page);
     }
-    match page_write::write_page(edition, record, metadata, data, page) {
+    let record = run.record;
+    match page_write::write_page(run.edition, &record, metadata, data, page) {
         WriteAnswer::Done => put(run, image, page),
         WriteAnswer::Refused(refusal) => refused(
             out,
             image,
             refusal_number(refusal),
-            plan,
+            run.plan,
             metadata.len(),
             data.len(),
         ),
@@ -153,7 +157,7 @@ fn one_more(fd: i32) -> Filled {
 }
 
 // The end of both files, which is that of the image. A file of which a page takes nothing has to be empty.
-fn last(out: &mut [u8; 32768], plan: Plan, run: Run, image: Image) -> Image {
+fn last(out: &mut [u8; 32768], run: Run, image: Image) -> Image {
     let Filled::Bytes(m) = one_more(run.metadata) else {
         return stopped(image, Failed::Metadata);
     };
@@ -165,7 +169,7 @@ fn last(out: &mut [u8; 32768], plan: Plan, run: Run, image: Image) -> Image {
             return ended(image, true);
         }
     }
-    refused(out, image, 6, plan, m, d)
+    refused(out, image, 6, run.plan, m, d)
 }
 
 // Whether an image ends before a page for which so many bytes were read: after its first page, where there are none.
@@ -182,9 +186,6 @@ fn is_end(image: Image, m: usize, d: usize) -> bool {
 // The next page, of which m bytes of metadata and d of data were read, or the end.
 fn write_read(
     out: &mut [u8; 32768],
-    edition: u64,
-    record: &[u8],
-    plan: Plan,
     run: Run,
     image: Image,
     metadata: &[u8],
@@ -194,13 +195,10 @@ fn write_read(
     page: &mut [u8],
 ) -> Image {
     if is_end(image, m, d) {
-        return last(out, plan, run, image);
+        return last(out, run, image);
     }
     write_from(
         out,
-        edition,
-        record,
-        plan,
         run,
         image,
         text::front(metadata, m),
@@ -212,9 +210,6 @@ fn write_read(
 // The next page, from buffers that are as long as the metadata and the data of a page.
 fn one(
     out: &mut [u8; 32768],
-    edition: u64,
-    record: &[u8],
-    plan: Plan,
     run: Run,
     image: Image,
     metadata: &mut [u8],
@@ -227,27 +222,12 @@ fn one(
     let Filled::Bytes(d) = fill(run.data, data) else {
         return stopped(image, Failed::Data);
     };
-    write_read(
-        out,
-        edition,
-        record,
-        plan,
-        run,
-        image,
-        metadata,
-        m,
-        data,
-        d,
-        page,
-    )
+    write_read(out, run, image, metadata, m, data, d, page)
 }
 
 // Writes page after page, as far as the files go.
 fn pages(
     out: &mut [u8; 32768],
-    edition: u64,
-    record: &[u8],
-    plan: Plan,
     run: Run,
     metadata: &mut [u8],
     data: &mut [u8],
@@ -261,21 +241,19 @@ fn pages(
     };
     let mut turns = u64::MAX;
     while 0 < turns {
-        image = one(out, edition, record, plan, run, image, metadata, data, page);
+        image = one(out, run, image, metadata, data, page);
         turns = streams::left(turns, image.more);
     }
     image
 }
 
-fn all(out: &mut [u8; 32768], edition: u64, record: &[u8], plan: Plan, run: Run) -> Image {
+fn all(out: &mut [u8; 32768], run: Run) -> Image {
+    let plan = run.plan;
     let mut metadata = [0u8; 256];
     let mut data = io::large_buffer();
     let mut page = io::large_buffer();
     pages(
         out,
-        edition,
-        record,
-        plan,
         run,
         text::front_mut(&mut metadata, plan.metadata as usize),
         text::front_mut(&mut data, plan.data as usize),
@@ -300,22 +278,20 @@ fn written(out: &mut [u8; 32768], plan: Plan, image: Image) {
         say::fact(out, b"page written, ", plan.size as u64, b" bytes\n");
         return;
     }
-    say::fact(out, b"pages written ", image.pages, b", ");
-    say::fact(
+    say::facts(
         out,
-        b"",
-        text::times(image.pages, plan.size as u32),
-        b" bytes\n",
+        b"pages written #, # bytes\n",
+        &[image.pages, text::times(image.pages, plan.size as u32)],
     );
 }
 
 // Puts a page or an image that is whole in its place.
-fn finish(out: &mut [u8; 32768], plan: Plan, run: Run, image: Image, page: &[u8]) {
+fn finish(out: &mut [u8; 32768], run: Run, image: Image, page: &[u8]) {
     let n = arguments::run_number();
     if image.good {
         if files::end(out, run.page, page) {
             if files::place(out, page, n) {
-                written(out, plan, image);
+                written(out, run.plan, image);
                 return;
             }
         }
@@ -357,32 +333,22 @@ fn standing(out: &mut [u8; 32768], plan: Plan, path: &[u8]) -> i32 {
     -2
 }
 
-fn write_run(
-    out: &mut [u8; 32768],
-    edition: u64,
-    record: &[u8],
-    plan: Plan,
-    run: Run,
-    metadata: &[u8],
-    data: &[u8],
-    page: &[u8],
-) {
+fn write_run(out: &mut [u8; 32768], run: Run, metadata: &[u8], data: &[u8], page: &[u8]) {
     if files::is_dash(page) {
         say::to_stderr(out);
     }
-    let image = all(out, edition, record, plan, run);
+    let image = all(out, run);
     let failed = image.failed;
     complain(out, failed, metadata, data, page);
     files::close_input(run.metadata);
     files::close_input(run.data);
     files::close_input(run.before);
-    finish(out, plan, run, image, page);
+    finish(out, run, image, page);
 }
 
 fn write_paths(
     out: &mut [u8; 32768],
-    edition: u64,
-    record: &[u8],
+    words: LayoutWords,
     plan: Plan,
     metadata: &[u8],
     data: &[u8],
@@ -405,15 +371,35 @@ fn write_paths(
         return;
     }
     let run = Run {
+        edition: words.edition,
+        record: arguments::record_of(words),
+        plan: plan,
         metadata: m,
         data: d,
         page: p,
         before: b,
     };
-    write_run(out, edition, record, plan, run, metadata, data, page);
+    write_run(out, run, metadata, data, page);
 }
 
-fn write_under(out: &mut [u8; 32768], options: Options, edition: u64, record: &[u8], plan: Plan) {
+// The page that the argument after those of metadata and data names.
+fn write_to(
+    out: &mut [u8; 32768],
+    options: Options,
+    words: LayoutWords,
+    plan: Plan,
+    metadata: &[u8],
+    data: &[u8],
+) {
+    let mut page = io::buffer();
+    let p = os::arg(arguments::place(options.at, 4), &mut page);
+    if !arguments::whole(out, b"PAGE") {
+        return;
+    }
+    write_paths(out, words, plan, metadata, data, &page[..p]);
+}
+
+fn write_under(out: &mut [u8; 32768], options: Options, words: LayoutWords, plan: Plan) {
     let mut metadata = io::buffer();
     let m = os::arg(arguments::place(options.at, 2), &mut metadata);
     if !arguments::whole(out, b"METADATA") {
@@ -424,20 +410,7 @@ fn write_under(out: &mut [u8; 32768], options: Options, edition: u64, record: &[
     if !arguments::whole(out, b"DATA") {
         return;
     }
-    let mut page = io::buffer();
-    let p = os::arg(arguments::place(options.at, 4), &mut page);
-    if !arguments::whole(out, b"PAGE") {
-        return;
-    }
-    write_paths(
-        out,
-        edition,
-        record,
-        plan,
-        &metadata[..m],
-        &data[..d],
-        &page[..p],
-    );
+    write_to(out, options, words, plan, &metadata[..m], &data[..d]);
 }
 
 // nandpage write [--edition N] [--mark WORD2] WORD0 WORD1 METADATA DATA PAGE
@@ -457,11 +430,5 @@ pub fn write(out: &mut [u8; 32768]) {
     let Planned::Under { words, plan } = plans::plan_of_words(out, options) else {
         return;
     };
-    write_under(
-        out,
-        options,
-        words.edition,
-        &arguments::record_of(words),
-        plan,
-    );
+    write_under(out, options, words, plan);
 }

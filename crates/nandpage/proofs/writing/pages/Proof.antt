@@ -7,10 +7,10 @@ use Rattle.nandpage.proofs.writing.pages.Statement.{statement}
 use Rattle.nandpage.proofs.writing.pages.Tie as tie
 
 abbrev Inv-loop : tie.InvT-loop
-Inv-loop out₀ edition «record» plan run metadata₀ data₀ page₀ image₀ turns₀ out metadata «data» page image turns = (length metadata ≡ length metadata₀) × ((length «data» ≡ length data₀) × ((length page ≡ length page₀) × (turns ≤ turns₀)))
+Inv-loop out₀ run metadata₀ data₀ page₀ image₀ turns₀ out metadata «data» page image turns = (length metadata ≡ length metadata₀) × ((length «data» ≡ length data₀) × ((length page ≡ length page₀) × (turns ≤ turns₀)))
 
 abbrev μ-loop : tie.MeasureT-loop
-μ-loop out₀ edition «record» plan run metadata₀ data₀ page₀ image₀ turns₀ out metadata «data» page image turns = turns
+μ-loop out₀ run metadata₀ data₀ page₀ image₀ turns₀ out metadata «data» page image turns = turns
 
 loop-holds : tie.Need-loop-holds Inv-loop μ-loop
 loop-holds c = search needs
