@@ -32,6 +32,14 @@ fn put_byte(line: &mut [u8], at: usize, x: u8) -> usize {
     vector_io::put_number(line, at, x as u64)
 }
 
+// A line of a reply and of bytes.
+fn show_bytes(reply: u8, bytes: &[u8]) {
+    let mut line = [0u8; 512];
+    let at = put_byte(&mut line, 0, reply);
+    let end = put_bytes(&mut line, at, bytes);
+    vector_io::write_line(&line, end);
+}
+
 fn put_fragments(line: &mut [u8], at: usize, fragments: &[u32]) -> usize {
     let n = fragments.len();
     let mut p = at;
@@ -62,77 +70,114 @@ fn put_place(line: &mut [u8], at: usize, x: u16) -> usize {
     vector_io::put_number(line, at, x as u64)
 }
 
-fn put_reply(line: &mut [u8], answer: FragmentsAnswer) -> usize {
-    vector_io::put_number(line, 0, fragments_reply(answer) as u64)
+// A line of numbers and of the places of a list.
+fn show_places(numbers: &[u64], places: &[u16]) {
+    let mut line = [0u8; 512];
+    let at = vector_io::put_numbers(&mut line, 0, numbers);
+    let end = put_places(&mut line, at, places);
+    vector_io::write_line(&line, end);
 }
 
-// The reply of locating, and the size of a set.
-fn put_located(line: &mut [u8], at: usize, answer: LocateAnswer) -> usize {
-    let reply_at = vector_io::put_number(line, at, bch::answers::locate_reply(answer) as u64);
+// A line of two numbers, the size of the set that was located, where there is one, and the places of a list.
+fn show_located(first: u8, second: u8, answer: LocateAnswer, places: &[u16]) {
     match answer {
-        LocateAnswer::Located(size) => vector_io::put_number(line, reply_at, size as u64),
-        LocateAnswer::Refused(_) => reply_at,
+        LocateAnswer::Located(size) => show_places(
+            &[first as u64, second as u64, size as u64],
+            places,
+        ),
+        LocateAnswer::Refused(_) => show_places(&[first as u64, second as u64], places),
     }
 }
 
-fn export_line(
-    level_field: u64,
-    remainder: &[u8],
-    fragments: &mut [u32],
-    line: &mut [u8],
-) -> usize {
-    let at = put_reply(
-        line,
-        fragments::export_fragments(level_field, remainder, fragments),
-    );
-    put_fragments(line, at, fragments)
+// The first n fragments, to be written; all where there are no more.
+fn front_fragments(fragments: &mut [u32], n: usize) -> &mut [u32] {
+    if fragments.len() <= n {
+        return fragments;
+    }
+    &mut fragments[..n]
 }
 
-fn import_line(
-    level_field: u64,
-    remainder: &mut [u8],
-    fragments: &[u32],
-    line: &mut [u8],
-) -> usize {
-    let at = put_reply(
-        line,
-        fragments::import_fragments(level_field, fragments, remainder),
-    );
-    put_bytes(line, at, remainder)
+// The first n places, to be written; all where there are no more.
+fn front_places(places: &mut [u16], n: usize) -> &mut [u16] {
+    if places.len() <= n {
+        return places;
+    }
+    &mut places[..n]
 }
 
-fn locate_line(
+// What a vector gives: the remainder and the fragments with their lengths, and the number of places.
+struct Vector {
     level_field: u64,
     n: u64,
-    remainder: &mut [u8],
-    fragments: &[u32],
-    places: &mut [u16],
-    line: &mut [u8],
-) -> usize {
-    let at = put_reply(
-        line,
-        fragments::import_fragments(level_field, fragments, remainder),
-    );
-    let located = bch::locate_errors(1, level_field, 0, n, remainder, places);
-    let located_at = put_located(line, at, located);
-    put_places(line, located_at, places)
+    remainder: [u8; 40],
+    length: usize,
+    fragments: [u32; 16],
+    count: usize,
+    size: usize,
 }
 
-// The answer to a vector.
-fn answer(
-    head: &[u8],
-    remainder: &mut [u8],
-    fragments: &mut [u32],
-    places: &mut [u16],
-    line: &mut [u8],
-) -> usize {
-    let level_field = vector_io::number(head, 8, 8);
-    let n = vector_io::number(head, 16, 8);
-    match vector_io::byte(head, 0, 0) {
-        b'X' => export_line(level_field, remainder, fragments, line),
-        b'M' => import_line(level_field, remainder, fragments, line),
-        b'L' => locate_line(level_field, n, remainder, fragments, places, line),
-        _ => 0,
+fn export(v: Vector) {
+    let remainder = v.remainder;
+    let mut fragments = v.fragments;
+    let answer = fragments::export_fragments(
+        v.level_field,
+        text::front(&remainder, v.length),
+        front_fragments(&mut fragments, v.count),
+    );
+    let mut line = [0u8; 512];
+    let at = vector_io::put_number(&mut line, 0, fragments_reply(answer) as u64);
+    let end = put_fragments(&mut line, at, text::front_words(&fragments, v.count));
+    vector_io::write_line(&line, end);
+}
+
+// Imports the fragments of a vector into a remainder: the reply.
+fn imported(v: Vector, remainder: &mut [u8]) -> u8 {
+    let fragments = v.fragments;
+    let answer = fragments::import_fragments(
+        v.level_field,
+        text::front_words(&fragments, v.count),
+        remainder,
+    );
+    fragments_reply(answer)
+}
+
+fn import(v: Vector) {
+    let mut remainder = v.remainder;
+    let reply = imported(v, text::front_mut(&mut remainder, v.length));
+    show_bytes(reply, text::front(&remainder, v.length));
+}
+
+fn locate(v: Vector) {
+    let mut remainder = v.remainder;
+    let reply = imported(v, text::front_mut(&mut remainder, v.length));
+    locate_in(v, reply, text::front(&remainder, v.length));
+}
+
+fn locate_in(v: Vector, reply: u8, remainder: &[u8]) {
+    let mut places = [42405u16; 16];
+    let located = bch::locate_errors(
+        1,
+        v.level_field,
+        0,
+        v.n,
+        remainder,
+        front_places(&mut places, v.size),
+    );
+    show_located(
+        reply,
+        bch::answers::locate_reply(located),
+        located,
+        text::front_exponents(&places, v.size),
+    );
+}
+
+// Answers a vector by its kind.
+fn answer(kind: u8, v: Vector) {
+    match kind {
+        b'X' => export(v),
+        b'M' => import(v),
+        b'L' => locate(v),
+        _ => vector_io::write_line(b"", 0),
     }
 }
 
@@ -152,58 +197,45 @@ fn fragment_in(bytes: &[u8], at: usize) -> u32 {
 }
 
 // Reads the remainder and the fragments that follow a head, and answers: false where the input ends before.
-fn next_body(
-    head: &[u8],
-    remainder: &mut [u8],
-    bytes: &mut [u8],
-    count: usize,
-    places: &mut [u16],
-) -> bool {
-    if !vector_io::fill(remainder) {
+fn next_body(head: &[u8], length: u8, count: u8, size: u8) -> bool {
+    let mut remainder = [0u8; 40];
+    let mut bytes = [0u8; 64];
+    if !vector_io::fill(text::front_mut(&mut remainder, length as usize)) {
         return false;
     }
-    if !vector_io::fill(bytes) {
+    if !vector_io::fill(text::front_mut(&mut bytes, 4 * count as usize)) {
         return false;
     }
-    let mut fragments = fragments_in(bytes);
-    let mut line = [0u8; 512];
-    if 16 < count {
-        return false;
-    }
-    let at = answer(head, remainder, &mut fragments[..count], places, &mut line);
-    vector_io::write_line(&line, at);
+    answer(
+        vector_io::byte(head, 0, 0),
+        Vector {
+            level_field: vector_io::number(head, 8, 8),
+            n: vector_io::number(head, 16, 8),
+            remainder: remainder,
+            length: length as usize,
+            fragments: fragments_in(&bytes),
+            count: count as usize,
+            size: size as usize,
+        },
+    );
     true
 }
 
-// The same with the lengths that the head gives.
-fn next_lengths(head: &[u8], remainder: &mut [u8], bytes: &mut [u8], places: &mut [u16]) -> bool {
-    let length = vector_io::byte(head, 1, 0) as usize;
-    let count = vector_io::byte(head, 2, 0) as usize;
-    let size = vector_io::byte(head, 3, 0) as usize;
-    if remainder.len() < length {
-        return false;
-    }
-    if bytes.len() < 4 * count {
-        return false;
-    }
-    if places.len() < size {
-        return false;
-    }
-    next_body(
-        head,
-        &mut remainder[..length],
-        &mut bytes[..4 * count],
-        count,
-        &mut places[..size],
-    )
-}
-
-// Answers the vector of a head that is none of `E`: false where the input ends before it.
+// Answers the vector of a head that is none of `E`, with the lengths that it gives: false where the input ends before it.
 fn next(head: &[u8]) -> bool {
-    let mut remainder = [0u8; 40];
-    let mut bytes = [0u8; 64];
-    let mut places = [42405u16; 16];
-    next_lengths(head, &mut remainder, &mut bytes, &mut places)
+    let length = vector_io::byte(head, 1, 0);
+    let count = vector_io::byte(head, 2, 0);
+    let size = vector_io::byte(head, 3, 0);
+    if 40 < length {
+        return false;
+    }
+    if 16 < count {
+        return false;
+    }
+    if 16 < size {
+        return false;
+    }
+    next_body(head, length, count, size)
 }
 
 // Answers the next vector: false where there is none.

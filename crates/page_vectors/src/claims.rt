@@ -1,7 +1,8 @@
 // Vectors that check claimed error locations.
+use crate::answers;
 use crate::heads;
 
-fn claim_of(head: &[u8], page: &[u8], claims: &[u16], line: &mut [u8]) -> usize {
+fn claim_of(head: &[u8], page: &[u8], claims: &[u16]) {
     let block = vector_io::number(head, 32, 8);
     let answer = page_claim::check_claim(
         heads::edition(head),
@@ -10,26 +11,21 @@ fn claim_of(head: &[u8], page: &[u8], claims: &[u16], line: &mut [u8]) -> usize 
         block,
         claims,
     );
-    page_vector_io::put_claim(line, answer)
+    answers::show_claim(answer);
 }
 
-// Reads the claim into a buffer of its length, and checks it.
-fn claim_from(head: &[u8], page: &[u8], bytes: &mut [u8], line: &mut [u8]) -> usize {
-    if !vector_io::fill(bytes) {
-        return 0;
+// Checks a claim, whose exponents follow the page: false where the input ends before them.
+pub fn claim(head: &[u8], page: &[u8]) -> bool {
+    let mut bytes = [0u8; 512];
+    let count = heads::length(head, 28) % 65536;
+    if !vector_io::fill(text::front_mut(&mut bytes, 2 * count)) {
+        return false;
     }
-    let claims = page_vector_io::exponents(bytes);
+    let claims = crate::buffers::exponents(&bytes);
     claim_of(
         head,
         page,
         text::front_exponents(&claims, heads::length(head, 28)),
-        line,
-    )
-}
-
-// The line for a claim.
-pub fn claim(head: &[u8], page: &[u8], line: &mut [u8]) -> usize {
-    let mut bytes = [0u8; 512];
-    let count = heads::length(head, 28) % 65536;
-    claim_from(head, page, text::front_mut(&mut bytes, 2 * count), line)
+    );
+    true
 }

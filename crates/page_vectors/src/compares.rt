@@ -32,8 +32,8 @@ fn compare_from(head: &[u8], first: &mut [u8], second: &mut [u8]) -> bool {
 
 // Answers a vector: false where the input ends before its pages do.
 pub fn answer(head: &[u8]) -> bool {
-    let mut first = [0u8; 65536];
-    let mut second = [0u8; 65536];
+    let mut first = io::large_buffer();
+    let mut second = io::large_buffer();
     let a = heads::length(head, 24);
     let b = heads::length(head, 28);
     compare_from(

@@ -1,13 +1,8 @@
 // Vectors that take metadata and data out of a page.
+use crate::answers;
 use crate::heads;
 
-fn take_into(
-    head: &[u8],
-    page: &[u8],
-    metadata: &mut [u8],
-    data: &mut [u8],
-    line: &mut [u8],
-) -> usize {
+fn take_into(head: &[u8], page: &[u8], metadata: &mut [u8], data: &mut [u8]) {
     let answer = page_take::take_page(
         heads::edition(head),
         heads::record(head),
@@ -15,15 +10,13 @@ fn take_into(
         metadata,
         data,
     );
-    let at = page_vector_io::put_take(line, answer);
-    let data_at = page_vector_io::put_buffer(line, at, metadata);
-    page_vector_io::put_buffer(line, data_at, data)
+    answers::show_buffers(answers::of_take(answer), metadata, data);
 }
 
-// The line for a take, into buffers of the lengths that the head gives.
-pub fn take(head: &[u8], page: &[u8], line: &mut [u8]) -> usize {
+// Takes a page, into buffers of the lengths that the head gives.
+pub fn take(head: &[u8], page: &[u8]) -> bool {
     let mut metadata = [165u8; 512];
-    let mut data = [165u8; 65536];
+    let mut data = crate::buffers::large();
     let m = heads::length(head, 28);
     let d = heads::length(head, 32);
     take_into(
@@ -31,6 +24,6 @@ pub fn take(head: &[u8], page: &[u8], line: &mut [u8]) -> usize {
         page,
         text::front_mut(&mut metadata, m),
         text::front_mut(&mut data, d),
-        line,
-    )
+    );
+    true
 }

@@ -14,6 +14,14 @@ enum Command {
     Salvage,
 }
 
+// A command with its options, its layout words and the plan of a page under them.
+struct Asked {
+    command: Command,
+    options: Options,
+    words: LayoutWords,
+    plan: Plan,
+}
+
 // The descriptor of an output, -1 where it is not wanted and -2 where an error was printed, about it or about the one before.
 fn output(out: &mut [u8; 32768], path: &[u8], stdout: bool, before: i32) -> i32 {
     if before < -1 {
@@ -48,16 +56,11 @@ fn is_dump(command: Command, options: Options) -> bool {
     }
 }
 
-fn run_of(
-    command: Command,
-    options: Options,
-    words: LayoutWords,
-    plan: Plan,
-    input: i32,
-    metadata: i32,
-    data: i32,
-    list: i32,
-) -> Run {
+fn run_of(asked: Asked, input: i32, metadata: i32, data: i32, list: i32) -> Run {
+    let command = asked.command;
+    let options = asked.options;
+    let words = asked.words;
+    let plan = asked.plan;
     Run {
         edition: words.edition,
         record: arguments::record_of(words),
@@ -83,10 +86,7 @@ fn run_of(
 
 fn run_outputs(
     out: &mut [u8; 32768],
-    command: Command,
-    options: Options,
-    words: LayoutWords,
-    plan: Plan,
+    asked: Asked,
     input: i32,
     page: &[u8],
     metadata: &[u8],
@@ -94,13 +94,13 @@ fn run_outputs(
     list: &[u8],
 ) {
     let m = output(out, metadata, false, 0);
-    let d = output(out, data, options.stdout, m);
+    let d = output(out, data, asked.options.stdout, m);
     let l = output(out, list, false, d);
     if l < -1 {
         read_outputs::drop_all(metadata, data, list);
         return;
     }
-    let run = run_of(command, options, words, plan, input, m, d, l);
+    let run = run_of(asked, input, m, d, l);
     let totals = running::read_file(out, run);
     read_outputs::finish(out, run, totals, page, metadata, data, list);
 }
@@ -108,10 +108,7 @@ fn run_outputs(
 // Runs a command on files, of which those of the last three that are not wanted are dashes.
 fn run_paths(
     out: &mut [u8; 32768],
-    command: Command,
-    options: Options,
-    words: LayoutWords,
-    plan: Plan,
+    asked: Asked,
     page: &[u8],
     metadata: &[u8],
     data: &[u8],
@@ -121,18 +118,7 @@ fn run_paths(
     if input < 0 {
         return;
     }
-    run_outputs(
-        out,
-        command,
-        options,
-        words,
-        plan,
-        input,
-        page,
-        metadata,
-        data,
-        list,
-    );
+    run_outputs(out, asked, input, page, metadata, data, list);
     files::close_input(input);
 }
 
@@ -159,17 +145,9 @@ fn path(out: &mut [u8; 32768], options: Options, k: usize, name: &[u8], to: &mut
 }
 
 // The list that salvaging has.
-fn salvage_paths(
-    out: &mut [u8; 32768],
-    options: Options,
-    words: LayoutWords,
-    plan: Plan,
-    page: &[u8],
-    metadata: &[u8],
-    data: &[u8],
-) {
+fn salvage_paths(out: &mut [u8; 32768], asked: Asked, page: &[u8], metadata: &[u8], data: &[u8]) {
     let mut buffer = io::buffer();
-    let Number::Is(l) = path(out, options, 5, b"LIST", &mut buffer) else {
+    let Number::Is(l) = path(out, asked.options, 5, b"LIST", &mut buffer) else {
         return;
     };
     let list = text::front(&buffer, l as usize);
@@ -177,94 +155,51 @@ fn salvage_paths(
         say::error(out, b"LIST is a file, and no dash");
         return;
     }
-    run_paths(
-        out,
-        Command::Salvage,
-        options,
-        words,
-        plan,
-        page,
-        metadata,
-        data,
-        list,
-    );
+    run_paths(out, asked, page, metadata, data, list);
 }
 
-fn output_paths(
-    out: &mut [u8; 32768],
-    command: Command,
-    options: Options,
-    words: LayoutWords,
-    plan: Plan,
-    page: &[u8],
-    metadata: &[u8],
-    data: &[u8],
-) {
+fn output_paths(out: &mut [u8; 32768], asked: Asked, page: &[u8], metadata: &[u8], data: &[u8]) {
+    let command = asked.command;
     if let Command::Salvage = command {
-        salvage_paths(out, options, words, plan, page, metadata, data);
+        salvage_paths(out, asked, page, metadata, data);
         return;
     }
-    if is_data(out, options, data) {
-        run_paths(
-            out,
-            command,
-            options,
-            words,
-            plan,
-            page,
-            metadata,
-            data,
-            b"-",
-        );
+    if is_data(out, asked.options, data) {
+        run_paths(out, asked, page, metadata, data, b"-");
     }
 }
 
 // The outputs that reading and salvaging have.
-fn outputs(
-    out: &mut [u8; 32768],
-    command: Command,
-    options: Options,
-    words: LayoutWords,
-    plan: Plan,
-    page: &[u8],
-) {
+fn outputs(out: &mut [u8; 32768], asked: Asked, page: &[u8]) {
     let mut metadata = io::buffer();
     let mut data = io::buffer();
-    let Number::Is(m) = path(out, options, 3, b"METADATA", &mut metadata) else {
+    let Number::Is(m) = path(out, asked.options, 3, b"METADATA", &mut metadata) else {
         return;
     };
-    let Number::Is(d) = path(out, options, 4, b"DATA", &mut data) else {
+    let Number::Is(d) = path(out, asked.options, 4, b"DATA", &mut data) else {
         return;
     };
     output_paths(
         out,
-        command,
-        options,
-        words,
-        plan,
+        asked,
         page,
         text::front(&metadata, m as usize),
         text::front(&data, d as usize),
     );
 }
 
-fn paths(
-    out: &mut [u8; 32768],
-    command: Command,
-    options: Options,
-    words: LayoutWords,
-    plan: Plan,
-) {
+fn paths(out: &mut [u8; 32768], asked: Asked) {
     let mut buffer = io::buffer();
-    let Number::Is(p) = path(out, options, 2, b"PAGE", &mut buffer) else {
+    let Number::Is(p) = path(out, asked.options, 2, b"PAGE", &mut buffer) else {
         return;
     };
     let page = text::front(&buffer, p as usize);
+    let command = asked.command;
     if is_look(command) {
-        run_paths(out, command, options, words, plan, page, b"-", b"-", b"-");
+        run_paths(out, asked, page, b"-", b"-", b"-");
         return;
     }
-    outputs(out, command, options, words, plan, page);
+    outputs(out, asked, page);
 }
 
 // The options that a command may have.
@@ -312,7 +247,15 @@ fn run(out: &mut [u8; 32768], command: Command) {
     let Planned::Under { words, plan } = plans::plan_of_words(out, options) else {
         return;
     };
-    paths(out, command, options, words, plan);
+    paths(
+        out,
+        Asked {
+            command: command,
+            options: options,
+            words: words,
+            plan: plan,
+        },
+    );
 }
 
 // nandpage read [--edition N] [--mark WORD2] [--from N] [--pages M] [--quiet] [--stdout] WORD0 WORD1 PAGE METADATA DATA

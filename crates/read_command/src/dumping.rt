@@ -117,13 +117,10 @@ pub fn read_next(
     page: &[u8],
     data: &mut [u8; 65536],
 ) -> Totals {
-    let record = run.record;
     let mut metadata = [0u8; 256];
     let mut counts = [0u8; 256];
     match reading::read_into(
-        run.edition,
-        &record,
-        run.plan,
+        run,
         read_totals::wants(run),
         page,
         &mut metadata,

@@ -26,13 +26,10 @@ fn done(out: &mut [u8; 32768], run: Run, totals: Totals, counts: &[u8; 256]) -> 
 // A file of at most one page. A page that is refused leaves the files as they are.
 fn single(out: &mut [u8; 32768], run: Run, page: &[u8], data: &mut [u8; 65536]) -> Totals {
     let start = read_totals::start(run.began);
-    let record = run.record;
     let mut metadata = [0u8; 256];
     let mut counts = [0u8; 256];
     match reading::read_into(
-        run.edition,
-        &record,
-        run.plan,
+        run,
         read_totals::wants(run),
         page,
         &mut metadata,

@@ -6,40 +6,26 @@
 // at once more.
 use crate::reading;
 use crate::reading::Answer;
-use layout_plan::Plan;
+use read_totals::Run;
 
 // Reads the page with ones in place of the ruined blocks: whether that gave the same counts of the others.
 fn read_others(
-    edition: u64,
-    record: &[u8],
-    plan: Plan,
+    run: Run,
     page: &[u8],
     metadata: &mut [u8],
     data: &mut [u8],
     counts: &[u8; 256],
 ) -> bool {
     let mut again = [0u8; 256];
-    match reading::read_into(
-        edition,
-        record,
-        plan,
-        true,
-        page,
-        metadata,
-        data,
-        &mut again,
-    ) {
+    match reading::read_into(run, true, page, metadata, data, &mut again) {
         Answer::Done => salvage::are_same(counts, &again),
         Answer::Refused(_) => false,
     }
 }
 
-// Puts what can be saved of a page with these counts to the front of metadata and data, and says whether that is done.
-pub fn salvage(
-    edition: u64,
-    record: &[u8],
-    plan: Plan,
-    raw: bool,
+// Puts the messages of the blocks that are not ruined to the front of metadata and data, and says whether that is done.
+fn put_others(
+    run: Run,
     page: &[u8],
     metadata: &mut [u8],
     data: &mut [u8],
@@ -47,24 +33,27 @@ pub fn salvage(
 ) -> bool {
     let n = page.len();
     let mut work = io::large_buffer();
-    salvage::covered(plan, page, text::front_mut(&mut work, n), counts);
-    if !read_others(
-        edition,
-        record,
-        plan,
-        text::front(&work, n),
-        metadata,
-        data,
-        counts,
-    ) {
+    salvage::covered(run.plan, page, text::front_mut(&mut work, n), counts);
+    read_others(run, text::front(&work, n), metadata, data, counts)
+}
+
+// Puts what can be saved of a page with these counts to the front of metadata and data, and says whether that is done.
+pub fn salvage(
+    run: Run,
+    page: &[u8],
+    metadata: &mut [u8],
+    data: &mut [u8],
+    counts: &[u8; 256],
+) -> bool {
+    if !put_others(run, page, metadata, data, counts) {
         return false;
     }
     salvage::put_all(
-        plan,
-        raw,
+        run.plan,
+        run.raw,
         page,
-        text::front_mut(metadata, plan.metadata as usize),
-        text::front_mut(data, plan.data as usize),
+        text::front_mut(metadata, run.plan.metadata as usize),
+        text::front_mut(data, run.plan.data as usize),
         counts,
     );
     true

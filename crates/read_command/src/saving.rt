@@ -38,19 +38,9 @@ pub fn save(
     page: &[u8],
     counts: &[u8; 256],
 ) -> Totals {
-    let record = run.record;
     let mut metadata = [255u8; 256];
     let mut data = [255u8; 65536];
-    if salvaging::salvage(
-        run.edition,
-        &record,
-        run.plan,
-        run.raw,
-        page,
-        &mut metadata,
-        &mut data,
-        counts,
-    ) {
+    if salvaging::salvage(run, page, &mut metadata, &mut data, counts) {
         let t = dumping::put_page(run, totals, &metadata, &data);
         return stored(out, run, t, counts);
     }

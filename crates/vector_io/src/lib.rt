@@ -4,7 +4,9 @@
 //   fill             the next bytes of the input
 //   byte, number     a byte and a number of a vector
 //   put, put_number  a byte and a number onto a line
+//   put_numbers      several
 //   write_line       the line, ended
+//   show             a line of numbers
 //
 // No function asks anything of its caller: what lies outside a slice reads as 0, and what does not fit a line is left out.
 // What is read is proved; what is written is compared by running the programs.
@@ -65,10 +67,29 @@ pub fn put_number(line: &mut [u8], at: usize, n: u64) -> usize {
     put_all(line, p, &digits[..k])
 }
 
+// Numbers onto the line.
+pub fn put_numbers(line: &mut [u8], at: usize, numbers: &[u64]) -> usize {
+    let n = numbers.len();
+    let mut p = at;
+    let mut i = 0;
+    while i < n {
+        p = put_number(line, p, numbers[i]);
+        i += 1;
+    }
+    p
+}
+
 // Writes the line, of which `at` is the next place, and ends it.
 pub fn write_line(line: &[u8], at: usize) {
     if at <= line.len() {
         io::write_all(STDOUT_FILENO, &line[..at]);
     }
     io::write_all(STDOUT_FILENO, b"\n");
+}
+
+// Writes a line of numbers.
+pub fn show(numbers: &[u64]) {
+    let mut line = [0u8; 512];
+    let at = put_numbers(&mut line, 0, numbers);
+    write_line(&line, at);
 }

@@ -2,8 +2,9 @@
 //!
 //!     vectors layout|locate|fragments|pages|sectors|roots|store|compare INPUT OUTPUT
 //!
-//! INPUT is what a program reads on its standard input, OUTPUT what it is to print. `page_vectors` is given the
-//! vectors of pages and of compare one after the other, `fragment_vectors` those of fragments and of locate.
+//! INPUT is what a program reads on its standard input, OUTPUT what it is to print. `fragment_vectors` is given the
+//! vectors of fragments and of locate one after the other, `page_vectors` those of pages, compare, store and sectors:
+//! before those of store stands a head of the kind `V`, after them a line of the kind `X` and a head of the kind `K`.
 
 mod compare;
 mod fragments;
