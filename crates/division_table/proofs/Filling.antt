@@ -281,17 +281,13 @@ digit-begins {u} w i some l {b} {p} eb ep z =
     let e : p * (i / b) ≡ 2 ^ c * (i / c) = rw (ep, eb) refl in
     rw e (record { some = omega arith; inside = omega arith; zero-there = place-zero c (i / c); next = f .0; then = f .1 })
 
--- the rows of 2^0 end at 2, and those of no power before
+-- the rows of 2^0 end at 2
 pub power-first : (u : ℕ) → powerRow (digitBits u) 0 + 2 ^ (0 % digitBits u) ≡ 2
 unfolding powerRow
 power-first u =
     let q : 0 / digitBits u ≡ 0 = zero-div (digitBits u) in
     let r : 0 % digitBits u ≡ 0 = zero-mod (digitBits u) in
     rw (q, r) (omega arith)
-
-pub power-beyond : (u i : ℕ) → 1 < powerRow (digitBits u) i + 2 ^ (i % digitBits u)
-unfolding powerRow
-power-beyond u i = let z = pow-pos (i % digitBits u) in omega arith
 
 pub power-last : {u : ℕ} → RowWords u → powerRow (digitBits u) 63 + 2 ^ (63 % digitBits u) ≡ rowsOf u
 unfolding digitBits rowsOf powerRow

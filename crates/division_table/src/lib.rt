@@ -11,7 +11,7 @@
 // Above mt = 576 the rows have fourteen words, and the number is cut into 16 digits of four, so that the table takes no more room.
 //
 //   digits  how a word is cut into digits, and the rows that they belong to
-//   row     rows of words in a slice: cleared, added
+//   row     a row of words in a slice, written
 //   fill    the rows of the powers of 2 by doubling, the others as sums
 //
 // What a table is stands in specs/Table.antt; proofs/ has the laws: Rows (rows of words), Filling (the table while it is made), Level (the
