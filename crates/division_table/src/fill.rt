@@ -1,5 +1,5 @@
 // The rows of a table: first those of the powers of 2, by doubling, then the others as sums of two that are there. So the row that is added to
-// others is none that was written a moment before, for which the processor would have to wait.
+// others is none that was written a moment before: in each form tried where it is, the table took longer.
 ghost use mathlib.Core.Path.{_≡_};
 ghost use Prim.Native.Nat.{ℕ, _+_, _-_, _*_, _%_, _^_, _≤_, _<_};
 ghost use lib.ListN.{length};
