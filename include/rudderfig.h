@@ -104,25 +104,25 @@ enum rudderfig_reply_number {
 /*
  * Bytes of stack that a call takes at most on any of the four processors, its return address included. `make lib` and `make boards` compare them with
  * the code.
- * Most of it are the decoder's tables, which are filled only where a block is damaged or erased. On x86-64 taking an undamaged page takes about 66,000
- * bytes; looking at one about 104,000 and judging an undamaged block about 73,000, since the compiler makes room for the tables on entry.
+ * Most of it are the decoder's tables, which are filled only where a block is damaged or erased. On x86-64 taking an undamaged page takes about 73,000
+ * bytes; looking at one about 111,000 and judging an undamaged block about 76,000, since the compiler makes room for the tables on entry.
  */
 #define RUDDERFIG_STACK_CHECK_LAYOUT 256
 #define RUDDERFIG_STACK_LOCATE_BIT 512
 #define RUDDERFIG_STACK_BIT_POSITION 256
-#define RUDDERFIG_STACK_WRITE_PAGE 36864
-#define RUDDERFIG_STACK_LOOK_PAGE 118784
-#define RUDDERFIG_STACK_TAKE_PAGE 151552
-#define RUDDERFIG_STACK_JUDGE_BLOCK 106496
+#define RUDDERFIG_STACK_WRITE_PAGE 45056
+#define RUDDERFIG_STACK_LOOK_PAGE 126976
+#define RUDDERFIG_STACK_TAKE_PAGE 159744
+#define RUDDERFIG_STACK_JUDGE_BLOCK 114688
 #define RUDDERFIG_STACK_LOCATE_ERRORS 86016
-#define RUDDERFIG_STACK_CHECK_CLAIM 36864
+#define RUDDERFIG_STACK_CHECK_CLAIM 45056
 #define RUDDERFIG_STACK_EXPORT_FRAGMENTS 1024
 #define RUDDERFIG_STACK_IMPORT_FRAGMENTS 1024
 #define RUDDERFIG_STACK_PARITY_START 256
-#define RUDDERFIG_STACK_PARITY_FEED 36864
+#define RUDDERFIG_STACK_PARITY_FEED 45056
 #define RUDDERFIG_STACK_PARITY_FINISH 1024
 #define RUDDERFIG_STACK_EXPLAIN_LAYOUT 512
-#define RUDDERFIG_STACK_EXPLAIN_BLOCK 106496
+#define RUDDERFIG_STACK_EXPLAIN_BLOCK 114688
 #define RUDDERFIG_STACK_EXPLAIN_BIT 512
 
 /* The largest of them. */

@@ -3,7 +3,7 @@
 //
 //   parity_by_bits    the parity of more bits of a message, from the parity of those before on
 //
-// Divisor and parity are moved up until they fill four, nine or fourteen words, and the parity is moved down at the end. The law behind
+// Divisor and parity are moved up until they fill four, ten or fourteen words, and the parity is moved down at the end. The law behind
 // that is in `division_steps`; proofs/Single.antt has the laws of a single step.
 ghost use mathlib.Core.Path.{_≡_};
 ghost use Prim.Native.Nat.{_+_, _*_, _%_, _^_, _≤_, _<_};
@@ -79,8 +79,8 @@ fn bits_taken_fixed(
     if used == 4 {
         return bits_taken(state, row, 4, bytes, at, n);
     }
-    if used == 9 {
-        return bits_taken(state, row, 9, bytes, at, n);
+    if used == 10 {
+        return bits_taken(state, row, 10, bytes, at, n);
     }
     bits_taken(state, row, 14, bytes, at, n)
 }

@@ -6,7 +6,6 @@
 // divided by the generator. No decoder is asked.
 use bit_writing::write::flip_bit;
 use division::runs::remainder_of;
-use division_table::lay;
 use division_table::make_table;
 use layout_plan::Shape;
 use mark::Mark;
@@ -92,8 +91,7 @@ fn is_code_flipped(
     let n = shape.covered as usize;
     copy_word(mark, page, position, word, n);
     flip_claims(claims, word, n);
-    let mut table = [0u64; 3600];
-    lay(&mut table);
+    let mut table = [0u8; 36864];
     make_table(field, level, &mut table);
     let remainder = remainder_of(field, level, &table, word, 0, n);
     is_zero(remainder)

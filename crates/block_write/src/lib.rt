@@ -21,7 +21,7 @@ ghost use Rattle.division_table.specs.Table.{Table};
 ghost use Rattle.block_write.specs.Encoded.{encoded, padded};
 
 // Puts the parity of a block after its message, which stands at the block's position.
-fn write_parity(shape: Shape, table: &[u64], mark: Mark, page: &mut [u8], position: usize)
+fn write_parity(shape: Shape, table: &[u8], mark: Mark, page: &mut [u8], position: usize)
     requires { ⌜ Table (shape .field) (shape .level) (now table) × Summed shape × InStream mark (now page) position (shape .covered) ⌝ }
     ensures { λ r. ⌜ now (page .exit)
         ≡ put mark (now (page .entry)) (position + shape .message)
@@ -41,7 +41,7 @@ fn write_parity(shape: Shape, table: &[u64], mark: Mark, page: &mut [u8], positi
 // Writes the covered bits of a block at a position: the message that starts at position `at` of the payload, and its parity.
 fn write_covered(
     shape: Shape,
-    table: &[u64],
+    table: &[u8],
     metadata: &[u8],
     data: &[u8],
     at: usize,
@@ -63,7 +63,7 @@ fn write_covered(
 // Writes a block at a position, and ones into its pads.
 pub fn write_block(
     shape: Shape,
-    table: &[u64],
+    table: &[u8],
     metadata: &[u8],
     data: &[u8],
     at: usize,

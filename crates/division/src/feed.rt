@@ -1,222 +1,143 @@
-// Runs of bits of a byte slice, by the table of a divisor: their words, and the odd bits at the end in one step. A register has the parity so
-// far in its first words, which it fills: the divisor has the degree 64 used.
+// Runs of bits of a byte slice, by the table of a divisor of the degree 64 used: the odd bits first, which fill no word, then words of 64. The
+// parity so far is a partial remainder of used + 1 words in between, and is reduced once, at the end.
 ghost use mathlib.Core.Path.{_≡_};
 ghost use Prim.Native.Nat.{ℕ, _+_, _*_, _^_, _≤_, _<_};
-ghost use lib.ListN.{length, getD};
-ghost use Rattle.bits.specs.Bits.{bitOf, run, number};
+ghost use Rattle.bits.specs.Bits.{bitOf, run};
 ghost use Rattle.code.specs.Register.{register};
 ghost use Rattle.remainder.specs.Parity.{parityFrom};
-ghost use Rattle.division_table.specs.Table.{divisorOf, Rests};
-use bits::read::eight_at;
+ghost use Rattle.partial.specs.Partial.{reduced};
+ghost use Rattle.division_table.specs.Table.{RowWords, divisorOf, Rests};
+use crate::words::turned_word;
+use crate::words::words_from;
 use bits::read::word_at;
+use division_steps::finish;
+use division_steps::four_step;
 use division_steps::long_step;
-use division_steps::nine_step;
-use division_steps::step_bits;
-use division_steps::step_word;
+use division_steps::start;
+use division_steps::ten_step;
 use remainder::Register;
+use wide::Wide;
 
-// Up to 16 words of a run of bits from byte `from` on, where the slice has them.
-fn whole_words(bytes: &[u8], from: usize, count: usize) -> [u64; 16]
-    requires { ⌜ (count ≤ 16) × (from + 8 * count ≤ length (now bytes)) ⌝ }
-    ensures { λ r. ⌜ ((k : ℕ) → k < count → getD r k 0 ≡ number (run (bitOf (now (bytes .entry))) (8 * from + 64 * k) 64)) ⌝ }
-{
-    let mut words = [0u64; 16];
-    let mut i = 0;
-    while i < count {
-        words[i] = eight_at(bytes, from + 8 * i);
-        i += 1;
-    }
-    words
-}
-
-// Up to 16 words of a run of bits from position `at` on, wherever that lies in a byte. They are read before any is fed, so that no call
-// stands among the steps, and the compiler keeps the register of the parity in those of the processor.
-pub fn words_from(bytes: &[u8], at: usize, count: usize) -> [u64; 16]
-    requires { ⌜ (count ≤ 16) × (at + 64 * count < 18446744073709551616) ⌝ }
-    ensures { λ r. ⌜ ((k : ℕ) → k < count → getD r k 0 ≡ number (run (bitOf (now (bytes .entry))) (at + 64 * k) 64)) ⌝ }
-{
-    let from = at / 8;
-    if at % 8 == 0 {
-        if from + 8 * count <= bytes.len() {
-            return whole_words(bytes, from, count);
-        }
-    }
-    let mut words = [0u64; 16];
-    let mut i = 0;
-    while i < count {
-        words[i] = word_at(bytes, at + 64 * i);
-        i += 1;
-    }
-    words
-}
-
-// A run of up to 16 words, for rows of four words. The number is written out: the loops over words and digits are then unrolled.
-fn feed_four_words(
-    state: Register,
-    table: &[u64],
-    bytes: &[u8],
-    at: usize,
-    count: usize,
-) -> Register
-    requires { ⌜ (Rests 4 (now table)) × (register (state .words) < 2 ^ (64 * 4)) × (at + 64 * count < 18446744073709551616) × (count ≤ 16) ⌝ }
-    ensures { λ r. ⌜ register (r .words)
-        ≡ parityFrom (64 * 4) (divisorOf 4 (now (table .entry))) (register (state .words)) (run (bitOf (now (bytes .entry))) at (64 * count)) ⌝ }
+// A run of up to 16 words, where the divisor has the degree 64 times four. The number is written out: the loops over words are then unrolled.
+fn feed_four_words(state: Wide, table: &[u8], bytes: &[u8], at: usize, count: usize) -> Wide
+    requires { ⌜ (Rests 4 (now table)) × (register (state .words) < 2 ^ (64 * 4 + 64)) × (at + 64 * count < 18446744073709551616) × (count ≤ 16) ⌝ }
+    ensures { λ r. ⌜ (register (r .words) < 2 ^ (64 * 4 + 64)) × (reduced (64 * 4) (divisorOf 4 (now (table .entry))) (register (r .words))
+        ≡ parityFrom (64 * 4) (divisorOf 4 (now (table .entry))) (reduced (64 * 4) (divisorOf 4 (now (table .entry))) (register (state .words))) (run (bitOf (now (bytes .entry))) at (64 * count))) ⌝ }
 {
     let words = words_from(bytes, at, count);
     let mut r = state;
     let mut fed = 0;
     while fed < count {
-        let w = words[fed];
-        r = step_word(r, table, 4, w);
+        let w = turned_word(words[fed]);
+        r = four_step(r, table, w);
         fed += 1;
     }
     r
 }
 
-// The same for rows of nine words.
-fn feed_nine_words(
-    state: Register,
-    table: &[u64],
-    bytes: &[u8],
-    at: usize,
-    count: usize,
-) -> Register
-    requires { ⌜ (Rests 9 (now table)) × (register (state .words) < 2 ^ (64 * 9)) × (at + 64 * count < 18446744073709551616) × (count ≤ 16) ⌝ }
-    ensures { λ r. ⌜ register (r .words)
-        ≡ parityFrom (64 * 9) (divisorOf 9 (now (table .entry))) (register (state .words)) (run (bitOf (now (bytes .entry))) at (64 * count)) ⌝ }
+// The same where it is 64 times ten.
+fn feed_ten_words(state: Wide, table: &[u8], bytes: &[u8], at: usize, count: usize) -> Wide
+    requires { ⌜ (Rests 10 (now table)) × (register (state .words) < 2 ^ (64 * 10 + 64)) × (at + 64 * count < 18446744073709551616) × (count ≤ 16) ⌝ }
+    ensures { λ r. ⌜ (register (r .words) < 2 ^ (64 * 10 + 64)) × (reduced (64 * 10) (divisorOf 10 (now (table .entry))) (register (r .words))
+        ≡ parityFrom (64 * 10) (divisorOf 10 (now (table .entry))) (reduced (64 * 10) (divisorOf 10 (now (table .entry))) (register (state .words))) (run (bitOf (now (bytes .entry))) at (64 * count))) ⌝ }
 {
     let words = words_from(bytes, at, count);
     let mut r = state;
     let mut fed = 0;
     while fed < count {
-        let w = words[fed];
-        r = nine_step(r, table, w);
+        let w = turned_word(words[fed]);
+        r = ten_step(r, table, w);
         fed += 1;
     }
     r
 }
 
-// The same for rows of fourteen words.
-fn feed_long_words(
-    state: Register,
-    table: &[u64],
-    bytes: &[u8],
-    at: usize,
-    count: usize,
-) -> Register
-    requires { ⌜ (Rests 14 (now table)) × (register (state .words) < 2 ^ (64 * 14)) × (at + 64 * count < 18446744073709551616) × (count ≤ 16) ⌝ }
-    ensures { λ r. ⌜ register (r .words)
-        ≡ parityFrom (64 * 14) (divisorOf 14 (now (table .entry))) (register (state .words)) (run (bitOf (now (bytes .entry))) at (64 * count)) ⌝ }
+// The same where it is 64 times fourteen.
+fn feed_long_words(state: Wide, table: &[u8], bytes: &[u8], at: usize, count: usize) -> Wide
+    requires { ⌜ (Rests 14 (now table)) × (register (state .words) < 2 ^ (64 * 14 + 64)) × (at + 64 * count < 18446744073709551616) × (count ≤ 16) ⌝ }
+    ensures { λ r. ⌜ (register (r .words) < 2 ^ (64 * 14 + 64)) × (reduced (64 * 14) (divisorOf 14 (now (table .entry))) (register (r .words))
+        ≡ parityFrom (64 * 14) (divisorOf 14 (now (table .entry))) (reduced (64 * 14) (divisorOf 14 (now (table .entry))) (register (state .words))) (run (bitOf (now (bytes .entry))) at (64 * count))) ⌝ }
 {
     let words = words_from(bytes, at, count);
     let mut r = state;
     let mut fed = 0;
     while fed < count {
-        let w = words[fed];
+        let w = turned_word(words[fed]);
         r = long_step(r, table, w);
         fed += 1;
     }
     r
 }
 
-// Up to 16 words for rows of any width.
+// Up to 16 words for a divisor of any degree. It is called in two places: the compiler then keeps it apart, and the registers of the processor
+// for its loops.
 fn feed_few_words(
-    state: Register,
-    table: &[u64],
+    state: Wide,
+    table: &[u8],
     used: usize,
     bytes: &[u8],
     at: usize,
     count: usize,
-) -> Register
-    requires { ⌜ (Rests used (now table)) × (register (state .words) < 2 ^ (64 * used)) × (at + 64 * count < 18446744073709551616) × (count ≤ 16) ⌝ }
-    ensures { λ r. ⌜ register (r .words)
-        ≡ parityFrom (64 * used) (divisorOf used (now (table .entry))) (register (state .words)) (run (bitOf (now (bytes .entry))) at (64 * count)) ⌝ }
+) -> Wide
+    requires { ⌜ (Rests used (now table)) × (register (state .words) < 2 ^ (64 * used + 64)) × (at + 64 * count < 18446744073709551616) × (count ≤ 16) ⌝ }
+    ensures { λ r. ⌜ (register (r .words) < 2 ^ (64 * used + 64)) × (reduced (64 * used) (divisorOf used (now (table .entry))) (register (r .words))
+        ≡ parityFrom (64 * used) (divisorOf used (now (table .entry))) (reduced (64 * used) (divisorOf used (now (table .entry))) (register (state .words))) (run (bitOf (now (bytes .entry))) at (64 * count))) ⌝ }
 {
     if used == 4 {
         return feed_four_words(state, table, bytes, at, count);
     }
-    if used == 9 {
-        return feed_nine_words(state, table, bytes, at, count);
+    if used == 10 {
+        return feed_ten_words(state, table, bytes, at, count);
     }
     feed_long_words(state, table, bytes, at, count)
 }
 
-// How many words are fed at a time where so many are left.
-pub fn next_words(left: usize) -> usize
-    ensures { λ r. ⌜ (r ≤ left) × (r ≤ 16) × (0 < left → 0 < r) ⌝ }
+// A run of any number of words: first those that are no 16, then 16 at a time.
+fn feed_words(state: Wide, table: &[u8], used: usize, bytes: &[u8], at: usize, count: usize) -> Wide
+    requires { ⌜ (Rests used (now table)) × (register (state .words) < 2 ^ (64 * used + 64)) × (at + 64 * count < 18446744073709551616) ⌝ }
+    ensures { λ r. ⌜ (register (r .words) < 2 ^ (64 * used + 64)) × (reduced (64 * used) (divisorOf used (now (table .entry))) (register (r .words))
+        ≡ parityFrom (64 * used) (divisorOf used (now (table .entry))) (reduced (64 * used) (divisorOf used (now (table .entry))) (register (state .words))) (run (bitOf (now (bytes .entry))) at (64 * count))) ⌝ }
 {
-    if left < 16 { left } else { 16 }
-}
-
-// A run of any number of words.
-fn feed_words(
-    state: Register,
-    table: &[u64],
-    used: usize,
-    bytes: &[u8],
-    at: usize,
-    count: usize,
-) -> Register
-    requires { ⌜ (Rests used (now table)) × (register (state .words) < 2 ^ (64 * used)) × (at + 64 * count < 18446744073709551616) ⌝ }
-    ensures { λ r. ⌜ register (r .words)
-        ≡ parityFrom (64 * used) (divisorOf used (now (table .entry))) (register (state .words)) (run (bitOf (now (bytes .entry))) at (64 * count)) ⌝ }
-{
-    let mut r = state;
-    let mut fed = 0;
+    let mut fed = count % 16;
+    let mut r = feed_few_words(state, table, used, bytes, at, fed);
     while fed < count {
-        let few = next_words(count - fed);
-        r = feed_few_words(r, table, used, bytes, at + 64 * fed, few);
-        fed += few;
+        r = feed_few_words(r, table, used, bytes, at + 64 * fed, 16);
+        fed += 16;
     }
     r
 }
 
-// A run of bits of which there are fewer than 64.
-pub fn feed_bits(
-    state: Register,
-    table: &[u64],
-    used: usize,
-    bytes: &[u8],
-    at: usize,
-    n: usize,
-) -> Register
-    requires { ⌜ (Rests used (now table)) × (register (state .words) < 2 ^ (64 * used)) × (n < 64) ⌝ }
-    ensures { λ r. ⌜ register (r .words)
-        ≡ parityFrom (64 * used) (divisorOf used (now (table .entry))) (register (state .words)) (run (bitOf (now (bytes .entry))) at n) ⌝ }
+// The partial remainder of a parity and of the `odd` bits after it, of which there are fewer than 64.
+pub fn start_run(state: Register, used: usize, bytes: &[u8], at: usize, odd: usize) -> Wide
+    requires { ⌜ (RowWords used) × (register (state .words) < 2 ^ (64 * used)) × (odd < 64) ⌝ }
+    ensures { λ r. ⌜ (register (r .words) < 2 ^ (64 * used + 64)) × ((g : ℕ) → reduced (64 * used) g (register (r .words))
+        ≡ parityFrom (64 * used) g (register (state .words)) (run (bitOf (now (bytes .entry))) at odd)) ⌝ }
 {
-    if n == 0 {
-        return state;
+    if odd == 0 {
+        return start(state, used, 0, 0);
     }
     let w = word_at(bytes, at);
-    step_bits(state, table, used, n, w >> (64 - n))
+    start(state, used, odd, w >> (64 - odd))
 }
 
-// The same with the number of words in use written out.
-fn feed_bits_fixed(
-    state: Register,
-    table: &[u64],
-    used: usize,
-    bytes: &[u8],
-    at: usize,
-    n: usize,
-) -> Register
-    requires { ⌜ (Rests used (now table)) × (register (state .words) < 2 ^ (64 * used)) × (n < 64) ⌝ }
-    ensures { λ r. ⌜ register (r .words)
-        ≡ parityFrom (64 * used) (divisorOf used (now (table .entry))) (register (state .words)) (run (bitOf (now (bytes .entry))) at n) ⌝ }
+// The parity at the end, with the number of words in use written out.
+fn finish_run(state: Wide, table: &[u8], used: usize) -> Register
+    requires { ⌜ (Rests used (now table)) × (register (state .words) < 2 ^ (64 * used + 64)) ⌝ }
+    ensures { λ r. ⌜ register (r .words) ≡ reduced (64 * used) (divisorOf used (now (table .entry))) (register (state .words)) ⌝ }
 {
     if used == 4 {
-        return feed_bits(state, table, 4, bytes, at, n);
+        return finish(state, table, 4);
     }
-    if used == 9 {
-        return feed_bits(state, table, 9, bytes, at, n);
+    if used == 10 {
+        return finish(state, table, 10);
     }
-    feed_bits(state, table, 14, bytes, at, n)
+    finish(state, table, 14)
 }
 
-// A run of n bits: its words, then its odd bits.
+// A run of n bits: its odd bits, then its words.
 pub fn feed_run(
     state: Register,
-    table: &[u64],
+    table: &[u8],
     used: usize,
     bytes: &[u8],
     at: usize,
@@ -226,7 +147,8 @@ pub fn feed_run(
     ensures { λ r. ⌜ register (r .words)
         ≡ parityFrom (64 * used) (divisorOf used (now (table .entry))) (register (state .words)) (run (bitOf (now (bytes .entry))) at n) ⌝ }
 {
-    let long = n / 64;
-    let most = feed_words(state, table, used, bytes, at, long);
-    feed_bits_fixed(most, table, used, bytes, at + 64 * long, n % 64)
+    let odd = n % 64;
+    let first = start_run(state, used, bytes, at, odd);
+    let all = feed_words(first, table, used, bytes, at + odd, n / 64);
+    finish_run(all, table, used)
 }

@@ -5,15 +5,17 @@
 // fed in one piece or in several: the parity is a fold over the bits.
 //
 //   runs    the remainder of a run by the table of a level, and the parity of a message and of more of it
-//   feed    runs of bits of a byte slice fed by a table: words of 64 bits, and the odd bits at the end in one step
+//   feed    runs of bits of a byte slice fed by a table: the odd bits at the start in one step, and words of 64 bits
 //   pairs   two runs side by side
+//   words   words of a run of bits, as they are read
 //
-// The register is moved up so that it fills four, nine or fourteen words, and moved down at the end. What a remainder is stands in the
+// The register is moved up so that it fills four, ten or fourteen words, and moved down at the end. What a remainder is stands in the
 // crates `remainder` and `code`, what a table is in `division_table`; the steps and the laws are in `division_steps`, and
 // `bitwise_division` does the same bit by bit, with no table.
 mod feed;
 mod pairs;
 pub mod runs;
+mod words;
 
 use remainder::Register;
 

@@ -27,7 +27,7 @@ use remainder::coefficients::zero;
 pub fn parity_more(
     f: Field,
     t: usize,
-    table: &[u64],
+    table: &[u8],
     state: Register,
     bytes: &[u8],
     at: usize,
@@ -46,7 +46,7 @@ pub fn parity_more(
 }
 
 // The remainder of the n bits of a byte slice from position `at` on times x^(mt), whose digits are the parity of a message.
-pub fn parity_of(f: Field, t: usize, table: &[u64], bytes: &[u8], at: usize, n: usize) -> Register
+pub fn parity_of(f: Field, t: usize, table: &[u8], bytes: &[u8], at: usize, n: usize) -> Register
     requires { ⌜ (Table f t (now table)) × (at + n < 18446744073709551616) ⌝ }
     ensures { λ r. ⌜ register (r .words) ≡ remainder f t (run (bitOf (now (bytes .entry))) at n ++ replicate (degree f * t) false) ⌝ }
 {
@@ -58,14 +58,7 @@ pub fn parity_of(f: Field, t: usize, table: &[u64], bytes: &[u8], at: usize, n: 
 }
 
 // The remainder of the same bits. The last mt of them are added to the parity of those before.
-pub fn remainder_of(
-    f: Field,
-    t: usize,
-    table: &[u64],
-    bytes: &[u8],
-    at: usize,
-    n: usize,
-) -> Register
+pub fn remainder_of(f: Field, t: usize, table: &[u8], bytes: &[u8], at: usize, n: usize) -> Register
     requires { ⌜ (Table f t (now table)) × (at + n < 18446744073709551616) ⌝ }
     ensures { λ r. ⌜ register (r .words) ≡ remainder f t (run (bitOf (now (bytes .entry))) at n) ⌝ }
 {
@@ -83,7 +76,7 @@ pub fn remainder_of(
 fn parities_alone(
     f: Field,
     t: usize,
-    table: &[u64],
+    table: &[u8],
     bytes: &[u8],
     at: usize,
     to: usize,
@@ -105,7 +98,7 @@ fn parities_alone(
 fn two_parities(
     f: Field,
     t: usize,
-    table: &[u64],
+    table: &[u8],
     bytes: &[u8],
     at: usize,
     to: usize,
@@ -135,7 +128,7 @@ fn two_parities(
 pub fn two_remainders(
     f: Field,
     t: usize,
-    table: &[u64],
+    table: &[u8],
     bytes: &[u8],
     at: usize,
     to: usize,

@@ -74,11 +74,11 @@ pub divisor-is : (f : Field) (t : ℕ) {d u : ℕ} → d ≡ degree f * t → u 
 unfolding gap
 divisor-is f t ed eu row e = rw (eu, ed) e
 
-module _ (f : Field) (t : ℕ) {words : List ℕ} (table : Table f t words) (h : 0 < t) {d u : ℕ} (ed : d ≡ degree f * t) (eu : u ≡ width d) where
-  pub table-rests : Rests u words
+module _ (f : Field) (t : ℕ) {bytes : List ℕ} (table : Table f t bytes) (h : 0 < t) {d u : ℕ} (ed : d ≡ degree f * t) (eu : u ≡ width d) where
+  pub table-rests : Rests u bytes
   table-rests = rw (eu, ed) (table .rests h)
 
-  pub table-divides : divisorOf u words ≡ generator f t * 2 ^ (64 * u - d)
+  pub table-divides : divisorOf u bytes ≡ generator f t * 2 ^ (64 * u - d)
   unfolding gap
   table-divides = rw (eu, ed) (table .generates h)
 

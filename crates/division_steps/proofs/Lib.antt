@@ -1,3 +1,4 @@
--- Laws of the division: the steps by a table and runs of them, and what is divided moved up to whole words.
+-- Laws of the division: rows of bytes, the steps by a table and runs of them, and what is divided moved up to whole words.
+pub mod Rows
 pub mod Steps
 pub mod Level

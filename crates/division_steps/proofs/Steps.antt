@@ -1,231 +1,31 @@
--- Laws of the steps by the table, and of runs of bits that are fed by them.
+-- Laws of the numbers in words that the steps move, and of runs of bits that are fed by them.
 use mathlib.Core.Path.{_≡_, refl, sym, ap, ap₂, subst, _∙_}
 use mathlib.Core.List.{List}
 use Prim.Native.Nat.{ℕ, zero, suc, _+_, _-_, _*_, _/_, _%_, _^_, _<_, _≤_}
 use native.Mathlib.Omega.{arith}
-use native.Mathlib.Decide.{decLt}
-use native.Mathlib.Nat.{add-zero, mul-one, suc-mul, mod-lt, mod-le, mod-eq-of-lt, zero-div}
-use lib.ListN.{length, getD, drop, set}
-use lib.Seq.{getD-set-same, getD-set-other, getD-drop, set-getD}
-use lib.Pow.{pow-pos, pow-mono, shr-lt, shr-shr, shl-shr, high, mod-pow-add}
-use lib.Bits.{bitXor, xor-lt, xor-zero-l, xor-zero-r, xor-self, xor-shifted, xor-block, xor-shr}
+use native.Mathlib.Decide.{decLt, ℕ-discrete}
+use native.Mathlib.Nat.{add-zero, mul-one, lt-of-lt-of-le}
+use lib.ListN.{length, getD, set, length-set, List·getD-eq-default}
+use lib.Seq.{getD-set-same, getD-set-other}
+use lib.Pow.{pow-pos, pow-mono, shl-lt, shr-shr, shl-shr, high}
+use lib.Bits.{bitXor, xor-lt, xor-zero-r, xor-block}
 use Rattle.bits.specs.Bits.{bitOf, run, number, digits}
 use Rattle.bits.proofs.Numbers.{number-append, digits-number}
 use Rattle.bits.proofs.Pages.{number-run-lt}
 use Rattle.bits.proofs.Runs.{run-length, run-append}
-use Rattle.field.proofs.Xor.{xor-assoc}
 use Rattle.code.specs.Word.{Word}
 use Rattle.code.specs.Register.{low, register}
 use Rattle.remainder.specs.Parity.{parityFrom}
-use Rattle.remainder.specs.Parity.{rest}
-use Rattle.division_table.specs.Table.{RowWords, four, nine, fourteen, digitBits, rowsOf, place, rowOf, divisorOf, Rests}
-use Rattle.remainder.proofs.Words.{Words, low-next, low-lt, low-lt-next, register-zeros, register-mod, top-digits, words-drop}
-use Rattle.division_table.proofs.Filling.{wide-some, row-inside, row-product, place-row}
-use Rattle.remainder.proofs.Parity.{mod-up, rest-xor, rest-zero, rest-below, parity-append, parity-digits, parity-below}
+use Rattle.partial.specs.Partial.{reduced}
+use Rattle.remainder.proofs.Words.{Words, next-power, low-next, low-first, low-lt, low-store, low-one, low-register, register-short, register-zeros, register-mod, top-digits}
+use Rattle.remainder.proofs.Parity.{parity-append}
+use Rattle.partial.proofs.Partial.{reduced-pushed, reduced-below}
+use Rattle.division_table.specs.Table.{RowWords}
+use Rattle.division_steps.proofs.Rows.{words-many}
 
--- the last digit of a number of 64 binary digits has a row too
-last-five : (k : ℕ) {v left : ℕ} → v < 18446744073709551616 → 5 * k < 64 → left ≡ v / 2 ^ (5 * k) → 32 * k + left % 32 < 400
-last-five k {v} hv h el = elim (decLt k 12) [
-  | yes l ↦ omega arith
-  | no l ↦
-      let e : k ≡ 12 = omega arith in
-      let m : v / 2 ^ (5 * k) < 16 = rw e (shr-lt 4 60 hv) in
-      omega arith
-]
-
-digit-inside : {u : ℕ} → RowWords u → (k : ℕ) {v left : ℕ} → v < 18446744073709551616 → digitBits u * k < 64 → left ≡ v / 2 ^ (digitBits u * k)
-    → 2 ^ digitBits u * k + left % 2 ^ digitBits u < rowsOf u
-unfolding digitBits rowsOf
-digit-inside four k hv h el = last-five k hv h el
-digit-inside nine k hv h el = last-five k hv h el
-digit-inside fourteen k hv h el = omega arith
-
--- a digit begins within the 64 binary digits, where one that is no lower begins there
-pub digit-before : (b k to : ℕ) → k < to → b * (to - 1) < 64 → b * k < 64
-digit-before b k to l h = before (to - k - 1) (omega arith)
-  where
-    before : (d : ℕ) → to - 1 ≡ k + d → b * k < 64
-    before d e = let m : b * (k + d) < 64 = subst (λ n. b * n < 64) e h in omega arith
-
-pub digit-small : (b k : ℕ) → 0 < b → b * k < 64 → k < 64
-digit-small zero k hb h = absurd (omega arith)
-digit-small (suc b) k hb h = let e : suc b * k ≡ b * k + k = suc-mul b k in omega arith
-
--- the highest of u words
-low-top : (ws : List ℕ) → Words ws → (u : ℕ) → 0 < u → getD ws (u - 1) 0 ≡ low ws u / 2 ^ (64 * u - 64)
-low-top ws hw u some =
-    let e : u - 1 + 1 ≡ u = omega arith in
-    let m : 64 * (u - 1) ≡ 64 * u - 64 = omega arith in
-    sym (high (getD ws (u - 1) 0) (64 * (u - 1)) (low-lt ws hw (u - 1))) ∙ ap (λ x. x / 2 ^ (64 * (u - 1))) (sym (low-next ws (u - 1)) ∙ ap (low ws) e)
-    ∙ ap (λ n. low ws u / 2 ^ n) m
-
--- The digits of a number v, of b binary digits each, the lowest first: k of them are done, and `left` has the others.
-module _ (u : ℕ) (words : List ℕ) (table : Rests u words) {b : ℕ} (eb : b ≡ digitBits u) (v : ℕ) (hv : v < 18446744073709551616) where
-  positive : 64 ≤ 64 * u
-  positive = let s = wide-some (table .wide) in omega arith
-
-  pub row-below : (k : ℕ) {left row : ℕ} → b * k < 64 → left ≡ v / 2 ^ (b * k) → row ≡ 2 ^ b * k + left % 2 ^ b → row < rowsOf u
-  row-below k h el er = rw (er, eb) (digit-inside (table .wide) k hv (rw eb at h) (rw eb at el))
-
-  pub row-room : (k : ℕ) {left row : ℕ} → b * k < 64 → left ≡ v / 2 ^ (b * k) → row ≡ 2 ^ b * k + left % 2 ^ b → row * u + u ≤ length words
-  row-room k h el er = row-inside _ u _ (row-below k h el er) (table .size)
-
-  pub row-fits : (k : ℕ) {left row : ℕ} → b * k < 64 → left ≡ v / 2 ^ (b * k) → row ≡ 2 ^ b * k + left % 2 ^ b → row * u < 18446744073709551616
-  row-fits k h el er = row-product _ (table .wide) (row-below k h el er)
-
-  pub left-first : v ≡ v / 2 ^ (b * 0)
-  left-first = let e : b * 0 ≡ 0 = omega arith in sym (ap (λ n. v / 2 ^ n) e ∙ ap (λ n. n / 1) (sym (mul-one v)) ∙ shl-shr v 0)
-
-  pub left-next : (k : ℕ) {left : ℕ} → left ≡ v / 2 ^ (b * k) → left / 2 ^ b ≡ v / 2 ^ (b * (k + 1))
-  left-next k el =
-      let e : b * k + b ≡ b * (k + 1) = omega arith in
-      ap (λ n. n / 2 ^ b) el ∙ shr-shr v (b * k) b ∙ ap (λ n. v / 2 ^ n) e
-
-  module _ (r : ℕ) where
-    pub rows-first : r ≡ bitXor (rest (64 * u) (divisorOf u words) (v % 2 ^ (b * 0))) r
-    rows-first =
-        let z : b * 0 ≡ 0 = omega arith in
-        let e : v % 2 ^ (b * 0) ≡ 0 = ap (λ n. v % 2 ^ n) z ∙ omega arith in
-        sym (ap (λ n. bitXor (rest (64 * u) (divisorOf u words) n) r) e ∙ ap (λ n. bitXor n r) (rest-zero (64 * u) (divisorOf u words)) ∙ xor-zero-l r)
-
-    pub rows-next : (k : ℕ) {left row x y : ℕ} → b * k < 64 → left ≡ v / 2 ^ (b * k) → row ≡ 2 ^ b * k + left % 2 ^ b
-        → x ≡ bitXor (rest (64 * u) (divisorOf u words) (v % 2 ^ (b * k))) r → y ≡ bitXor (low (drop (row * u) words) u) x
-        → y ≡ bitXor (rest (64 * u) (divisorOf u words) (v % 2 ^ (b * (k + 1)))) r
-    unfolding rowOf
-    rows-next k {left} {row} h el er ex ey =
-        let g : ℕ = divisorOf u words in
-        let e : b * (k + 1) ≡ b + b * k = omega arith in
-        let p : ℕ = v / 2 ^ (b * k) % 2 ^ b * 2 ^ (b * k) in
-        let q : ℕ = v % 2 ^ (b * k) in
-        let m : v % 2 ^ (b * (k + 1)) ≡ bitXor p q =
-        ap (λ n. v % 2 ^ n) e ∙ mod-pow-add v b (b * k) ∙ sym (xor-shifted (v / 2 ^ (b * k) % 2 ^ b) (b * k) q (mod-lt v (pow-pos (b * k)))) in
-        let c : place b row ≡ p = ap (place b) er ∙ place-row b k (left % 2 ^ b) (mod-lt left (pow-pos b)) ∙ ap (λ n. n % 2 ^ b * 2 ^ (b * k)) el in
-        let w : low (drop (row * u) words) u ≡ rest (64 * u) g p = table .rows row (row-below k h el er) ∙ ap (λ n. rest (64 * u) g (place n row)) (sym eb) ∙ ap (rest (64 * u) g) c in
-        ey ∙ ap₂ bitXor w ex ∙ sym (xor-assoc (rest (64 * u) g p) (rest (64 * u) g q) r) ∙ ap (λ n. bitXor n r) (sym (rest-xor (64 * u) g p q) ∙ ap (rest (64 * u) g) (sym m))
-
-    pub rows-below : (k : ℕ) {x : ℕ} → r < 2 ^ (64 * u) → x ≡ bitXor (rest (64 * u) (divisorOf u words) (v % 2 ^ (b * k))) r → x < 2 ^ (64 * u)
-    rows-below k h ex =
-        let s = positive in
-        let m : 2 ^ 64 ≤ 2 ^ (64 * u) = pow-mono {i = 64} {j = 64 * u} s in
-        let l : v % 2 ^ (b * k) ≤ v = mod-le v (2 ^ (b * k)) in
-        rw ex (xor-lt (64 * u) _ r (rest-below (64 * u) (divisorOf u words) (omega arith) (table .monic) (v % 2 ^ (b * k)) (omega arith)) h)
-
-    pub rows-all : (k : ℕ) {x : ℕ} → 64 ≤ b * k → x ≡ bitXor (rest (64 * u) (divisorOf u words) (v % 2 ^ (b * k))) r → x ≡ bitXor (rest (64 * u) (divisorOf u words) v) r
-    rows-all k h ex =
-        let m : 2 ^ 64 ≤ 2 ^ (b * k) = pow-mono h in
-        let e : v % 2 ^ (b * k) ≡ v = mod-eq-of-lt (omega arith) in
-        ex ∙ ap (λ n. bitXor (rest (64 * u) (divisorOf u words) n) r) e
-
-  -- a register to which the rows of some digits after others are added, whatever it is the sum with of those others
-  pub part-below : (from k : ℕ) {r x : ℕ} → r < 2 ^ (64 * u)
-      → ((s : ℕ) → r ≡ bitXor (rest (64 * u) (divisorOf u words) (v % 2 ^ (b * from))) s → x ≡ bitXor (rest (64 * u) (divisorOf u words) (v % 2 ^ (b * k))) s) → x < 2 ^ (64 * u)
-  part-below from k {r} h f =
-      let y : ℕ = rest (64 * u) (divisorOf u words) (v % 2 ^ (b * from)) in
-      let e : bitXor y (bitXor y r) ≡ r = sym (xor-assoc y y r) ∙ ap (λ n. bitXor n r) (xor-self y) ∙ xor-zero-l r in
-      rows-below (bitXor y r) k (rows-below r from h refl) (f (bitXor y r) (sym e))
-
-  -- the highest word of the same sums
-  module _ (r : ℕ) where
-    pub highest-first : r ≡ bitXor (rest (64 * u) (divisorOf u words) (v % 2 ^ (b * 0)) / 2 ^ (64 * u - 64)) r
-    highest-first =
-        let z : b * 0 ≡ 0 = omega arith in
-        let e : v % 2 ^ (b * 0) ≡ 0 = ap (λ n. v % 2 ^ n) z ∙ omega arith in
-        sym (ap (λ n. bitXor (rest (64 * u) (divisorOf u words) n / 2 ^ (64 * u - 64)) r) e ∙ ap (λ n. bitXor (n / 2 ^ (64 * u - 64)) r) (rest-zero (64 * u) (divisorOf u words))
-        ∙ ap (λ n. bitXor n r) (zero-div (2 ^ (64 * u - 64))) ∙ xor-zero-l r)
-
-    pub highest-next : Words words → (k : ℕ) {left row x y : ℕ} → b * k < 64 → left ≡ v / 2 ^ (b * k) → row ≡ 2 ^ b * k + left % 2 ^ b
-        → x ≡ bitXor (rest (64 * u) (divisorOf u words) (v % 2 ^ (b * k)) / 2 ^ (64 * u - 64)) r → y ≡ bitXor (getD words (row * u + (u - 1)) 0) x
-        → y ≡ bitXor (rest (64 * u) (divisorOf u words) (v % 2 ^ (b * (k + 1))) / 2 ^ (64 * u - 64)) r
-    highest-next hw k {left} {row} h el er ex ey =
-        let g : ℕ = divisorOf u words in
-        let p : ℕ = 64 * u - 64 in
-        let a : ℕ = rest (64 * u) g (v % 2 ^ (b * k)) in
-        let l : ℕ = low (drop (row * u) words) u in
-        let n : bitXor l a ≡ rest (64 * u) g (v % 2 ^ (b * (k + 1))) = rows-next 0 k h el er (sym (xor-zero-r a)) refl ∙ xor-zero-r (rest (64 * u) g (v % 2 ^ (b * (k + 1)))) in
-        let t : getD words (row * u + (u - 1)) 0 ≡ l / 2 ^ p =
-        sym (getD-drop (row * u) words (u - 1) 0) ∙ low-top (drop (row * u) words) (words-drop words hw (row * u)) u (wide-some (table .wide)) in
-        ey ∙ ap₂ bitXor t ex ∙ sym (xor-assoc (l / 2 ^ p) (a / 2 ^ p) r) ∙ ap (λ z. bitXor z r) (sym (xor-shr l a p) ∙ ap (λ z. z / 2 ^ p) n)
-
-    pub highest-all : (k : ℕ) {x : ℕ} → 64 ≤ b * k → x ≡ bitXor (rest (64 * u) (divisorOf u words) (v % 2 ^ (b * k)) / 2 ^ (64 * u - 64)) r
-        → x ≡ bitXor (rest (64 * u) (divisorOf u words) v / 2 ^ (64 * u - 64)) r
-    highest-all k h ex =
-        let m : 2 ^ 64 ≤ 2 ^ (b * k) = pow-mono h in
-        let e : v % 2 ^ (b * k) ≡ v = mod-eq-of-lt (omega arith) in
-        ex ∙ ap (λ n. bitXor (rest (64 * u) (divisorOf u words) n / 2 ^ (64 * u - 64)) r) e
-
--- From the parity r, with the k coefficients b: h has the k highest digits of r, and the rows of v are added.
--- One step by the table is as many single steps as it takes coefficients.
-pub table-step : (u : ℕ) (words : List ℕ) → Rests u words → (r b k : ℕ) → r < 2 ^ (64 * u) → k ≤ 64 → b < 2 ^ k → {h n x : ℕ} → h ≡ r / 2 ^ (64 * u - k)
-    → n ≡ r * 2 ^ k % 2 ^ (64 * u) → x ≡ bitXor (rest (64 * u) (divisorOf u words) (bitXor h b)) n → x ≡ parityFrom (64 * u) (divisorOf u words) r (digits b k)
-table-step u words table r b k hr hk hb {h} eh en ex =
-    let s = wide-some (table .wide) in
-    ex ∙ ap (bitXor (rest (64 * u) (divisorOf u words) (bitXor h b))) en ∙ sym (parity-digits (64 * u) (divisorOf u words) (omega arith) k r b (omega arith) hr hb (ap (λ y. bitXor y b) eh))
-
--- the number in u words moved up by one word, and its highest word
-
-pub up-end : (ws vs : List ℕ) → Words vs → (u : ℕ) → 0 < u → u ≤ length ws → u ≤ length vs → low ws u ≡ low vs (u - 1) * 18446744073709551616 → ((k : ℕ) → u ≤ k → getD ws k 0 ≡ 0)
-    → register ws ≡ register vs * 18446744073709551616 % 2 ^ (64 * u)
-up-end ws vs hv u some l m inv above =
-    let e : 64 * u ≡ 64 * (u - 1) + 64 = omega arith in
-    register-zeros ws u l above ∙ inv ∙ ap (λ x. x * 18446744073709551616) (sym (register-mod vs hv (u - 1) (omega arith)))
-    ∙ sym (ap (λ i. register vs * 18446744073709551616 % 2 ^ i) e ∙ mod-up (register vs) (64 * (u - 1)) 64)
-
+-- the highest word
 pub top-word : (ws : List ℕ) → Words ws → (u : ℕ) → 0 < u → u ≤ length ws → register ws < 2 ^ (64 * u) → getD ws (u - 1) 0 ≡ register ws / 2 ^ (64 * u - 64)
 top-word ws h u some l r = sym (ap (λ n. n / 1) (sym (mul-one (getD ws (u - 1) 0))) ∙ shl-shr (getD ws (u - 1) 0) 0) ∙ top-digits ws h u 64 some l (omega arith) r
-
--- the highest word of what is moved up by one word was the second
-pub up-top : (ws : List ℕ) → Words ws → (u : ℕ) → 1 < u → u ≤ length ws → {n : ℕ} → n ≡ register ws * 18446744073709551616 % 2 ^ (64 * u) → getD ws (u - 2) 0 ≡ n / 2 ^ (64 * u - 64)
-up-top ws hw u some l {n} en =
-    let e : 64 * u ≡ 64 * (u - 1) + 64 = omega arith in
-    let d : u - 1 - 1 ≡ u - 2 = omega arith in
-    let p : 64 * u - 64 ≡ 64 + (64 * (u - 1) - 64) = omega arith in
-    let m : n ≡ low ws (u - 1) * 2 ^ 64 =
-    en ∙ ap (λ i. register ws * 18446744073709551616 % 2 ^ i) e ∙ mod-up (register ws) (64 * (u - 1)) 64 ∙ ap (λ x. x * 2 ^ 64) (register-mod ws hw (u - 1) (omega arith)) in
-    let q : n / 2 ^ (64 * u - 64) ≡ low ws (u - 1) / 2 ^ (64 * (u - 1) - 64) =
-    ap₂ (λ (x i : ℕ). x / 2 ^ i) m p ∙ sym (shr-shr (low ws (u - 1) * 2 ^ 64) 64 (64 * (u - 1) - 64)) ∙ ap (λ x. x / 2 ^ (64 * (u - 1) - 64)) (shl-shr (low ws (u - 1)) 64) in
-    ap (λ i. getD ws i 0) (sym d) ∙ low-top ws hw (u - 1) (omega arith) ∙ sym q
-
--- A sum of two numbers whose highest word is stored once more.
-pub highest-stored : (ws : List ℕ) → Words ws → (u : ℕ) → 0 < u → u ≤ length ws → (a n : ℕ) {h s : ℕ} → register ws ≡ bitXor a n → register ws < 2 ^ (64 * u)
-    → h ≡ bitXor (a / 2 ^ (64 * u - 64)) s → s ≡ n / 2 ^ (64 * u - 64) → register (set ws (u - 1) h) ≡ bitXor a n
-highest-stored ws hw u some l a n {h} er hr eh es =
-    let p : ℕ = 64 * u - 64 in
-    let e : h ≡ getD ws (u - 1) 0 = eh ∙ ap (bitXor (a / 2 ^ p)) es ∙ sym (xor-shr a n p) ∙ ap (λ x. x / 2 ^ p) (sym er) ∙ sym (top-word ws hw u some l hr) in
-    ap (λ x. register (set ws (u - 1) x)) e ∙ ap register (set-getD ws (u - 1) 0) ∙ er
-
-pub step-pushed : (x u : ℕ) {n : ℕ} → n ≡ (x + 0) % 2 ^ (64 * u) → n ≡ x % 2 ^ (64 * u)
-step-pushed x u en = en ∙ ap (λ y. y % 2 ^ (64 * u)) (add-zero x)
-
-pub step-room : (x u : ℕ) {n : ℕ} → n ≡ x % 2 ^ (64 * u) → n < 2 ^ (64 * u)
-step-room x u en = rw en (mod-lt x (pow-pos (64 * u)))
-
-pub rests-below : (u : ℕ) (words : List ℕ) → Rests u words → (r : ℕ) (w : Word) → r < 2 ^ (64 * u) → parityFrom (64 * u) (divisorOf u words) r w < 2 ^ (64 * u)
-rests-below u words table r w h = let s = wide-some (table .wide) in parity-below (64 * u) (divisorOf u words) (omega arith) (table .monic) r w h
-
--- words that are added each in its place, in whatever order
-
-low-below : (ws : List ℕ) (n : ℕ) → ((k : ℕ) → k < n → getD ws k 0 < 18446744073709551616) → low ws n < 2 ^ (64 * n)
-unfolding low
-low-below ws zero h = omega arith
-low-below ws (suc n) h =
-    let e : n + 1 ≡ suc n = omega arith in
-    subst (λ m. low ws m < 2 ^ (64 * m)) e (low-lt-next ws n (low-below ws n (λ k l. h k (omega arith))) (h n (omega arith)))
-
-pub low-added : (ws vs g : List ℕ) → Words vs → (n : ℕ) → ((k : ℕ) → k < n → getD g k 0 < 18446744073709551616)
-    → ((k : ℕ) → k < n → getD ws k 0 ≡ bitXor (getD g k 0) (getD vs k 0)) → low ws n ≡ bitXor (low g n) (low vs n)
-unfolding low
-low-added ws vs g hv zero hg h = sym (xor-zero-l 0)
-low-added ws vs g hv (suc n) hg h =
-    ap₂ (λ (a b : ℕ). a * 2 ^ (64 * n) + b) (h n (omega arith)) (low-added ws vs g hv n (λ k l. hg k (omega arith)) (λ k l. h k (omega arith)))
-    ∙ sym (xor-block (64 * n) (getD g n 0) (getD vs n 0) (low g n) (low vs n) (low-below g n (λ k l. hg k (omega arith))) (low-lt vs hv n))
-
-pub down-store : (ws vs g : List ℕ) (i u : ℕ) {x y : ℕ} → i < length ws → x ≡ getD g i 0 → y ≡ getD vs i 0
-    → ((k : ℕ) → i + 1 ≤ k → k < u → getD ws k 0 ≡ bitXor (getD g k 0) (getD vs k 0))
-    → (k : ℕ) → i ≤ k → k < u → getD (set ws i (bitXor x y)) k 0 ≡ bitXor (getD g k 0) (getD vs k 0)
-down-store ws vs g i u {x} {y} l ex ey h k a b = elim (decLt i k) [
-  | yes m ↦ getD-set-other ws i k (bitXor x y) 0 (omega arith) ∙ h k (omega arith) b
-  | no m ↦ let q : k ≡ i = omega arith in rw q (getD-set-same ws i (bitXor x y) 0 l ∙ ap₂ bitXor ex ey)
-]
 
 -- The n highest bits of a word that is read at some position.
 module _ (page : List ℕ) (s n : ℕ) (h : n ≤ 64) {w b : ℕ} (ew : w ≡ number (run (bitOf page) s 64)) (eb : b ≡ w / 2 ^ (64 - n)) where
@@ -247,6 +47,105 @@ module _ (page : List ℕ) (s n : ℕ) (h : n ≤ 64) {w b : ℕ} (ew : w ≡ nu
   odd-digits =
       let v : Word = run (bitOf page) s n in
       ap (λ m. digits m n) odd-number ∙ ap (digits (number v)) (sym (run-length (bitOf page) s n)) ∙ digits-number v
+
+-- a number moved up by one word, with w added to what is its highest word then
+
+up-low : (ws vs : List ℕ) → getD ws 0 0 ≡ 0 → (n : ℕ) → ((k : ℕ) → k < n → getD ws (k + 1) 0 ≡ getD vs k 0) → low ws (n + 1) ≡ low vs n * 18446744073709551616
+unfolding low
+up-low ws vs z zero h = low-first ws ∙ z
+up-low ws vs z (suc n) h =
+    let e : n + 1 ≡ suc n = omega arith in
+    let all : low ws (n + 1 + 1) ≡ low vs (n + 1) * 18446744073709551616 =
+    low-next ws (n + 1) ∙ ap₂ (λ (a b : ℕ). a * 2 ^ (64 * (n + 1)) + b) (h n (omega arith)) (up-low ws vs z n (λ k l. h k (omega arith)))
+    ∙ ap (λ x. getD vs n 0 * x + low vs n * 18446744073709551616) (next-power n) ∙ omega arith ∙ sym (ap (λ x. x * 18446744073709551616) (low-next vs n)) in
+    subst (λ m. low ws (m + 1) ≡ low vs m * 18446744073709551616) e all
+
+pub up-store : (ws vs : List ℕ) (i : ℕ) → i + 1 < length ws → ((k : ℕ) → k < i → getD ws (k + 1) 0 ≡ getD vs k 0)
+    → (k : ℕ) → k < i + 1 → getD (set ws (i + 1) (getD vs i 0)) (k + 1) 0 ≡ getD vs k 0
+up-store ws vs i l h k m = elim (decLt k i) [
+  | yes b ↦ getD-set-other ws (i + 1) (k + 1) (getD vs i 0) 0 (omega arith) ∙ h k b
+  | no b ↦ let q : k ≡ i = omega arith in rw q (getD-set-same ws (i + 1) (getD vs i 0) 0 l)
+]
+
+-- a number with room in the first words has zeros in the others
+pub word-more : (u : ℕ) → 64 * u + 64 ≡ 64 * (u + 1)
+word-more u = omega arith
+
+pub words-zero : (ws : List ℕ) (n : ℕ) → register ws < 2 ^ (64 * n) → (k : ℕ) → n ≤ k → getD ws k 0 ≡ 0
+words-zero ws n h k l = elim (ℕ-discrete (getD ws k 0) 0) [
+  | yes e ↦ e
+  | no e ↦ elim (decLt k (length ws)) [
+    | yes m ↦
+        let a = low-one ws k e in
+        let b : low ws (k + 1) ≤ register ws = low-register ws (k + 1) (omega arith) in
+        let c : 2 ^ (64 * n) ≤ 2 ^ (64 * k) = pow-mono {i = 64 * n} {j = 64 * k} (omega arith) in
+        absurd (omega arith)
+    | no m ↦ absurd (e (List·getD-eq-default ws 0 (omega arith)))
+  ]
+]
+
+pub word-up-end : (ws vs : List ℕ) → Words vs → (u w : ℕ) → 0 < u → u < length ws → u ≤ length vs → getD ws 0 0 ≡ 0 → ((k : ℕ) → k < u → getD ws (k + 1) 0 ≡ getD vs k 0)
+    → ((k : ℕ) → u + 1 ≤ k → getD ws k 0 ≡ 0) → register (set ws u (bitXor (getD vs (u - 1) 0) w)) ≡ bitXor (register vs % 2 ^ (64 * u) * 2 ^ 64) (w * 2 ^ (64 * u))
+word-up-end ws vs hv u w some l m z h above =
+    let n : ℕ = u - 1 in
+    let f : ℕ = getD vs n 0 in
+    let x : ℕ = bitXor f w in
+    let a : ℕ = low vs n * 2 ^ 64 in
+    let P : ℕ = 2 ^ (64 * u) in
+    let e : u ≡ n + 1 = omega arith in
+    let p : 64 * n + 64 ≡ 64 * u = omega arith in
+    let la : a < P = rw p at (shl-lt (64 * n) 64 (low-lt vs hv n)) in
+    let ew : low ws u ≡ a = ap (low ws) e ∙ up-low ws vs z n (λ k i. h k (omega arith)) in
+    let ep : P ≡ 18446744073709551616 * 2 ^ (64 * n) = ap (λ k. 2 ^ (64 * k)) e ∙ next-power n in
+    let ev : low vs u * 2 ^ 64 ≡ f * P + a = ap (λ k. low vs k * 2 ^ 64) e ∙ ap (λ y. y * 2 ^ 64) (low-next vs n) ∙ omega arith ∙ sym (ap (λ y. f * y + a) ep) in
+    let el : u + 1 ≤ length (set ws u x) = rw (length-set ws u x) (omega arith) in
+    register-zeros (set ws u x) (u + 1) el (λ k i. getD-set-other ws u k x 0 (omega arith) ∙ above k i)
+    ∙ low-store ws u x l ∙ ap (λ y. x * P + y) (ew ∙ sym (xor-zero-r a)) ∙ sym (xor-block (64 * u) f w a 0 la (pow-pos (64 * u)))
+    ∙ ap₂ bitXor (sym ev ∙ ap (λ y. y * 2 ^ 64) (sym (register-mod vs hv u m))) (add-zero (w * P))
+
+-- a number moved up by k digits, with b added to the word above it
+
+pub carry-next : (w k : ℕ) → k < 64 → w / 2 / 2 ^ (63 - k) ≡ w / 2 ^ (64 - k)
+carry-next w k h = let e : 1 + (63 - k) ≡ 64 - k = omega arith in shr-shr w 1 (63 - k) ∙ ap (λ n. w / 2 ^ n) e
+
+pub start-end : (ws vs : List ℕ) (u k c b : ℕ) → u < length ws → u ≤ length vs → register vs < 2 ^ (64 * u) → low ws u < 2 ^ (64 * u) → low ws u + c * 2 ^ (64 * u) ≡ low vs u * 2 ^ k + 0
+    → ((j : ℕ) → u ≤ j → getD ws j 0 ≡ 0) → register (set ws u (bitXor c b)) ≡ bitXor (register vs * 2 ^ k) (b * 2 ^ (64 * u))
+start-end ws vs u k c b l m hv hw inv above =
+    let x : ℕ = bitXor c b in
+    let a : ℕ = low ws u in
+    let P : ℕ = 2 ^ (64 * u) in
+    let ev : register vs * 2 ^ k ≡ c * P + a = ap (λ y. y * 2 ^ k) (register-short vs u m hv) ∙ omega arith in
+    let el : u + 1 ≤ length (set ws u x) = rw (length-set ws u x) (omega arith) in
+    register-zeros (set ws u x) (u + 1) el (λ j i. getD-set-other ws u j x 0 (omega arith) ∙ above j (omega arith))
+    ∙ low-store ws u x l ∙ ap (λ y. x * P + y) (sym (xor-zero-r a)) ∙ sym (xor-block (64 * u) c b a 0 hw (pow-pos (64 * u)))
+    ∙ ap₂ bitXor (sym ev) (add-zero (b * P))
+
+pub start-stands : {u : ℕ} → RowWords u → (k r b : ℕ) {x : ℕ} → r < 2 ^ (64 * u) → k < 64 → b < 2 ^ k → x ≡ bitXor (r * 2 ^ k) (b * 2 ^ (64 * u))
+    → (x < 2 ^ (64 * u + 64)) × ((g : ℕ) → reduced (64 * u) g x ≡ parityFrom (64 * u) g r (digits b k))
+start-stands {u} wide k r b hr hk hb ex =
+    let hu = words-many wide in
+    let e : k + 64 * u ≡ 64 * u + k = omega arith in
+    let m : 2 ^ (64 * u + k) ≤ 2 ^ (64 * u + 64) = pow-mono {i = 64 * u + k} {j = 64 * u + 64} (omega arith) in
+    let ha : r * 2 ^ k < 2 ^ (64 * u + k) = shl-lt (64 * u) k hr in
+    let hc : b * 2 ^ (64 * u) < 2 ^ (64 * u + k) = rw e at (shl-lt k (64 * u) hb) in
+    (rw ex (lt-of-lt-of-le (xor-lt (64 * u + k) (r * 2 ^ k) (b * 2 ^ (64 * u)) ha hc) m), λ g. ap (reduced (64 * u) g) ex ∙ reduced-pushed (64 * u) g (omega arith) k r b (omega arith) hr hb)
+
+-- the first words of a number
+
+pub copy-next : (ws vs : List ℕ) (i : ℕ) → i < length ws → low ws i ≡ low vs i → low (set ws i (getD vs i 0)) (i + 1) ≡ low vs (i + 1)
+copy-next ws vs i l e = low-store ws i (getD vs i 0) l ∙ ap (λ y. getD vs i 0 * 2 ^ (64 * i) + y) e ∙ sym (low-next vs i)
+
+pub copy-end : (ws vs : List ℕ) (u d g s : ℕ) → d ≡ 64 * u → 128 ≤ d → u ≤ length ws → u ≤ length vs → g / 2 ^ d ≡ 1 → s < 2 ^ (d + 64) → register vs ≡ reduced d g s
+    → low ws u ≡ low vs u → ((k : ℕ) → u ≤ k → getD ws k 0 ≡ 0) → register ws ≡ reduced d g s
+copy-end ws vs u d g s ed hd l m monic hs ev inv above =
+    let below : register vs < 2 ^ (64 * u) = rw (ev, ← ed) (reduced-below d g hd monic s hs) in
+    register-zeros ws u l above ∙ inv ∙ sym (register-short vs u m below) ∙ ev
+
+-- the bytes of a word, one after the other
+pub byte-next : (v b : ℕ) {left : ℕ} → left ≡ v / 2 ^ (8 * b) → left / 256 ≡ v / 2 ^ (8 * (b + 1))
+byte-next v b el =
+    let e : 8 * b + 8 ≡ 8 * (b + 1) = omega arith in
+    ap (λ n. n / 256) el ∙ shr-shr v (8 * b) 8 ∙ ap (λ n. v / 2 ^ n) e
 
 -- values of a function, stored one after the other
 pub stored-next : (f : ℕ → ℕ) (ws : List ℕ) (i : ℕ) {w : ℕ} → i < length ws → ((k : ℕ) → k < i → getD ws k 0 ≡ f k) → w ≡ f i → (k : ℕ) → k < i + 1 → getD (set ws i w) k 0 ≡ f k

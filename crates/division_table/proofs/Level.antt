@@ -16,29 +16,27 @@ use Rattle.code.specs.Generator.{generator}
 use Rattle.code.specs.Register.{low, register}
 use Rattle.code.proofs.Generator.{generator-monic}
 use Rattle.remainder.proofs.Fold.{parity-bits-below}
-use Rattle.remainder.proofs.Words.{Words, low-lt, register-mod}
-use Rattle.remainder.specs.Parity.{rest}
-use Rattle.remainder.proofs.Parity.{rest-one}
-use Rattle.division_table.specs.Table.{width, RowWords, four, nine, fourteen, gap, digitBits, rowsOf, rowOf, divisorOf, Filled, Rests, Table}
-use Rattle.division_table.proofs.Filling.{wide-some, wide-most, bits-some, rows-some, place-first, divisor-rest}
+use Rattle.remainder.proofs.Words.{Words, register-mod}
+use Rattle.division_table.specs.Table.{width, RowWords, four, ten, fourteen, gap, divisorOf, Filled, Rests, Table}
+use Rattle.division_table.proofs.Filling.{wide-two, wide-some, wide-most, multiple-one}
 
 -- the words of a row
 
 pub width-wide : (d : ℕ) → RowWords (width d)
 unfolding width
-width-wide d = all (leb d 256) (leb d 576)
+width-wide d = all (leb d 256) (leb d 640)
   where
-    all : (a b : Bool) → RowWords (cond a 4 (cond b 9 14))
+    all : (a b : Bool) → RowWords (cond a 4 (cond b 10 14))
     all true b = four
-    all false true = nine
+    all false true = ten
     all false false = fourteen
 
 pub width-room : (d : ℕ) → d ≤ 896 → d ≤ 64 * width d
 unfolding width
 width-room d h = elim (decLt 256 d) [
-  | yes l ↦ elim (decLt 576 d) [
-    | yes m ↦ rw (lt-leb d 256 l, lt-leb d 576 m) (omega arith)
-    | no m ↦ rw (lt-leb d 256 l, le-leb d 576 (omega arith)) (omega arith)
+  | yes l ↦ elim (decLt 640 d) [
+    | yes m ↦ rw (lt-leb d 256 l, lt-leb d 640 m) (omega arith)
+    | no m ↦ rw (lt-leb d 256 l, le-leb d 640 (omega arith)) (omega arith)
   ]
   | no l ↦ rw (le-leb d 256 (omega arith)) (omega arith)
 ]
@@ -76,18 +74,16 @@ divisor-made f t most {d} {u} ed eu words fit len {g} eg ex =
     ap₂ _+_ (sym (one-mul P) ∙ ap (λ z. z * P) (sym monic)) rest-is ∙ split (g * 2 ^ k) (64 * u) ∙ ap (λ z. z * 2 ^ k) eg in
     rw (eu, ed) at all
 
--- the table that is made
+-- the table that is made: the divisor is in row 257
 pub table-made : (f : Field) (t : ℕ) → t ≤ 62 → {u : ℕ} → u ≡ width (degree f * t) → (divisor : List ℕ) → Words divisor
     → 2 ^ (64 * width (degree f * t)) + low divisor (width (degree f * t)) ≡ generator f t * 2 ^ gap (degree f * t)
-    → {words : List ℕ} → Filled u (2 ^ (64 * u) + low divisor u) (rowsOf u) words → Table f t words
+    → {bytes : List ℕ} → Filled u (2 ^ (64 * u) + low divisor u) bytes → Table f t bytes
 unfolding divisorOf
-table-made f t most {u} eu divisor fit eg {words} filled =
-    let s = wide-some (filled .wide) in
-    let l = rows-some u in
-    let P : ℕ = 2 ^ (64 * u) in
-    let e1 : rowOf u words 1 ≡ low divisor u =
-    filled .rows 1 (omega arith) ∙ ap (rest (64 * u) (P + low divisor u)) (place-first (digitBits u) 1 (bits-some u) (omega arith))
-    ∙ rest-one (64 * u) (P + low divisor u) (omega arith) (filled .monic) ∙ divisor-rest u (low divisor u) (low-lt divisor fit u) in
-    let rests : Rests u words = rw e1 filled in
-    let gen : P + rowOf u words 1 ≡ generator f t * 2 ^ gap (degree f * t) = ap (λ z. P + z) e1 ∙ rw eu eg in
+table-made f t most {u} eu divisor fit eg {bytes} filled =
+    let s = wide-two (filled .wide) in
+    let g : ℕ = 2 ^ (64 * u) + low divisor u in
+    let e : divisorOf u bytes ≡ g =
+    filled .clearing .even 1 (omega arith) .number ∙ multiple-one (64 * u) g (omega arith) (filled .monic) in
+    let rests : Rests u bytes = rw e filled in
+    let gen : divisorOf u bytes ≡ generator f t * 2 ^ gap (degree f * t) = e ∙ rw eu eg in
     record { level = most; rests = λ z. rw eu at rests; generates = λ z. rw eu at gen }

@@ -1,4 +1,3 @@
--- Laws of the table: rows of words, the table while it is made, the table of a level.
-pub mod Rows
+-- Laws of the table: while it is made, and the table of a level.
 pub mod Filling
 pub mod Level

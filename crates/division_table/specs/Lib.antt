@@ -1,2 +1,3 @@
--- The table by which messages are divided.
+-- The table by which messages are divided, and its rows while it is made.
 pub mod Table
+pub mod Sums

@@ -1,138 +1,192 @@
-// The rows of a table: first those of the powers of 2, by doubling, then the others as sums of two that are there. So the row that is added to
-// others is none that was written a moment before: in each form tried where it is, the table took longer.
+// The rows of a table: those of the powers of 2 by doubling, the others as sums of two that are there.
 ghost use mathlib.Core.Path.{_≡_};
-ghost use Prim.Native.Nat.{ℕ, _+_, _-_, _*_, _%_, _^_, _≤_, _<_};
+ghost use Prim.Native.Nat.{ℕ, _+_, _-_, _*_, _^_, _≤_, _<_};
 ghost use lib.ListN.{length};
+ghost use Rattle.code.specs.Generator.{times};
 ghost use Rattle.code.specs.Register.{low, register};
-ghost use Rattle.remainder.specs.Parity.{rest};
-ghost use Rattle.division_table.specs.Table.{RowWords, digitBits, rowsOf, powerRow, Filled, Begun};
-use crate::digits::digit_bits;
-use crate::digits::power;
-use crate::digits::power_row;
-use crate::row::store_row;
-use register_shifts::pushed;
-use remainder::Register;
-use remainder::add::row_added;
-use remainder::coefficients::coefficient;
-use remainder::coefficients::zero;
+ghost use Rattle.table_rows.specs.Rows.{Row, OnlyRows};
+ghost use Rattle.partial.specs.Clearing.{multipleOf, Clearing};
+ghost use Rattle.division_table.specs.Table.{RowWords, Filled};
+ghost use Rattle.division_table.specs.Sums.{Sums, Powers, All};
+use partial::reduce;
+use table_rows::add_row;
+use table_rows::clear_row;
+use table_rows::put_power;
+use table_rows::put_row;
+use table_rows::row_bytes;
+use wide::Wide;
 
-// The remainder of twice a number from that of the number: the double, plus the divisor where a digit leaves it. The divisor is row 1 of
-// the table and row 0 is zero, so the digit is the number of the row that is added.
-fn doubled(table: &[u64], row: Register, used: usize) -> Register
-    requires { ⌜ (RowWords used) × (rowsOf used * used ≤ length (now table)) × (register (row .words) < 2 ^ (64 * used)) ⌝ }
-    ensures { λ r. ⌜ ((g n v : ℕ) → Filled used g n (now (table .entry)) → 1 < n → v * 2 < 2 ^ 64 → register (row .words) ≡ rest (64 * used) g v
-        → register (r .words) ≡ rest (64 * used) g (v * 2)) ⌝ }
+// The divisor of degree 64 used whose other coefficients are in the first words of a row.
+fn divisor_wide(row: [u64; 14], used: usize) -> Wide
+    requires { ⌜ used ≤ 14 ⌝ }
+    ensures { λ r. ⌜ register (r .words) ≡ 2 ^ (64 * used) + low row used ⌝ }
 {
-    let one = coefficient(row, 64 * used - 1) as usize;
-    let next = pushed(row, used, 1, 0);
-    row_added(next, table, one * used, used)
-}
-
-// The first two rows: zero, and the divisor.
-fn start_rows(table: &mut [u64], divisor: [u64; 14], used: usize)
-    requires { ⌜ (RowWords used) × (rowsOf used * used ≤ length (now table)) ⌝ }
-    ensures { λ r. ⌜ Filled used (2 ^ (64 * used) + low divisor used) 2 (now (table .exit)) ⌝ }
-{
-    store_row(table, zero(), 0, used);
-    let row = Register { words: divisor };
-    store_row(table, row, used, used);
-}
-
-// The rows of the powers of 2, each doubled from the one before in a register. The first two rows are there.
-fn fill_powers(table: &mut [u64], divisor: [u64; 14], used: usize)
-    requires { ⌜ Filled used (2 ^ (64 * used) + low divisor used) 2 (now table) ⌝ }
-    ensures { λ r. ⌜ Begun used (2 ^ (64 * used) + low divisor used) 2 64 (now (table .exit)) ⌝ }
-{
-    let bits = digit_bits(used);
-    let mut row = row_added(zero(), table, used, used);
-    let mut i = 1;
-    while i < 64 {
-        row = doubled(table, row, used);
-        let high = power_row(bits, i);
-        store_row(table, row, high * used, used);
+    let mut words = [0u64; 15];
+    let mut i = 0;
+    while i < used {
+        words[i] = row[i];
         i += 1;
     }
+    words[used] = 1;
+    Wide { words: words }
 }
 
-// Row 0 of a digit, before its other rows: zero.
-fn start_digit(table: &mut [u64], divisor: [u64; 14], used: usize, i: usize)
-    requires { ⌜ (Begun used (2 ^ (64 * used) + low divisor used) (powerRow (digitBits used) (i - 1) + 2 ^ ((i - 1) % digitBits used)) 64 (now table))
-        × (0 < i) × (i < 64) ⌝ }
-    ensures { λ r. ⌜ Begun used (2 ^ (64 * used) + low divisor used) (powerRow (digitBits used) i) 64 (now (table .exit)) ⌝ }
+// The number in the first words of a row times 2^64.
+fn word_higher(row: [u64; 14], used: usize) -> Wide
+    requires { ⌜ used ≤ 14 ⌝ }
+    ensures { λ r. ⌜ register (r .words) ≡ low row used * 2 ^ 64 ⌝ }
 {
-    let bits = digit_bits(used);
-    if i % bits == 0 {
-        let first = power(bits) * (i / bits);
-        store_row(table, zero(), first * used, used);
+    let mut words = [0u64; 15];
+    let mut i = 0;
+    while i < used {
+        words[i + 1] = row[i];
+        i += 1;
     }
+    Wide { words: words }
 }
 
-// The sums of the row of 2^i with the rows before it in the same digit, the first of which is zero.
-fn add_rows(table: &mut [u64], divisor: [u64; 14], used: usize, i: usize)
-    requires { ⌜ (Begun used (2 ^ (64 * used) + low divisor used) (powerRow (digitBits used) i) 64 (now table)) × (i < 64) ⌝ }
-    ensures { λ r. ⌜ Begun used (2 ^ (64 * used) + low divisor used) (powerRow (digitBits used) i + 2 ^ (i % digitBits used)) 64 (now (table .exit)) ⌝ }
+// 2^i.
+fn power(i: usize) -> usize
+    requires { ⌜ i ≤ 8 ⌝ }
+    ensures { λ r. ⌜ r ≡ 2 ^ i ⌝ }
 {
-    let bits = digit_bits(used);
-    let high = power_row(bits, i);
-    let size = power(i % bits);
-    let row = row_added(zero(), table, high * used, used);
+    1usize << i
+}
+
+// From row `first` on, the sums of row 2^i with the rows before it.
+fn add_power(table: &mut [u8], n: usize, first: usize, i: usize)
+    requires { ⌜ (n ≤ 15) × (i < 8) × (first + 2 ^ i + 2 ^ i ≤ 288) × (36864 ≤ length (now table)) ⌝ }
+    ensures { λ r. ⌜ ((X : ℕ → ℕ) → Sums (i + 1) X → All n (2 ^ i) X first (now (table .entry)) → Row n (now (table .entry)) (first + 2 ^ i) (X (2 ^ i))
+        → All n (2 ^ (i + 1)) X first (now (table .exit)))
+        × OnlyRows n (first + 2 ^ i + 1) (2 ^ i - 1) (now (table .entry)) (now (table .exit)) ⌝ }
+{
+    let count = power(i);
     let mut v = 1;
-    while v < size {
-        let sum = row_added(row, table, (high - size + v) * used, used);
-        store_row(table, sum, (high + v) * used, used);
+    while v < count {
+        add_row(table, n, first + count, first + v, first + count + v);
         v += 1;
     }
 }
 
-// All rows but those that are there.
-fn fill_digits(table: &mut [u64], divisor: [u64; 14], used: usize)
-    requires { ⌜ Begun used (2 ^ (64 * used) + low divisor used) 2 64 (now table) ⌝ }
-    ensures { λ r. ⌜ Filled used (2 ^ (64 * used) + low divisor used) (rowsOf used) (now (table .exit)) ⌝ }
+// From row `first` on, all sums of the rows of the powers of 2 below 2^bits.
+fn fill_sums(table: &mut [u8], n: usize, first: usize, bits: usize)
+    requires { ⌜ (n ≤ 15) × (0 < bits) × (bits ≤ 8) × (first + 2 ^ bits ≤ 288) × (36864 ≤ length (now table)) ⌝ }
+    ensures { λ r. ⌜ ((X : ℕ → ℕ) → Sums bits X → Powers n bits X first (now (table .entry)) → All n (2 ^ bits) X first (now (table .exit)))
+        × OnlyRows n first (2 ^ bits) (now (table .entry)) (now (table .exit)) ⌝ }
 {
     let mut i = 1;
-    while i < 64 {
-        start_digit(table, divisor, used, i);
-        add_rows(table, divisor, used, i);
+    while i < bits {
+        add_power(table, n, first, i);
         i += 1;
     }
 }
 
-// Both with the number of words in use written out: the loops over words are then unrolled.
-
-fn fill_four(table: &mut [u64], divisor: [u64; 14])
-    requires { ⌜ Filled 4 (2 ^ (64 * 4) + low divisor 4) 2 (now table) ⌝ }
-    ensures { λ r. ⌜ Filled 4 (2 ^ (64 * 4) + low divisor 4) (rowsOf 4) (now (table .exit)) ⌝ }
+// Rows 256, 257, 258, 260 and 264: the multiples of the divisor with no digits from its degree on, and with one of the lowest four of these. Twice
+// such a multiple has the next one, and the divisor is added where another digit gets there; row 256 is zero and row 257 the divisor.
+fn even_powers(table: &mut [u8], divisor: [u64; 14], used: usize, n: usize)
+    requires { ⌜ (RowWords used) × (used < n) × (n ≤ 15) × (36864 ≤ length (now table)) ⌝ }
+    ensures { λ r. ⌜ Powers n 4 (multipleOf (64 * used) (2 ^ (64 * used) + low divisor used)) 256 (now (table .exit))
+        × OnlyRows n 256 16 (now (table .entry)) (now (table .exit)) ⌝ }
 {
-    fill_powers(table, divisor, 4);
-    fill_digits(table, divisor, 4);
+    clear_row(table, n, 256);
+    let whole = divisor_wide(divisor, used);
+    put_row(table, n, 257, whole);
+    let mut i = 1;
+    while i < 4 {
+        let from = 256 + power(i - 1);
+        let one = (table[row_bytes(n) * from + 8 * used + 7] / 128) as usize;
+        put_power(table, n, from, 256 + one, 256 + power(i), 1);
+        i += 1;
+    }
 }
 
-fn fill_nine(table: &mut [u64], divisor: [u64; 14])
-    requires { ⌜ Filled 9 (2 ^ (64 * 9) + low divisor 9) 2 (now table) ⌝ }
-    ensures { λ r. ⌜ Filled 9 (2 ^ (64 * 9) + low divisor 9) (rowsOf 9) (now (table .exit)) ⌝ }
+// Rows 272, 273, 274, 276 and 280: the same times 2^4. Row 0 is zero.
+fn odd_powers(table: &mut [u8], n: usize)
+    requires { ⌜ (n ≤ 15) × (36864 ≤ length (now table)) ⌝ }
+    ensures { λ r. ⌜ ((X : ℕ → ℕ) → Row n (now (table .entry)) 0 0 → X 0 ≡ 0 → ((i : ℕ) → i < 4 → X (2 ^ i) * 2 ^ 4 < 2 ^ (64 * n))
+        → Powers n 4 X 256 (now (table .entry)) → Powers n 4 (λ v. X v * 2 ^ 4) 272 (now (table .exit)))
+        × OnlyRows n 272 16 (now (table .entry)) (now (table .exit)) ⌝ }
 {
-    fill_powers(table, divisor, 9);
-    fill_digits(table, divisor, 9);
+    clear_row(table, n, 272);
+    let mut i = 0;
+    while i < 4 {
+        put_power(table, n, 256 + power(i), 0, 272 + power(i), 4);
+        i += 1;
+    }
 }
 
-fn fill_long(table: &mut [u64], divisor: [u64; 14])
-    requires { ⌜ Filled 14 (2 ^ (64 * 14) + low divisor 14) 2 (now table) ⌝ }
-    ensures { λ r. ⌜ Filled 14 (2 ^ (64 * 14) + low divisor 14) (rowsOf 14) (now (table .exit)) ⌝ }
+// Rows 1, 2, 4, .. 128: a number and its doubles. Row 0 is zero.
+fn byte_powers(table: &mut [u8], n: usize, row: Wide)
+    requires { ⌜ (n ≤ 15) × (36864 ≤ length (now table)) ⌝ }
+    ensures { λ r. ⌜ (Row n (now (table .entry)) 0 0 → register (row .words) * 2 ^ 8 < 2 ^ (64 * n)
+        → Powers n 8 (times 8 (register (row .words))) 0 (now (table .exit)))
+        × OnlyRows n 1 255 (now (table .entry)) (now (table .exit)) ⌝ }
 {
-    fill_powers(table, divisor, 14);
-    fill_digits(table, divisor, 14);
+    put_row(table, n, 1, row);
+    let mut i = 1;
+    while i < 8 {
+        put_power(table, n, power(i - 1), 0, power(i), 1);
+        i += 1;
+    }
+}
+
+// Row 0, which is zero, and the rows by which a partial remainder is reduced.
+fn fill_clearing(table: &mut [u8], divisor: [u64; 14], used: usize, n: usize)
+    requires { ⌜ (RowWords used) × (used < n) × (n ≤ 15) × (36864 ≤ length (now table)) ⌝ }
+    ensures { λ r. ⌜ Row n (now (table .exit)) 0 0 × Clearing n (64 * used) (2 ^ (64 * used) + low divisor used) (now (table .exit)) ⌝ }
+{
+    clear_row(table, n, 0);
+    even_powers(table, divisor, used, n);
+    odd_powers(table, n);
+    fill_sums(table, n, 256, 4);
+    fill_sums(table, n, 272, 4);
+}
+
+// The table of a divisor of the degree 64 times four. The numbers are written out: the loops over bytes are then unrolled.
+fn fill_four(table: &mut [u8], divisor: [u64; 14])
+    requires { ⌜ 36864 ≤ length (now table) ⌝ }
+    ensures { λ r. ⌜ Filled 4 (2 ^ (64 * 4) + low divisor 4) (now (table .exit)) ⌝ }
+{
+    fill_clearing(table, divisor, 4, 7);
+    let higher = word_higher(divisor, 4);
+    let row = reduce(higher, table, 4);
+    byte_powers(table, 7, row);
+    fill_sums(table, 7, 0, 8);
+}
+
+// The same where it is 64 times ten.
+fn fill_ten(table: &mut [u8], divisor: [u64; 14])
+    requires { ⌜ 36864 ≤ length (now table) ⌝ }
+    ensures { λ r. ⌜ Filled 10 (2 ^ (64 * 10) + low divisor 10) (now (table .exit)) ⌝ }
+{
+    fill_clearing(table, divisor, 10, 11);
+    let higher = word_higher(divisor, 10);
+    let row = reduce(higher, table, 10);
+    byte_powers(table, 11, row);
+    fill_sums(table, 11, 0, 8);
+}
+
+// The same where it is 64 times fourteen.
+fn fill_long(table: &mut [u8], divisor: [u64; 14])
+    requires { ⌜ 36864 ≤ length (now table) ⌝ }
+    ensures { λ r. ⌜ Filled 14 (2 ^ (64 * 14) + low divisor 14) (now (table .exit)) ⌝ }
+{
+    fill_clearing(table, divisor, 14, 15);
+    let higher = word_higher(divisor, 14);
+    let row = reduce(higher, table, 14);
+    byte_powers(table, 15, row);
+    fill_sums(table, 15, 0, 8);
 }
 
 // Makes the table of a divisor of degree 64 used, given without its highest coefficient.
-pub fn fill(table: &mut [u64], divisor: [u64; 14], used: usize)
-    requires { ⌜ (RowWords used) × (rowsOf used * used ≤ length (now table)) ⌝ }
-    ensures { λ r. ⌜ Filled used (2 ^ (64 * used) + low divisor used) (rowsOf used) (now (table .exit)) ⌝ }
+pub fn fill(table: &mut [u8], divisor: [u64; 14], used: usize)
+    requires { ⌜ (RowWords used) × (36864 ≤ length (now table)) ⌝ }
+    ensures { λ r. ⌜ Filled used (2 ^ (64 * used) + low divisor used) (now (table .exit)) ⌝ }
 {
-    start_rows(table, divisor, used);
     if used == 4 {
         fill_four(table, divisor);
-    } else if used == 9 {
-        fill_nine(table, divisor);
+    } else if used == 10 {
+        fill_ten(table, divisor);
     } else {
         fill_long(table, divisor);
     }

@@ -24,7 +24,7 @@ fn field_of(choice: u8) -> Field {
 fn by_table(f: Field, t: usize, bytes: &[u8], at: usize, n: usize) -> Register
     requires { ⌜ (t % 2 ≡ 0) × (t ≤ 62) × (at < 256) × (n < 65536) ⌝ }
 {
-    let mut table = [0u64; 3600];
+    let mut table = [0u8; 36864];
     make_table(f, t, &mut table);
     remainder_of(f, t, &table, bytes, at, n)
 }

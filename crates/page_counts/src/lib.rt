@@ -36,7 +36,7 @@ fn count_from(
     plan: Plan,
     page: &[u8],
     scan: Scan,
-    table: &[u64],
+    table: &[u8],
     powers: &[u16; 16384],
     logs: &[u16; 16384],
     rows: &[u16; 2048],
@@ -61,7 +61,7 @@ fn count_from(
 
 // Counts the damaged blocks from `scan` on, which all have the field of the later blocks. The tables are here, since only a damaged
 // page needs them.
-fn count_alike(plan: Plan, page: &[u8], scan: Scan, table: &[u64], counts: &mut [u8])
+fn count_alike(plan: Plan, page: &[u8], scan: Scan, table: &[u8], counts: &mut [u8])
     requires { ⌜ Pending plan (now page) (now table) scan (now counts) ⌝ }
     requires { ⌜ OneField plan (scan .block) ⌝ }
     ensures { λ r. ⌜ now (counts .exit) ≡ reading.counts plan (now (page .entry)) ⌝ }
@@ -75,7 +75,7 @@ fn count_alike(plan: Plan, page: &[u8], scan: Scan, table: &[u64], counts: &mut 
 
 // Counts the damaged blocks of a page, of which `scan` is the first. Block 0 is decided alone where it has another field than the
 // later ones.
-pub fn count_damaged(plan: Plan, page: &[u8], scan: Scan, table: &[u64], counts: &mut [u8])
+pub fn count_damaged(plan: Plan, page: &[u8], scan: Scan, table: &[u8], counts: &mut [u8])
     requires { ⌜ Pending plan (now page) (now table) scan (now counts) ⌝ }
     requires { ⌜ scan .block < plan .blocks ⌝ }
     ensures { λ r. ⌜ now (counts .exit) ≡ reading.counts plan (now (page .entry)) ⌝ }

@@ -23,7 +23,7 @@ use remainder::coefficients::is_zero;
 use remainder::coefficients::zero;
 
 // The remainder of a block by the table of its generator. At t = 0 no bit is looked at.
-pub fn block_remainder(plan: Plan, page: &[u8], table: &[u64], block: u16) -> Register
+pub fn block_remainder(plan: Plan, page: &[u8], table: &[u8], block: u16) -> Register
     requires { ⌜ Ready plan (now page) ⌝ }
     requires { ⌜ (block < plan .blocks) × (Table (field plan block) (level plan block) (now table)) ⌝ }
     ensures { λ r. ⌜ register (r .words) ≡ remainderAt plan (now (page .entry)) block ⌝ }
@@ -53,7 +53,7 @@ fn scan_of(block: u16, remainder: Register) -> Scan
 }
 
 // A block by itself.
-fn scan_one(plan: Plan, page: &[u8], table: &[u64], block: u16) -> Scan
+fn scan_one(plan: Plan, page: &[u8], table: &[u8], block: u16) -> Scan
     requires { ⌜ Ready plan (now page) ⌝ }
     requires { ⌜ (block < plan .blocks) × (Table (field plan block) (level plan block) (now table)) ⌝ }
     ensures { λ r. ⌜ (r .block ≡ block) × Reached plan (now (page .entry)) r ⌝ }
@@ -63,7 +63,7 @@ fn scan_one(plan: Plan, page: &[u8], table: &[u64], block: u16) -> Scan
 }
 
 // A block and the next, whose generators are the same, side by side where they have the same length.
-fn scan_two(plan: Plan, page: &[u8], table: &[u64], block: u16) -> Scan
+fn scan_two(plan: Plan, page: &[u8], table: &[u8], block: u16) -> Scan
     requires { ⌜ Ready plan (now page) ⌝ }
     requires { ⌜ (block + 1 < plan .blocks) × (Table (field plan block) (level plan block) (now table)) ⌝ }
     requires { ⌜ (field plan (block + 1) ≡ field plan block) × (level plan (block + 1) ≡ level plan block) ⌝ }
@@ -95,7 +95,7 @@ fn scan_two(plan: Plan, page: &[u8], table: &[u64], block: u16) -> Scan
 }
 
 // The block after another; `table` is that of the later blocks' generator.
-fn scan_after(plan: Plan, page: &[u8], table: &[u64], scan: Scan) -> Scan
+fn scan_after(plan: Plan, page: &[u8], table: &[u8], scan: Scan) -> Scan
     requires { ⌜ (Ready plan (now page)) × (Reached plan (now page) scan) ⌝ }
     requires { ⌜ (scan .block < plan .blocks) × (Table (plan .later .field) (plan .later .level) (now table)) ⌝ }
     ensures { λ r. ⌜ (r .block ≡ scan .block + 1) × Reached plan (now (page .entry)) r ⌝ }
@@ -116,7 +116,7 @@ fn scan_after(plan: Plan, page: &[u8], table: &[u64], scan: Scan) -> Scan
 }
 
 // The first damaged block after another; `table` is that of the later blocks' generator.
-pub fn next_damaged(plan: Plan, page: &[u8], table: &[u64], scan: Scan) -> Scan
+pub fn next_damaged(plan: Plan, page: &[u8], table: &[u8], scan: Scan) -> Scan
     requires { ⌜ (Ready plan (now page)) × (Reached plan (now page) scan) ⌝ }
     requires { ⌜ (scan .block < plan .blocks) × (Table (plan .later .field) (plan .later .level) (now table)) ⌝ }
     ensures { λ r. ⌜ Scanned plan (now (page .entry)) (scan .block + 1) r ⌝ }
@@ -135,7 +135,7 @@ pub fn next_damaged(plan: Plan, page: &[u8], table: &[u64], scan: Scan) -> Scan
 }
 
 // The first damaged block of a page whose block 0 is this; `table` is that of the later blocks' generator.
-fn first_damaged(plan: Plan, page: &[u8], scan: Scan, table: &[u64]) -> Scan
+fn first_damaged(plan: Plan, page: &[u8], scan: Scan, table: &[u8]) -> Scan
     requires { ⌜ (Ready plan (now page)) × (Reached plan (now page) scan) ⌝ }
     requires { ⌜ (scan .block ≡ 0) × (Table (plan .later .field) (plan .later .level) (now table)) ⌝ }
     ensures { λ r. ⌜ Scanned plan (now (page .entry)) 0 r ⌝ }
@@ -149,7 +149,7 @@ fn first_damaged(plan: Plan, page: &[u8], scan: Scan, table: &[u64]) -> Scan
 }
 
 // Block 0, with block 1 where that has the same generator; `table` is that of block 0.
-fn scan_first(plan: Plan, page: &[u8], table: &[u64]) -> Scan
+fn scan_first(plan: Plan, page: &[u8], table: &[u8]) -> Scan
     requires { ⌜ (Ready plan (now page)) × (Table (plan .first .field) (plan .first .level) (now table)) ⌝ }
     ensures { λ r. ⌜ (r .block ≡ 0) × Reached plan (now (page .entry)) r ⌝ }
 {
@@ -167,8 +167,8 @@ fn scan_first(plan: Plan, page: &[u8], table: &[u64]) -> Scan
 
 // The first damaged block of a page. Two tables are made in the same place, one after the other: that of block 0, by which its
 // remainder is worked out, and that of the later blocks, which is left there.
-pub fn scan_page(plan: Plan, page: &[u8], table: &mut [u64]) -> Scan
-    requires { ⌜ (Ready plan (now page)) × (3600 ≤ length (now table)) ⌝ }
+pub fn scan_page(plan: Plan, page: &[u8], table: &mut [u8]) -> Scan
+    requires { ⌜ (Ready plan (now page)) × (36864 ≤ length (now table)) ⌝ }
     ensures scan { λ r. ⌜ Scanned plan (now (page .entry)) 0 r ⌝ }
     ensures table { λ r. ⌜ Table (plan .later .field) (plan .later .level) (now (table .exit)) ⌝ }
 {

@@ -9,7 +9,6 @@ ghost use Rattle.page_plan.specs.Plans.{Planned, Ready, Sound};
 ghost use Rattle.page_decide.specs.Scanning.{remainderAt, Left};
 ghost use Rattle.page_judge.specs.Answers.{judgeNumber, judgeBlock, judgeFlips};
 use crate::JudgeAnswer;
-use division_table::lay;
 use division_table::make_table;
 use layout::Acceptance;
 use layout::check_layout;
@@ -34,8 +33,7 @@ pub fn own_remainder(plan: Plan, page: &[u8], block: u16) -> Register
     let shape = block_shape(plan, block);
     let f = shape.field;
     let t = shape.level as usize;
-    let mut table = [0u64; 3600];
-    lay(&mut table);
+    let mut table = [0u8; 36864];
     make_table(f, t, &mut table);
     block_remainder(plan, page, &table, block)
 }

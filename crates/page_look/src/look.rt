@@ -10,7 +10,6 @@ ghost use Rattle.page_plan.specs.Plans.{Planned, Ready, Sound};
 ghost use Rattle.page_look.specs.Answers.{lookNumber, lookBlock};
 ghost use Rattle.page_counts.specs.Looking.{Pending};
 use crate::LookAnswer;
-use division_table::lay;
 use layout::Acceptance;
 use layout::check_layout;
 use layout::refusal_of;
@@ -61,7 +60,7 @@ fn ruined(block: u16) -> LookAnswer
 }
 
 // Looks at a page of which `scan` is the first damaged block; the counts before it are 0.
-fn look_damaged(plan: Plan, page: &[u8], scan: Scan, table: &[u64], counts: &mut [u8]) -> LookAnswer
+fn look_damaged(plan: Plan, page: &[u8], scan: Scan, table: &[u8], counts: &mut [u8]) -> LookAnswer
     requires { ⌜ Pending plan (now page) (now table) scan (now counts) ⌝ }
     requires { ⌜ scan .block < plan .blocks ⌝ }
     ensures { λ r. ⌜ lookEnded (lookNumber r) (lookBlock r) (now (counts .exit)) ≡ lookIn plan (now (page .entry)) (now (counts .entry)) ⌝ }
@@ -79,8 +78,7 @@ fn look_lent(plan: Plan, page: &[u8], counts: &mut [u8]) -> LookAnswer
     requires { ⌜ (Ready plan (now page)) × (length (now counts) ≡ plan .blocks) ⌝ }
     ensures { λ r. ⌜ lookEnded (lookNumber r) (lookBlock r) (now (counts .exit)) ≡ lookIn plan (now (page .entry)) (now (counts .entry)) ⌝ }
 {
-    let mut table = [0u64; 3600];
-    lay(&mut table);
+    let mut table = [0u8; 36864];
     let scan = scan_page(plan, page, &mut table);
     let block = scan.block;
     clear(counts);

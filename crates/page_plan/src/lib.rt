@@ -73,8 +73,8 @@ pub fn same_generator(first: Shape, later: Shape) -> bool
 }
 
 // The table of block 0's generator becomes that of the later blocks' one. It is not made again where that is the same.
-pub fn later_table(plan: Plan, table: &mut [u64])
-    requires { ⌜ (Planned plan) × (3600 ≤ length (now table)) × (Table (plan .first .field) (plan .first .level) (now table)) ⌝ }
+pub fn later_table(plan: Plan, table: &mut [u8])
+    requires { ⌜ (Planned plan) × (36864 ≤ length (now table)) × (Table (plan .first .field) (plan .first .level) (now table)) ⌝ }
     ensures { λ r. ⌜ Table (plan .later .field) (plan .later .level) (now (table .exit)) ⌝ }
 {
     let first = plan.first;

@@ -29,7 +29,7 @@ use remainder::coefficients::parity_bits;
 pub fn parity_in(
     f: Field,
     t: usize,
-    table: &[u64],
+    table: &[u8],
     mark: Mark,
     page: &[u8],
     at: usize,
@@ -72,7 +72,7 @@ fn number_in(mark: Mark, page: &[u8], at: usize, n: usize) -> Register
 fn remainder_across(
     f: Field,
     t: usize,
-    table: &[u64],
+    table: &[u8],
     mark: Mark,
     page: &[u8],
     at: usize,
@@ -95,7 +95,7 @@ fn remainder_across(
 pub fn remainder_in(
     f: Field,
     t: usize,
-    table: &[u64],
+    table: &[u8],
     mark: Mark,
     page: &[u8],
     at: usize,
@@ -151,7 +151,7 @@ fn run_place(mark: Mark, at: usize, n: usize) -> Placed
 pub fn two_remainders_in(
     f: Field,
     t: usize,
-    table: &[u64],
+    table: &[u8],
     mark: Mark,
     page: &[u8],
     at: usize,

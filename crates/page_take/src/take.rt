@@ -10,7 +10,6 @@ ghost use Rattle.page_plan.specs.Plans.{Planned, Ready, Sound};
 ghost use Rattle.page_decide.specs.Scanning.{Scanned};
 ghost use Rattle.page_take.specs.Answers.{takeNumber, takeBlock};
 use crate::TakeAnswer;
-use division_table::lay;
 use layout::Acceptance;
 use layout::check_layout;
 use layout::refusal_of;
@@ -46,7 +45,7 @@ fn take_placed(
     plan: Plan,
     page: &[u8],
     scan: Scan,
-    table: &[u64],
+    table: &[u8],
     places: &mut [u16],
     metadata: &mut [u8],
     data: &mut [u8],
@@ -72,7 +71,7 @@ fn take_few(
     plan: Plan,
     page: &[u8],
     scan: Scan,
-    table: &[u64],
+    table: &[u8],
     metadata: &mut [u8],
     data: &mut [u8],
 ) -> TakeAnswer
@@ -91,7 +90,7 @@ fn take_damaged(
     plan: Plan,
     page: &[u8],
     scan: Scan,
-    table: &[u64],
+    table: &[u8],
     metadata: &mut [u8],
     data: &mut [u8],
 ) -> TakeAnswer
@@ -113,8 +112,7 @@ fn take_lent(plan: Plan, page: &[u8], metadata: &mut [u8], data: &mut [u8]) -> T
     ensures { λ r. ⌜ takeEnded (takeNumber r) (takeBlock r) (now (metadata .exit)) (now («data» .exit))
         ≡ takeIn plan (now (page .entry)) (now (metadata .entry)) (now («data» .entry)) ⌝ }
 {
-    let mut table = [0u64; 3600];
-    lay(&mut table);
+    let mut table = [0u8; 36864];
     let scan = scan_page(plan, page, &mut table);
     let block = scan.block;
     if block == plan.blocks {

@@ -3,7 +3,6 @@
 use crate::WriteAnswer;
 use crate::lengths::write_reply;
 use block_write::write_block;
-use division_table::lay;
 use division_table::make_table;
 use layout::Acceptance;
 use layout::check_layout;
@@ -33,8 +32,8 @@ ghost use Rattle.block_write.specs.Encoded.{padded};
 ghost use Rattle.page_write.specs.Writing.{Lent};
 
 // Writes block 0, and leaves the table of the later blocks' generator. One table is made after the other in the same place.
-fn write_first(plan: Plan, table: &mut [u64], metadata: &[u8], data: &[u8], page: &mut [u8])
-    requires { ⌜ Planned plan × Lent plan (now metadata) (now «data») (now page) × (3600 ≤ length (now table)) ⌝ }
+fn write_first(plan: Plan, table: &mut [u8], metadata: &[u8], data: &[u8], page: &mut [u8])
+    requires { ⌜ Planned plan × Lent plan (now metadata) (now «data») (now page) × (36864 ≤ length (now table)) ⌝ }
     ensures { λ r. ⌜ (now (page .exit)
         ≡ put (plan .mark) (now (page .entry)) 0 (padded (plan .first) (run (bitOf (now (metadata .entry) ++ now («data» .entry))) 0 (plan .first .message))))
         × Table (plan .later .field) (plan .later .level) (now (table .exit)) ⌝ }
@@ -48,7 +47,7 @@ fn write_first(plan: Plan, table: &mut [u64], metadata: &[u8], data: &[u8], page
 }
 
 // Writes a later block, by the table of their generator.
-fn write_later(plan: Plan, block: u16, table: &[u64], metadata: &[u8], data: &[u8], page: &mut [u8])
+fn write_later(plan: Plan, block: u16, table: &[u8], metadata: &[u8], data: &[u8], page: &mut [u8])
     requires { ⌜ Planned plan × Lent plan (now metadata) (now «data») (now page) × Table (plan .later .field) (plan .later .level) (now table) ⌝ }
     requires { ⌜ (0 < block) × (block < plan .blocks) ⌝ }
     ensures { λ r. ⌜ now (page .exit)
@@ -78,8 +77,7 @@ fn write_blocks(plan: Plan, metadata: &[u8], data: &[u8], page: &mut [u8])
     ensures { λ r. ⌜ now (page .exit) ≡ pageOf plan (now (page .entry)) (now (metadata .entry) ++ now («data» .entry)) ⌝ }
 {
     let blocks = plan.blocks;
-    let mut table = [0u64; 3600];
-    lay(&mut table);
+    let mut table = [0u8; 36864];
     write_first(plan, &mut table, metadata, data, page);
     let mut block = 1;
     while block < blocks {

@@ -4,7 +4,6 @@
 //   carried    the parity of some bits and of the bits of a piece after them
 use bitwise_division::parity_by_bits;
 use division::runs::parity_more;
-use division_table::lay;
 use division_table::make_table;
 use field::Field;
 use remainder::Register;
@@ -24,8 +23,7 @@ fn parity_by_table(f: Field, t: usize, state: Register, piece: &[u8], n: usize) 
     ensures { λ r. ⌜ register (r .words)
         ≡ parityFrom (degree f * t) (generator f t) (register (state .words)) (run (bitOf (now (piece .entry))) 0 n) ⌝ }
 {
-    let mut table = [0u64; 3600];
-    lay(&mut table);
+    let mut table = [0u8; 36864];
     make_table(f, t, &mut table);
     parity_more(f, t, &table, state, piece, 0, n)
 }

@@ -41,9 +41,6 @@ low-lt ws h (suc n) =
     let p : 2 ^ (64 * suc n) ≡ 18446744073709551616 * 2 ^ (64 * n) = ap (λ (k : ℕ). 2 ^ (64 * k)) (sym (add-one n)) ∙ next-power n in
     rw p (digits-lt (h n .fits) (low-lt ws h n))
 
-pub low-lt-next : (ws : List ℕ) (n : ℕ) → low ws n < 2 ^ (64 * n) → getD ws n 0 < 18446744073709551616 → low ws (n + 1) < 2 ^ (64 * (n + 1))
-low-lt-next ws n h l = rw (next-power n, low-next ws n) (digits-lt l h)
-
 pub register-lt : (ws : List ℕ) → Words ws → register ws < 2 ^ (64 * length ws)
 unfolding register
 register-lt ws h = low-lt ws h (length ws)
@@ -201,16 +198,6 @@ top-digits ws h u k some l m r =
 -- the words from n on
 pub words-drop : (ws : List ℕ) → Words ws → (n : ℕ) → Words (drop n ws)
 words-drop ws h n i = rw (getD-drop n ws i 0) (h (n + i))
-
--- words moved up by one place
-pub up-next : (ws vs : List ℕ) (i : ℕ) → 0 < i → i < length ws → low ws i ≡ low vs (i - 1) * 18446744073709551616
-    → low (set ws i (getD vs (i - 1) 0)) (i + 1) ≡ low vs (i + 1 - 1) * 18446744073709551616
-up-next ws vs i some h inv =
-    let n : ℕ = i - 1 in
-    let e : i ≡ n + 1 = omega arith in
-    let d : i + 1 - 1 ≡ n + 1 = omega arith in
-    let p : 2 ^ (64 * i) ≡ 18446744073709551616 * 2 ^ (64 * n) = ap (λ k. 2 ^ (64 * k)) e ∙ next-power n in
-    low-store ws i (getD vs n 0) h ∙ rw (d, p, inv, low-next vs n) (omega arith)
 
 pub zeros-at : (n k : ℕ) → _≡_ {A = ℕ} (getD (replicate n 0) k 0) 0
 zeros-at zero k = refl

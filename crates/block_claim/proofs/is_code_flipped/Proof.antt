@@ -22,12 +22,6 @@ flip-claims-requires c κs =
     let a = c .before .before .before .before .before .before .before .before .before .before in
     (a .pre .2, omega arith)
 
-slice-aggregate-lay : tie.Need-slice-aggregate-lay
-slice-aggregate-lay c = search needs
-
-lay-requires : tie.Need-lay-requires
-lay-requires c κs = search needs
-
 slice-aggregate-make-table : tie.Need-slice-aggregate-make-table
 slice-aggregate-make-table c = search needs
 
@@ -48,7 +42,7 @@ same-length c = search needs
 
 returns : tie.Need-returns
 returns c =
-    let flip = c .before .before .before .before .before .before .before .before .before .before .before .before in
+    let flip = c .before .before .before .before .before .before .before .before .before in
     let copy = flip .before .before .before .before in
     let a = copy .before .before .before .before .before .before .before in
     let s = a .args .shape in
@@ -65,8 +59,6 @@ is-code-flipped-spec =
     cast-n
     copy-word-requires
     flip-claims-requires
-    slice-aggregate-lay
-    lay-requires
     slice-aggregate-make-table
     make-table-requires
     slice-aggregate-remainder-of

@@ -2,7 +2,6 @@ use mathlib.Core.Path.{_∙_, ap}
 use native.Mathlib.Omega.{arith}
 use borrow.Author.Needs.{needs}
 use Rattle.division_table.specs.Table.{width}
-use Rattle.division_table.proofs.Filling.{wide-size}
 use Rattle.division_table.proofs.Level.{level-wide, table-made}
 use Rattle.division_table.proofs.make_table.Statement.{statement}
 use Rattle.division_table.proofs.make_table.Tie as tie
@@ -24,7 +23,6 @@ fill-requires c κs =
     let b = c .before .before in
     let a = b .before .before .before .before in
     let w = level-wide (a .args .f) (a .args .t) (omega arith) (b .before .parity-bits .ensures) (b .row-words .ensures) in
-    let s = wide-size w in
     (w, omega arith)
 
 same-length : tie.Need-same-length

@@ -2,12 +2,6 @@ use borrow.Author.Needs.{needs}
 use Rattle.piece_parity.proofs.parity_by_table.Statement.{statement}
 use Rattle.piece_parity.proofs.parity_by_table.Tie as tie
 
-slice-aggregate-lay : tie.Need-slice-aggregate-lay
-slice-aggregate-lay c = search needs
-
-lay-requires : tie.Need-lay-requires
-lay-requires c κs = search needs
-
 slice-aggregate-make-table : tie.Need-slice-aggregate-make-table
 slice-aggregate-make-table c = search needs
 
@@ -27,8 +21,6 @@ pub parity-by-table-spec : {M : Type 1} → statement M
 parity-by-table-spec =
     tie.close
     (tie.spec
-    slice-aggregate-lay
-    lay-requires
     slice-aggregate-make-table
     make-table-requires
     slice-aggregate-parity-more

@@ -1,4 +1,3 @@
-use mathlib.Core.Path.{_∙_}
 use Rattle.division_table.proofs.Filling.{wide-last}
 use Rattle.division.proofs.feed.feed_few_words.Statement.{statement}
 use Rattle.division.proofs.feed.feed_few_words.Tie as tie
@@ -10,16 +9,16 @@ feed-four-words-requires c κs =
     (rw e at (a .pre .0), rw e at (a .pre .1), a .pre .2, a .pre .3)
 
 returns : tie.Need-returns
-returns c = c .feed-four-words .ensures ∙ rw (c .before .if1 .taken)
+returns c = rw (c .before .if1 .taken) (c .feed-four-words .ensures)
 
-feed-nine-words-requires : tie.Need-feed-nine-words-requires
-feed-nine-words-requires c κs =
+feed-ten-words-requires : tie.Need-feed-ten-words-requires
+feed-ten-words-requires c κs =
     let a = c .before .before .before .before in
     let e = c .if2 .taken in
     (rw e at (a .pre .0), rw e at (a .pre .1), a .pre .2, a .pre .3)
 
 returns-2 : tie.Need-returns-2
-returns-2 c = c .feed-nine-words .ensures ∙ rw (c .before .if2 .taken)
+returns-2 c = rw (c .before .if2 .taken) (c .feed-ten-words .ensures)
 
 feed-long-words-requires : tie.Need-feed-long-words-requires
 feed-long-words-requires c κs =
@@ -31,7 +30,7 @@ returns-3 : tie.Need-returns-3
 returns-3 c =
     let b = c .before in
     let e = wide-last (b .before .before .before .before .pre .0 .wide) (b .before .if1 .left) (b .if2 .left) in
-    c .feed-long-words .ensures ∙ rw e
+    rw e (c .feed-long-words .ensures)
 
 pub feed-few-words-spec : {M : Type 1} → statement M
 feed-few-words-spec =
@@ -39,7 +38,7 @@ feed-few-words-spec =
     (tie.spec
     feed-four-words-requires
     returns
-    feed-nine-words-requires
+    feed-ten-words-requires
     returns-2
     feed-long-words-requires
     returns-3)

@@ -1,17 +1,19 @@
-use Prim.Native.Nat.{_≤_, _-_, _*_}
+use Prim.Native.Nat.{_≤_, _<_, _+_, _-_, _*_, _^_}
 use mathlib.Core.Path.{_≡_, _∙_, refl}
 use native.Mathlib.Omega.{arith}
 use borrow.Author.Needs.{needs}
 use Rattle.bits.specs.Bits.{bitOf, run}
 use Rattle.code.specs.Register.{register}
 use Rattle.remainder.specs.Parity.{parityFrom}
+use Rattle.partial.specs.Partial.{reduced}
 use Rattle.division_table.specs.Table.{divisorOf}
-use Rattle.division_steps.proofs.Steps.{rests-below, parity-word}
+use Rattle.division_steps.proofs.Steps.{parity-word}
 use Rattle.division.proofs.feed.feed_long_words.Statement.{statement}
 use Rattle.division.proofs.feed.feed_long_words.Tie as tie
 
 abbrev Inv-loop : tie.InvT-loop
-Inv-loop table bytes at count words r₀ fed₀ r fed = (fed ≤ count) × (register (r .words) ≡ parityFrom (64 * 14) (divisorOf 14 table) (register (r₀ .words)) (run (bitOf bytes) at (64 * fed)))
+Inv-loop table bytes at count words r₀ fed₀ r fed = (fed ≤ count) × (register (r .words) < 2 ^ (64 * 14 + 64))
+    × (reduced (64 * 14) (divisorOf 14 table) (register (r .words)) ≡ parityFrom (64 * 14) (divisorOf 14 table) (reduced (64 * 14) (divisorOf 14 table) (register (r₀ .words))) (run (bitOf bytes) at (64 * fed)))
 
 abbrev μ-loop : tie.MeasureT-loop
 μ-loop table bytes at count words r₀ fed₀ r fed = count - fed
@@ -21,19 +23,19 @@ words-from-requires c κs = search needs
 
 loop-holds : tie.Need-loop-holds Inv-loop μ-loop
 unfolding run parityFrom
-loop-holds c = (search needs, refl)
+loop-holds c = (search needs, c .before .before .before .pre .1, refl)
 
-mul-w : tie.Need-mul-w Inv-loop μ-loop
-mul-w c = search needs
+mul-turned-word : tie.Need-mul-turned-word Inv-loop μ-loop
+mul-turned-word c = search needs
 
-array-read-w : tie.Need-array-read-w Inv-loop μ-loop
-array-read-w c = search needs
+array-read-turned-word : tie.Need-array-read-turned-word Inv-loop μ-loop
+array-read-turned-word c = search needs
+
+turned-word-requires : tie.Need-turned-word-requires Inv-loop μ-loop
+turned-word-requires c κs = search needs
 
 long-step-requires : tie.Need-long-step-requires Inv-loop μ-loop
-long-step-requires c κs =
-    let s = c .before .loop in
-    let p = c .before .before .before .before .before .pre in
-    (p .0, rw (s .inv .1) (rests-below _ _ (p .0) _ _ (p .1)))
+long-step-requires c κs = (c .before .before .before .before .before .before .pre .0, c .before .before .loop .inv .1)
 
 add-fed : tie.Need-add-fed Inv-loop μ-loop
 add-fed c = search needs
@@ -43,13 +45,16 @@ loop-less c = search needs
 
 loop-again : tie.Need-loop-again Inv-loop μ-loop
 loop-again c =
-    let s = c .before .before .loop in
-    (omega arith, parity-word _ _ _ _ _ (s .fed) (s .inv .1) (c .before .before .before .words-from .ensures (s .fed) (omega arith)) (c .long-step .ensures))
+    let s = c .before .before .before .loop in
+    let w = c .before .turned-word .ensures ∙ c .before .before .before .before .words-from .ensures (s .fed) (omega arith) in
+    let e = c .long-step .ensures in
+    (omega arith, e .0, parity-word _ _ _ _ _ (s .fed) (s .inv .2) w (e .1))
 
 returns : tie.Need-returns Inv-loop μ-loop
 returns c =
+    let i = c .before .loop .inv in
     let e : c .before .loop .fed ≡ c .before .before .before .before .before .args .count = omega arith in
-    c .before .loop .inv .1 ∙ rw e
+    (i .1, i .2 ∙ rw e)
 
 pub feed-long-words-spec : {M : Type 1} → statement M
 feed-long-words-spec =
@@ -59,8 +64,9 @@ feed-long-words-spec =
     μ-loop
     words-from-requires
     loop-holds
-    mul-w
-    array-read-w
+    mul-turned-word
+    array-read-turned-word
+    turned-word-requires
     long-step-requires
     add-fed
     loop-less

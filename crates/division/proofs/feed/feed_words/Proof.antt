@@ -1,30 +1,32 @@
-use Prim.Native.Nat.{_≤_, _+_, _-_, _*_}
-use mathlib.Core.Path.{_≡_, _∙_, refl}
+use Prim.Native.Nat.{_≤_, _<_, _+_, _-_, _*_, _%_, _^_}
+use mathlib.Core.Path.{_≡_, refl, _∙_}
 use native.Mathlib.Omega.{arith}
 use borrow.Author.Needs.{needs}
 use Rattle.bits.specs.Bits.{bitOf, run}
 use Rattle.code.specs.Register.{register}
 use Rattle.remainder.specs.Parity.{parityFrom}
+use Rattle.partial.specs.Partial.{reduced}
 use Rattle.division_table.specs.Table.{divisorOf}
-use Rattle.division_steps.proofs.Steps.{rests-below, parity-parts}
+use Rattle.division_steps.proofs.Steps.{parity-parts}
 use Rattle.division.proofs.feed.feed_words.Statement.{statement}
 use Rattle.division.proofs.feed.feed_words.Tie as tie
 
 abbrev Inv-loop : tie.InvT-loop
-Inv-loop table used bytes at count r₀ fed₀ r fed = (fed ≤ count) × (register (r .words) ≡ parityFrom (64 * used) (divisorOf used table) (register (r₀ .words)) (run (bitOf bytes) at (64 * fed)))
+Inv-loop table used bytes at count fed₀ r₀ fed r = (fed₀ ≤ fed) × (fed ≤ count) × ((count - fed) % 16 ≡ 0) × (register (r .words) < 2 ^ (64 * used + 64))
+    × (reduced (64 * used) (divisorOf used table) (register (r .words)) ≡ parityFrom (64 * used) (divisorOf used table) (reduced (64 * used) (divisorOf used table) (register (r₀ .words))) (run (bitOf bytes) (at + 64 * fed₀) (64 * (fed - fed₀))))
 
 abbrev μ-loop : tie.MeasureT-loop
-μ-loop table used bytes at count r₀ fed₀ r fed = count - fed
+μ-loop table used bytes at count fed₀ r₀ fed r = count - fed
+
+feed-few-words-requires : tie.Need-feed-few-words-requires Inv-loop μ-loop
+feed-few-words-requires c κs = let p = c .before .before .pre in (p .0, p .1, omega arith, omega arith)
 
 loop-holds : tie.Need-loop-holds Inv-loop μ-loop
 unfolding run parityFrom
-loop-holds c = (search needs, refl)
-
-sub-next-words : tie.Need-sub-next-words Inv-loop μ-loop
-sub-next-words c = search needs
-
-next-words-requires : tie.Need-next-words-requires Inv-loop μ-loop
-next-words-requires c κs = search needs
+loop-holds c =
+    let f = c .before .before .before .args .count % 16 in
+    let z : f - f ≡ 0 = omega arith in
+    (omega arith, omega arith, omega arith, c .feed-few-words .ensures .0, rw z refl)
 
 mul-feed-few-words : tie.Need-mul-feed-few-words Inv-loop μ-loop
 mul-feed-few-words c = search needs
@@ -32,32 +34,29 @@ mul-feed-few-words c = search needs
 add-feed-few-words : tie.Need-add-feed-few-words Inv-loop μ-loop
 add-feed-few-words c = search needs
 
-feed-few-words-requires : tie.Need-feed-few-words-requires Inv-loop μ-loop
-feed-few-words-requires c κs =
-    let s = c .before .before .loop in
+feed-few-words-requires-2 : tie.Need-feed-few-words-requires-2 Inv-loop μ-loop
+feed-few-words-requires-2 c κs =
+    let i = c .before .loop .inv in
     let p = c .before .before .before .before .before .pre in
-    let e = c .next-words .ensures in
-    (p .0, rw (s .inv .1) (rests-below _ _ (p .0) _ _ (p .1)), omega arith, e .1)
+    (p .0, i .3, omega arith, omega arith)
 
 add-fed : tie.Need-add-fed Inv-loop μ-loop
-add-fed c = let e = c .before .next-words .ensures in omega arith
+add-fed c = search needs
 
 loop-less : tie.Need-loop-less Inv-loop μ-loop
-loop-less c =
-    let e = c .before .next-words .ensures in
-    let h = e .2 (omega arith) in
-    omega arith
+loop-less c = search needs
 
 loop-again : tie.Need-loop-again Inv-loop μ-loop
 loop-again c =
-    let s = c .before .before .before .loop in
-    let e = c .before .next-words .ensures in
-    (omega arith, parity-parts _ _ _ _ _ (64 * s .fed) _ (omega arith) refl (s .inv .1) (c .feed-few-words .ensures))
+    let s = c .before .before .loop in
+    let e = c .feed-few-words2 .ensures in
+    (omega arith, omega arith, omega arith, e .0, parity-parts _ _ _ _ _ _ _ (omega arith) (omega arith) (s .inv .4) (e .1))
 
 returns : tie.Need-returns Inv-loop μ-loop
 returns c =
-    let e : c .before .loop .fed ≡ c .before .before .before .before .args .count = omega arith in
-    c .before .loop .inv .1 ∙ rw e
+    let s = c .before .loop in
+    let b = c .before .before in
+    (s .inv .3, parity-parts _ _ _ _ _ _ _ (omega arith) refl (b .feed-few-words .ensures .1) (s .inv .4))
 
 pub feed-words-spec : {M : Type 1} → statement M
 feed-words-spec =
@@ -65,12 +64,11 @@ feed-words-spec =
     (tie.spec
     Inv-loop
     μ-loop
+    feed-few-words-requires
     loop-holds
-    sub-next-words
-    next-words-requires
     mul-feed-few-words
     add-feed-few-words
-    feed-few-words-requires
+    feed-few-words-requires-2
     add-fed
     loop-less
     loop-again

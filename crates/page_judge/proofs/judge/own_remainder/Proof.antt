@@ -11,18 +11,12 @@ block-shape-requires c κs = search needs
 cast-t : tie.Need-cast-t
 cast-t c = search needs
 
-slice-aggregate-lay : tie.Need-slice-aggregate-lay
-slice-aggregate-lay c = search needs
-
-lay-requires : tie.Need-lay-requires
-lay-requires c κs = search needs
-
 slice-aggregate-make-table : tie.Need-slice-aggregate-make-table
 slice-aggregate-make-table c = search needs
 
 make-table-requires : tie.Need-make-table-requires
 make-table-requires c κs =
-    let s = c .before .before .before .before .before in
+    let s = c .before .before in
     let h : Stored (s .block-shape .result) = rw (s .block-shape .ensures) (shape-stored _ _ (s .before .before .pre .0 .plan)) in
     (h .even, h .small, search needs)
 
@@ -32,7 +26,7 @@ slice-aggregate-block-remainder c = search needs
 block-remainder-requires : tie.Need-block-remainder-requires
 block-remainder-requires c κs =
     let m = c .before .before in
-    let s = m .before .before .before .before .before .before in
+    let s = m .before .before .before in
     let p = s .before .before .pre in
     (p .0, (p .1, rw (s .block-shape .ensures) at (m .make-table .ensures)))
 
@@ -45,8 +39,6 @@ own-remainder-spec =
     (tie.spec
     block-shape-requires
     cast-t
-    slice-aggregate-lay
-    lay-requires
     slice-aggregate-make-table
     make-table-requires
     slice-aggregate-block-remainder

@@ -8,12 +8,6 @@ use Rattle.page_look.proofs.Ends.{look-lent, look-done}
 use Rattle.page_look.proofs.look.look_lent.Statement.{statement}
 use Rattle.page_look.proofs.look.look_lent.Tie as tie
 
-slice-aggregate-lay : tie.Need-slice-aggregate-lay
-slice-aggregate-lay c = search needs
-
-lay-requires : tie.Need-lay-requires
-lay-requires c κs = search needs
-
 slice-aggregate-scan-page : tie.Need-slice-aggregate-scan-page
 slice-aggregate-scan-page c = search needs
 
@@ -31,7 +25,7 @@ unfolding lookNumber lookBlock
 returns c =
     let e = c .before .before .before .before in
     let s = e .before .before .before in
-    let p = s .before .before .before .before .before .before .before .pre in
+    let p = s .before .before .before .before .pre in
     let plan = p .0 .plan in
     let u = underway-start _ _ plan (s .scan-page .ensures .0) (e .clear .ensures) (p .1) in
     look-done _ _ (p .0) _ (p .1) (underway-end _ _ plan u (omega arith)) (clean-sound _ _ plan (s .scan-page .ensures .0) (c .if1 .taken))
@@ -44,7 +38,7 @@ look-damaged-requires c κs =
     let k = c .before .before in
     let e = k .before .before .before .before in
     let s = e .before .before .before in
-    let p = s .before .before .before .before .before .before .before .pre in (
+    let p = s .before .before .before .before .pre in (
       record {
         ready = p .0;
         table = s .scan-page .ensures .1;
@@ -62,7 +56,7 @@ returns-2 c =
     let k = l .before .before .before in
     let e = k .before .before .before .before in
     let s = e .before .before .before in
-    let p = s .before .before .before .before .before .before .before .pre in
+    let p = s .before .before .before .before .pre in
     l .look-damaged .ensures
     ∙ look-lent _ _ (p .0) _ _ (p .1) (underway-start _ _ (p .0 .plan) (s .scan-page .ensures .0) (e .clear .ensures) (p .1) .size)
 
@@ -70,8 +64,6 @@ pub look-lent-spec : {M : Type 1} → statement M
 look-lent-spec =
     tie.close
     (tie.spec
-    slice-aggregate-lay
-    lay-requires
     slice-aggregate-scan-page
     scan-page-requires
     clear-requires

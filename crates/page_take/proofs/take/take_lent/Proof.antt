@@ -5,12 +5,6 @@ use Rattle.page_take.specs.Answers.{takeNumber, takeBlock}
 use Rattle.page_take.proofs.take.take_lent.Statement.{statement}
 use Rattle.page_take.proofs.take.take_lent.Tie as tie
 
-slice-aggregate-lay : tie.Need-slice-aggregate-lay
-slice-aggregate-lay c = search needs
-
-lay-requires : tie.Need-lay-requires
-lay-requires c κs = search needs
-
 slice-aggregate-scan-page : tie.Need-slice-aggregate-scan-page
 slice-aggregate-scan-page c = search needs
 
@@ -20,7 +14,7 @@ scan-page-requires c κs = search needs
 copy-clean-requires : tie.Need-copy-clean-requires
 copy-clean-requires c κs =
     let s = c .before .before .before .before .before in
-    (s .before .before .before .before .before .before .before .before .pre, λ b l. s .scan-page .ensures .0 .clean b (omega arith) (omega arith))
+    (s .before .before .before .before .before .pre, λ b l. s .scan-page .ensures .0 .clean b (omega arith) (omega arith))
 
 same-length : tie.Need-same-length
 same-length c = search needs
@@ -40,7 +34,7 @@ take-damaged-requires c κs =
     let k = c .before .before .before in
     let s = k .before .before .before in
     let e = s .scan-page .ensures in
-    (s .before .before .before .before .before .before .before .before .pre, (e .0, e .1, omega (arith, e .0 .inside)))
+    (s .before .before .before .before .before .pre, (e .0, e .1, omega (arith, e .0 .inside)))
 
 same-length-3 : tie.Need-same-length-3
 same-length-3 c = search needs
@@ -55,8 +49,6 @@ pub take-lent-spec : {M : Type 1} → statement M
 take-lent-spec =
     tie.close
     (tie.spec
-    slice-aggregate-lay
-    lay-requires
     slice-aggregate-scan-page
     scan-page-requires
     copy-clean-requires

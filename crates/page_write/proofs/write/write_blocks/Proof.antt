@@ -16,12 +16,6 @@ Inv-loop plan metadata «data» page₀ blocks table block₀ page block =
 abbrev μ-loop : tie.MeasureT-loop
 μ-loop plan metadata «data» page₀ blocks table block₀ page block = blocks - block
 
-slice-aggregate-lay : tie.Need-slice-aggregate-lay Inv-loop μ-loop
-slice-aggregate-lay c = search needs
-
-lay-requires : tie.Need-lay-requires Inv-loop μ-loop
-lay-requires c κs = search needs
-
 slice-aggregate-write-first : tie.Need-slice-aggregate-write-first Inv-loop μ-loop
 slice-aggregate-write-first c = search needs
 
@@ -31,7 +25,7 @@ write-first-requires c κs = search needs
 loop-holds : tie.Need-loop-holds Inv-loop μ-loop
 loop-holds c =
     let first = c .before .before .before in
-    let a = first .before .before .before .before .before .before .before .before .before in
+    let a = first .before .before .before .before .before .before in
     let q = a .args .plan in
     (omega arith, a .pre .0 .some, streamed-first q _ _ (shape-zero q (a .pre .0)) (a .pre .1 .size) (first .write-first .ensures .0))
 
@@ -42,7 +36,7 @@ write-later-requires : tie.Need-write-later-requires Inv-loop μ-loop
 write-later-requires c κs =
     let turn = c .before .before .before in
     let first = turn .before .before .before .before in
-    let a = first .before .before .before .before .before .before .before .before .before in
+    let a = first .before .before .before .before .before .before in
     let s = turn .loop in
     let h = a .pre .1 in (
       (
@@ -63,7 +57,7 @@ loop-again : tie.Need-loop-again Inv-loop μ-loop
 loop-again c =
     let put = c .before .before in
     let turn = put .before .before .before .before in
-    let a = turn .before .before .before .before .before .before .before .before .before .before .before .before .before in
+    let a = turn .before .before .before .before .before .before .before .before .before .before in
     let s = turn .loop in
     let l = put .before .before .before .loop-test .taken in
     (omega arith, omega arith, streamed-next (a .args .plan) _ (a .pre .0 .valid) (s .block) (s .inv .2) (put .write-later .ensures))
@@ -71,14 +65,14 @@ loop-again c =
 fill-tail-requires : tie.Need-fill-tail-requires Inv-loop μ-loop
 fill-tail-requires c κs =
     let turn = c .before .before in
-    let a = turn .before .before .before .before .before .before .before .before .before .before .before .before .before in
+    let a = turn .before .before .before .before .before .before .before .before .before .before in
     (a .pre .0, streamed-size (a .args .plan) _ _ (turn .loop .inv .2))
 
 same-length : tie.Need-same-length Inv-loop μ-loop
 same-length c =
     let done = c .before .before in
     let turn = done .before .before .before in
-    let a = turn .before .before .before .before .before .before .before .before .before .before .before .before .before in
+    let a = turn .before .before .before .before .before .before .before .before .before .before in
     let n = streamed-size (a .args .plan) _ _ (turn .loop .inv .2) in
     let m = a .pre .1 .size in
     search needs
@@ -88,7 +82,7 @@ returns c =
     let done = c .before .before in
     let turn = done .before .before .before in
     let first = turn .before .before .before .before in
-    let a = first .before .before .before .before .before .before .before .before .before in
+    let a = first .before .before .before .before .before .before in
     let q = a .args .plan in
     let s = turn .loop in
     let e : s .block ≡ q .blocks = omega arith in
@@ -101,8 +95,6 @@ write-blocks-spec =
     (tie.spec
     Inv-loop
     μ-loop
-    slice-aggregate-lay
-    lay-requires
     slice-aggregate-write-first
     write-first-requires
     loop-holds

@@ -1,0 +1,2 @@
+-- Laws of words that are read from bytes.
+pub mod Turned

@@ -1,0 +1,2 @@
+-- Words with their bytes in the other order.
+pub mod Turned

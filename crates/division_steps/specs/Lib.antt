@@ -1,0 +1,2 @@
+-- Words of rows, added to those of a number.
+pub mod Sums

@@ -1,0 +1,2 @@
+-- Rows of a table of bytes.
+pub mod Rows
