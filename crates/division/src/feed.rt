@@ -69,8 +69,8 @@ fn feed_long_words(state: Wide, table: &[u8], bytes: &[u8], at: usize, count: us
     r
 }
 
-// Up to 16 words for a divisor of any degree. It is called in two places: the compiler then keeps it apart, and the registers of the processor
-// for its loops.
+// Up to 16 words for a divisor of any degree. It is called in two places: the compiler then keeps it apart, and has the registers of the
+// processor for its loops alone.
 fn feed_few_words(
     state: Wide,
     table: &[u8],
@@ -92,7 +92,7 @@ fn feed_few_words(
     feed_long_words(state, table, bytes, at, count)
 }
 
-// A run of any number of words: first those that are no 16, then 16 at a time.
+// A run of any number of words: first those that are left over when the others are fed 16 at a time.
 fn feed_words(state: Wide, table: &[u8], used: usize, bytes: &[u8], at: usize, count: usize) -> Wide
     requires { ⌜ (Rests used (now table)) × (register (state .words) < 2 ^ (64 * used + 64)) × (at + 64 * count < 18446744073709551616) ⌝ }
     ensures { λ r. ⌜ (register (r .words) < 2 ^ (64 * used + 64)) × (reduced (64 * used) (divisorOf used (now (table .entry))) (register (r .words))

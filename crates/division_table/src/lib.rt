@@ -11,7 +11,7 @@
 //
 //   fill    the rows of the powers of 2 by doubling, the others as sums
 //
-// What a table is stands in specs/Table.antt; proofs/ has the laws: Filling (the table while it is made), Level (the table of a level).
+// What a table is stands in specs/Table.antt, rows that are sums in specs/Sums.antt; proofs/ has the laws: Filling (the table while it is made), Level (the table of a level).
 mod fill;
 
 ghost use mathlib.Core.Path.{_≡_};
@@ -28,7 +28,7 @@ use register_shifts::raised;
 use remainder::Register;
 use remainder::coefficients::parity_bits;
 
-// How many words a row of the table has.
+// How many words the parity has, for a generator of that degree: the divisor has the degree 64 times as many.
 pub fn row_words(degree: usize) -> usize
     ensures { λ r. ⌜ r ≡ width degree ⌝ }
 {
@@ -38,7 +38,7 @@ pub fn row_words(degree: usize) -> usize
     if degree <= 640 { 10 } else { 14 }
 }
 
-// The generator of the level t moved up to fill the words of a row, without its highest coefficient.
+// The generator of the level t moved up to fill these words, without its highest coefficient.
 pub fn divisor_row(f: Field, t: usize) -> [u64; 14]
     requires { ⌜ (t % 2 ≡ 0) × (t ≤ 62) ⌝ }
     ensures { λ r. ⌜ 2 ^ (64 * width (degree f * t)) + low r (width (degree f * t)) ≡ generator f t * 2 ^ gap (degree f * t) ⌝ }
