@@ -12,3 +12,4 @@
 //      whenever one is near enough.
 //   6. Number, Array, Search: numbers below q as elements, arrays of numbers as series, and flags at the roots: how code states
 //      what it computed.
+#![tactic(auto)]

@@ -1,4 +1,6 @@
 // The answer word, which every call of the C interface returns but those that explain: four numbers in 64 bits.
+#![tactic(auto)]
+
 ghost use Rattle.std.specs.Prelude.{◌≡◌};
 ghost use Rattle.replies.specs.Replies.{number, block};
 ghost use Rattle.answer_words.specs.Answer.{answer_word, done_word, refused_word};

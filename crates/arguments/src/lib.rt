@@ -7,6 +7,8 @@
 //   number, word_list           numbers
 //   layout_words, record_of     the three words of a layout with the edition, and their record
 //   bad_remainder               the error about a remainder that cannot be read
+#![tactic(auto)]
+
 mod choices;
 mod numbers;
 

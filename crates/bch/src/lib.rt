@@ -6,6 +6,8 @@
 // remainder is not zero, has crate `decoder` find the set, and lists it. A refusal writes nothing.
 // What is right is said by specs/Answers.antt over the code alone; that the decoder finds it is shown in crate `decoder`, and in
 // proofs/Remainder.antt that reply 9 is given exactly if there is no set, and that a refusal changes no place.
+#![tactic(auto)]
+
 pub mod answers;
 mod request;
 

@@ -11,6 +11,8 @@
 // No function asks anything of its arguments. What a read gives stands in specs/Reading.antt; proofs/ has the laws: Walking (a read inside
 // the page and at its end, what n reads give), and for the proofs by hand of functions over a reader, Reader (what it owns) and Thin (a
 // function that takes it apart and calls one on its page and position).
+#![tactic(auto)]
+
 ghost use Rattle.std.specs.Prelude.{◌≡◌};
 ghost use Rattle.bit_reader.specs.Reading.{step_at};
 

@@ -6,6 +6,8 @@
 //
 // Each function works on slices and positions. Its contract gives the whole slice afterwards, by equality with `placed` of crate
 // `bits`, whose laws stand there; proofs/Parts has those of a word put inside one byte, and of bytes put one after the other.
+#![tactic(auto)]
+
 pub mod copy;
 pub mod fill;
 pub mod write;

@@ -8,4 +8,6 @@
 // Each function works on slices and positions. Its contract gives the number that is read by equality with a definition of
 // specs/Bits.antt. The laws of these definitions stand in proofs/: Numbers (bits and binary digits), Runs, Pages (bytes given by
 // their bits), Placed (a word put at a position), Steps (shifts and joins of bytes and words).
+#![tactic(auto)]
+
 pub mod read;

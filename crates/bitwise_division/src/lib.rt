@@ -5,6 +5,8 @@
 //
 // Divisor and parity are moved up until they fill four, ten or fourteen words, and the parity is moved down at the end. The law behind
 // that is in `division_steps`; proofs/Single.antt has the laws of a single step.
+#![tactic(auto)]
+
 ghost use Rattle.std.specs.Prelude.{◌≡◌, ◌+◌, ◌*◌, ◌%◌, ◌^◌, ◌≤◌, ◌<◌};
 ghost use Rattle.bits.specs.Bits.{bit_of, run, digits};
 ghost use Rattle.field.specs.Field.{degree};

@@ -4,6 +4,8 @@
 //
 // The list is looked at first: few enough, below n, no two alike. Then the claimed bits of a copy of the block are flipped, and that is
 // divided by the generator. No decoder is asked.
+#![tactic(auto)]
+
 ghost use Rattle.std.specs.Prelude.{◌≡◌, ◌+◌, ◌*◌, ◌≤◌, ◌<◌, length};
 ghost use Rattle.bits.specs.Decides.{Decides};
 ghost use Rattle.bits.specs.Bits.{bit_of, run, Inside};

@@ -2,6 +2,8 @@
 //
 //   block_outcome    the exponents that repair a block, or that there are none
 //   block_count      its count: how many exponents, 128 plus the zeros of an erased block, 255 of a ruined one
+#![tactic(auto)]
+
 ghost use Rattle.std.specs.Prelude.{◌≡◌, ◌+◌, ◌*◌, ◌^◌, ◌≤◌, ◌<◌};
 ghost use Rattle.bits.specs.Bits.{run};
 ghost use Rattle.mark.specs.Mark.{InStream, stream_bit};

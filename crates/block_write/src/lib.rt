@@ -2,6 +2,8 @@
 // into the stream, which leaves the mark out: the mark's bytes stay as they were lent.
 //
 //   write_block    writes a block at a position of the stream
+#![tactic(auto)]
+
 ghost use Rattle.std.specs.Prelude.{◌≡◌, ◌++◌, ◌+◌, ◌<◌, length};
 ghost use Rattle.bits.specs.Bits.{bit_of, run, Inside};
 ghost use Rattle.mark.specs.Mark.{stream_bit, put, InStream};

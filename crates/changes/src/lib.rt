@@ -6,6 +6,8 @@
 //
 // specs/Lines.antt has the definitions; proofs/Showing.antt the laws: the change is exact, and the line by two counts is the one that the outcomes of
 // the two blocks say.
+#![tactic(auto)]
+
 ghost use Rattle.std.specs.Prelude.{◌≡◌, true, false, nat_abs};
 ghost use Rattle.changes.specs.Lines.{flips_of, difference, change_of, line_of};
 

@@ -19,3 +19,4 @@
 //   Generator, Unique                   the product of the minimal polynomials is the generator, of degree m t, and the only one
 //   Remainder, Dividend                 remainder 0 is codeword; parity; syndromes from the remainder; sums, cuts and leading zeros
 //   Repair, Flips, Descending, Locations the recheck, completeness of the decoder, locating from a remainder and reading by it
+#![tactic(auto)]

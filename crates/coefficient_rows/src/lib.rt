@@ -7,6 +7,8 @@
 //   divide          quotient and remainder of two polynomials, in place
 //   terms           how many coefficients a row has up to the last that is not 0
 //   copy, copy_monic    copies a row, and a monic polynomial with its leading 1
+#![tactic(auto)]
+
 ghost use Rattle.std.specs.Prelude.{◌≡◌, ◌+◌, ◌≤◌, ◌<◌, length};
 
 // The exponent s of a below 2^m - 1, where n is that; below the length of a table whatever it is.

@@ -3,6 +3,8 @@
 //   asked    the command, or the help where it is asked for
 //   help     the help, and what is said of a command that there is not
 //   tell     tells scripts/nandpage the exit status
+#![tactic(auto)]
+
 pub mod help;
 
 // What the first argument asks for.

@@ -8,6 +8,8 @@
 //
 // specs/ has the definitions (Calls), the replies as lists of rules (ReplyRules) and what the steps ask for (Steps); proofs/ the laws: Ends (how the
 // calls end), ReplyRules.
+#![tactic(auto)]
+
 mod pages;
 
 pub use pages::{compare_pages, next_difference};

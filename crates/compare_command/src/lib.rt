@@ -9,6 +9,8 @@
 //   commands.rt    the command
 //
 // What a run has to do, and what it came to so far, is in `compare_totals`.
+#![tactic(auto)]
+
 mod commands;
 mod dumping;
 mod lines;

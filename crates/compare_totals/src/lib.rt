@@ -3,6 +3,7 @@
 //   Run, Failed, Totals    what is asked of a run, which file failed, and what was counted
 //   start, passed, differing, ended, broken    totals as pages go by
 //   summary                the last line of a comparison of dumps
+#![tactic(auto)]
 
 // The descriptors of the two files, the second below 0 where there is none; the edition; the number of the first page, how many pages to
 // compare at most, and how many there are, 0 where that is not known; when the run began; whether only refusals and the summary are

@@ -12,6 +12,8 @@
 //    a below a^n for them.
 // 4. All roots are rechecked over the code: their power sums must be the syndromes. So neither locator nor proposal is trusted, and
 //    no exponent at or above n is reported.
+#![tactic(auto)]
+
 ghost use Rattle.std.specs.Prelude.{◌≡◌, true, false, ◌≤◌, ◌<◌, length, take};
 ghost use Rattle.field.specs.Field.{longest};
 ghost use Rattle.powers.specs.Powers.{Powers};

@@ -5,6 +5,8 @@
 // Positions are counted as in Bits: position p of a page is byte p / 8, bit 7 - p mod 8. The tail counts, the mark's bytes do not. Equal
 // bytes are passed over whole. specs/Differences.antt has the definitions; proofs/ the laws: Passing (positions passed over), Listing (asking
 // for the next position again and again lists every one of them, ascending).
+#![tactic(auto)]
+
 ghost use Rattle.std.specs.Prelude.{◌≡◌, get_or, eqb};
 ghost use Rattle.mark.specs.Mark.{marked};
 ghost use Rattle.differences.specs.Differences.{differs, next};

@@ -12,6 +12,8 @@
 // The register is moved up so that it fills four, ten or fourteen words, and moved down at the end. What a remainder is stands in the
 // crates `remainder` and `code`, what a table is in `division_table`; the steps and the laws are in `division_steps`, and
 // `bitwise_division` does the same bit by bit, with no table.
+#![tactic(auto)]
+
 mod feed;
 mod pairs;
 pub mod runs;

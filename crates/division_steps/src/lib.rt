@@ -11,6 +11,8 @@
 // the others up, and adds the rows of its eight bytes to them and to the next word of the message. What a table is stands in
 // `division_table`, the sums of words of rows in specs/Sums.antt; proofs/ has the laws, for the crates of the runs and of the division bit by bit
 // too: Rows (what the rows stand for, and sums of them), Steps (numbers in words, and runs of steps), Level (what is moved up to whole words).
+#![tactic(auto)]
+
 ghost use Rattle.std.specs.Prelude.{◌≡◌, ℕ, ◌+◌, ◌-◌, ◌*◌, ◌/◌, ◌%◌, ◌^◌, ◌≤◌, ◌<◌, length, get_or};
 ghost use Rattle.std.specs.Int.Bits.{bit_xor};
 ghost use Rattle.bits.specs.Bits.{digits};

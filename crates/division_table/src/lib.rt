@@ -12,6 +12,8 @@
 //   fill    the rows of the powers of 2 by doubling, the others as sums
 //
 // What a table is stands in specs/Table.antt, rows that are sums in specs/Sums.antt; proofs/ has the laws: Filling (the table while it is made), Level (the table of a level).
+#![tactic(auto)]
+
 mod fill;
 
 ghost use Rattle.std.specs.Prelude.{◌≡◌, ◌+◌, ◌*◌, ◌%◌, ◌^◌, ◌≤◌, length};

@@ -3,6 +3,8 @@
 // A vector is a head of eight bytes and then the bytes in which the run lies. The head: `D`, the field choice, the level field, the position
 // of the first bit in the first byte, the number of bits (two bytes) and the number of bytes (two bytes). A line shows the words of the
 // remainder of the run by the table of the level, and then those of its parity as a message, worked out bit by bit, the lowest word first.
+#![tactic(auto)]
+
 ghost use Rattle.std.specs.Prelude.{◌≡◌, ◌%◌, ◌≤◌, ◌<◌};
 
 use bitwise_division::parity_by_bits;

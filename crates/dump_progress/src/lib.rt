@@ -3,6 +3,8 @@
 //   seconds    the time
 //   known      how many pages there are
 //   tell       the line, where it is time for one
+#![tactic(auto)]
+
 use files::Known;
 
 // The time in seconds.

@@ -7,6 +7,8 @@
 // into one form for all refusals (`Why`), which the crate `page_explain` uses too; parts.rt takes a position apart.
 // specs/Reasons.antt and specs/Parts.antt say what is answered; proofs/Truth.antt that a reason is true and the one that decided,
 // proofs/Written.antt that the parts of a written page are its metadata, its data and its parities.
+#![tactic(auto)]
+
 mod parts;
 mod reasons;
 

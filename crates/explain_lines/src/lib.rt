@@ -7,6 +7,8 @@
 //   verdicts.rt   what became of a block, and what can be done
 //
 // The last line of an explanation begins with `next: ` where there is something to do.
+#![tactic(auto)]
+
 mod places;
 mod refusals;
 mod rules;

@@ -6,6 +6,8 @@
 //
 // A refusal is its reply, what it is about, and the two numbers that were compared, 24 bits each; a number that was handed in and is larger
 // shows as the largest. specs/Words.antt says where each number stands.
+#![tactic(auto)]
+
 ghost use Rattle.std.specs.Prelude.{◌≡◌, ◌≤◌};
 ghost use Rattle.explain_words.specs.Words.{shown_to, explanation_word, about_number, part_number, why_word, layout_word, block_word, spot_word, place_word};
 

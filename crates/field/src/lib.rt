@@ -9,6 +9,8 @@
 //   product, power          in either field, by shift and add and by squares
 //
 // Crate `field_tables` makes products by a table of powers and a table of logarithms; specs/Tables says what these are.
+#![tactic(auto)]
+
 ghost use Rattle.std.specs.Prelude.{◌≡◌, ◌^◌, ◌<◌};
 ghost use Rattle.field.specs.Field.{degree, modulus, longest, chosen, mul, product, power, Elem, Usable};
 

@@ -5,6 +5,8 @@
 //   product_by_tables    the product of two elements
 //   scaled               an element times a power of a
 //   quotient             the exponent of a quotient
+#![tactic(auto)]
+
 ghost use Rattle.std.specs.Prelude.{◌≡◌, ◌*◌, ◌^◌, ◌<◌};
 ghost use Rattle.field.specs.Field.{degree, modulus, longest, mul, product, a^, Elem};
 ghost use Rattle.field.specs.Tables.{Tables};

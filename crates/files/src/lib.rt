@@ -7,6 +7,8 @@
 //
 // An output is a new file beside its place, PATH.N.part, that takes the place when it is whole. So where anything fails, what was
 // there is there still. What lies below /dev/ is written as it is. An error is printed where it happens.
+#![tactic(auto)]
+
 mod inputs;
 mod outputs;
 

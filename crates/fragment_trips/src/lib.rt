@@ -2,6 +2,8 @@
 //
 //   export_import     exports a remainder, and imports the fragments
 //   import_export     imports fragments, and exports the remainder
+#![tactic(auto)]
+
 ghost use Rattle.std.specs.Prelude.{◌≡◌};
 ghost use Rattle.fragment_trips.specs.RoundTrip.{tripped, remainder_back, fragments_back};
 

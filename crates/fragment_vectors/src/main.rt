@@ -11,6 +11,8 @@
 //        the list after the call
 // The head of `E` has 40 bytes: the remainder's length, the number of places, five bytes not used, and edition, level field, field choice
 // and n of eight bytes each. The vector has no fragments.
+#![tactic(auto)]
+
 mod locates;
 
 use bch::LocateAnswer;

@@ -11,6 +11,8 @@
 // 3. Crate `register_fragments` writes the fragments of a register, and reads them.
 // What is right is said by register_fragments/specs/Fragments.antt and specs/Calls.antt; proofs/Meaning.antt says it bit by bit, and
 // proofs/Back.antt shows that each call undoes the other. Crate `fragment_trips` runs one after the other.
+#![tactic(auto)]
+
 pub mod answers;
 mod request;
 

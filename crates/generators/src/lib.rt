@@ -10,6 +10,8 @@
 // The rows stand in specs/Rows.antt too. That they are the generators is shown in proofs/: Chain (a list of rows is tested by a chain of
 // products), Stored (both lists pass). `scripts/generators.py` prints both files and the lists; `scripts/compare-generators` compares them
 // with PARI/GP.
+#![tactic(auto)]
+
 mod fourteen;
 mod thirteen;
 

@@ -5,6 +5,8 @@
 // A word of bits has power sums of which every second is a square. So every second discrepancy is zero, and a step takes two terms.
 // Products go by the tables of powers and logarithms that the caller lends. Sums stop at the length in use; past it all is zero.
 // The laws of the algorithm are those of crate `algebra`; proofs/KeyEquation.antt carries them over to numbers.
+#![tactic(auto)]
+
 ghost use Rattle.std.specs.Prelude.{◌≡◌, true, false, suc, ◌+◌, ◌-◌, ◌<◌, ◌≤◌};
 ghost use Rattle.algebra.specs.Array.{dot, Holds};
 ghost use Rattle.field.specs.Tables.{Tables};

@@ -6,6 +6,8 @@
 // 1. The crate `layout_record` takes the record apart into fields, and `layout_plan` works the sums out, which are kept with the layout.
 // 2. rules.rt looks for the first rule that the layout breaks (`Finding`), block 0 before the later blocks.
 // 3. answers.rt gives the case of document 01's table that a refusal is, and its number.
+#![tactic(auto)]
+
 mod answers;
 pub mod rules;
 

@@ -1,4 +1,6 @@
 // The commands layout and bits of the tool.
+#![tactic(auto)]
+
 mod layouts;
 mod positions;
 

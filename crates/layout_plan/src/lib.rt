@@ -8,6 +8,8 @@
 // the sums out (`Plan`): number of blocks, data length, used bits, lengths of block 0 and of a later block. They are kept (`Layout`), and
 // nothing adds them up again. Code and definitions above know a plan and no layout words; block b starts where block b - 1 ends with its
 // pads, at any bit. sector_sums.rt does the same for sectors. choice.rt has the field that both choose.
+#![tactic(auto)]
+
 mod choice;
 mod sector_sums;
 mod sums;

@@ -5,6 +5,8 @@
 //
 // words.rt takes the eight or twelve bytes of a record apart into the fields of document 01 and the mark of document 02
 // (`layout_plan::Fields`), as layout_plan/Record has it.
+#![tactic(auto)]
+
 mod words;
 
 pub use words::{fields_in, fields_of, record_length};

@@ -3,6 +3,8 @@
 // A vector is 40 bytes: the kind of call (`L` a layout, `P` a page bit, `B` a code bit), the length of the layout record, the edition in
 // eight bytes, the record's bytes in twelve places, two bytes not used, and two numbers of eight bytes. A line starts with the reply and
 // its block. An accepted layout shows its fields, sums and mark, one that breaks a rule the block kind and the two numbers compared.
+#![tactic(auto)]
+
 use layout::{Acceptance, BitAnswer, Kind, PositionAnswer, Refusal};
 use layout_plan::{BlockFields, Fields, Plan};
 

@@ -1,4 +1,6 @@
 // The commands of the tool for a remainder and a hardware locator: locate and fragments.
+#![tactic(auto)]
+
 mod fragmenting;
 mod locating;
 

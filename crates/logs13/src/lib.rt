@@ -1,5 +1,7 @@
 // The stored logarithms of the elements for m = 13, in four parts, each named by the element that it begins with (`scripts/powers.py` prints
 // them). One function names them: each naming builds them whole.
+#![tactic(auto)]
+
 ghost use Rattle.std.specs.Prelude.{◌≡◌, length, get_or};
 ghost use Rattle.field.specs.declared.Field.TheVariants.{Thirteen};
 ghost use Rattle.stored_tables.specs.Logs.{Logs};

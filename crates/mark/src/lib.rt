@@ -6,6 +6,8 @@
 // A run of stream bits is at most two runs of page bits: those before the mark, where they stand, and the others, further on by the
 // mark's bits. specs/Mark.antt has the definitions; proofs/ the laws: Places (the stream misses exactly the mark), Runs (the two runs),
 // Putting (a word put into the stream).
+#![tactic(auto)]
+
 ghost use Rattle.std.specs.Prelude.{◌≡◌, ◌+◌, ◌*◌, ◌<◌};
 ghost use Rattle.mark.specs.Mark.{near, place};
 

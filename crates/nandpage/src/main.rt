@@ -13,6 +13,8 @@
 //
 // Each command prints one answer that starts with `reply` and document 01's number, or one error line and no reply. What is
 // answered comes from the proved calls; here it is only put into words. scripts/nandpage is told the exit status.
+#![tactic(auto)]
+
 mod claiming;
 mod explaining;
 mod judging;

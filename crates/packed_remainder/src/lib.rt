@@ -6,6 +6,8 @@
 //   reduce                     the remainder of a polynomial, in place
 //
 // The rows of a digit are the multiples by 0 to 15 of its unit, 16 words to a row.
+#![tactic(auto)]
+
 ghost use Rattle.std.specs.Prelude.{◌≡◌, ◌+◌, ◌*◌, ◌≤◌, ◌<◌, length};
 
 // Where the coefficient at place p lies in its word.

@@ -6,6 +6,8 @@
 // Each takes the edition and the layout record as bytes of any length, and asks nothing of its caller. places.rt answers under the plan of an accepted
 // layout: the block of a stream position is found by one division, and positions and exponents of a block run against each other. The
 // stream leaves the mark out (crate mark), so a page position before it is its own stream position and one behind it is less by its bits.
+#![tactic(auto)]
+
 mod answers;
 mod places;
 

@@ -7,6 +7,8 @@
 // they stand in the page, flips the kept exponents that lie in a message, and fills the messages of erased blocks with ones.
 //
 // specs/Copying.antt has what these steps promise; proofs/ the laws: Messages, Flipping, Ends (metadata and data as a whole).
+#![tactic(auto)]
+
 mod copy;
 
 ghost use Rattle.std.specs.Prelude.{◌≡◌, ℕ, ◌*◌, ◌≤◌, ◌<◌, length};

@@ -3,6 +3,8 @@
 //   clear            a count of 0 for each block
 //   count_damaged    the counts of the damaged blocks, each decided once; a ruined one too, and the blocks after it all the same
 //   first_ruined     the first block with the count of a ruined one
+#![tactic(auto)]
+
 ghost use Rattle.std.specs.Prelude.{◌≡◌, ◌<◌, length, replicate};
 ghost use Rattle.page_theory.specs.Reading as reading;
 ghost use Rattle.page_decide.specs.Deciding.{OneField, Serves};

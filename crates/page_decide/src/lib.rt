@@ -16,6 +16,8 @@
 //
 // specs/ has what the steps promise (Scanning, Deciding); proofs/ the laws: Remainders (what the remainder of a block says of it),
 // Scanning (looking for the first damaged block), Deciding.
+#![tactic(auto)]
+
 pub mod damaged;
 pub mod decide;
 

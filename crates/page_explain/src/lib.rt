@@ -8,6 +8,8 @@
 // the located exponents into page positions, in the order in which locating lists them: from the highest down, so that the positions ascend.
 // specs/Explain.antt says what is answered and what is left in the list; proofs/Explained.antt shows that a decided block is answered so, and
 // proofs/Truth.antt that the list has each covered bit in which page and codeword differ, and no other.
+#![tactic(auto)]
+
 mod flips;
 mod steps;
 

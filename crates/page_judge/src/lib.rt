@@ -7,6 +7,8 @@
 // definition, `judge_of` of the crate `page_theory`, specs/Calls.antt: it depends on the block number, the layout words, the page's length
 // and that block's own bits. judge.rt works out the remainder of the block by a table of its own; zero is no flip, and else `page_decide`
 // decides the block: its count, that of an erased block too, or that it is ruined.
+#![tactic(auto)]
+
 mod judge;
 
 pub use judge::{judge_block, judge_for, judge_in, own_remainder};

@@ -6,6 +6,8 @@
 // erased block 128 plus its zeros. Blocks that are not damaged have none. What becomes of one block is said by `page_decide`.
 //
 // specs/Keeping.antt has what the steps promise; proofs/Keeping.antt the laws.
+#![tactic(auto)]
+
 mod keep;
 
 pub use keep::keep_damaged;

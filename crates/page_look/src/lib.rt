@@ -11,6 +11,8 @@
 //    the same.
 // 3. The lowest ruined block, if there is one, is the first with the count 255.
 // The crate `page_counts` counts, look.rt puts the steps together. Nothing is kept but the counts.
+#![tactic(auto)]
+
 mod look;
 
 pub use look::{look_for, look_in, look_page};

@@ -6,6 +6,8 @@
 //   later_table      the table of the later blocks' generator, made where that of block 0 stands
 //
 // specs/Plans.antt says what the plan of an accepted layout has, and proofs/Plans.antt shows it; that is all the code asks of a plan.
+#![tactic(auto)]
+
 ghost use Rattle.std.specs.Prelude.{◌≡◌, cond, false, ◌*◌, ◌≤◌, ◌<◌, length, eqb};
 ghost use Rattle.replies.specs.Replies.{verdict_number};
 ghost use Rattle.field.specs.Field.{degree};

@@ -6,6 +6,8 @@
 //   write     copy_in, put_parity, fill_ones: bits of the payload, a parity or ones put into the stream
 //
 // What the stream is stands in crate `mark`, with the laws of a run in two parts; proofs/ has what each function makes of the two.
+#![tactic(auto)]
+
 pub mod divide;
 pub mod read;
 pub mod write;

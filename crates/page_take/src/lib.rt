@@ -11,6 +11,8 @@
 // take.rt puts the steps together: every block is decided before any byte is written.
 //
 // specs/Answers.antt has the answer; proofs/Ends.antt the laws.
+#![tactic(auto)]
+
 mod take;
 
 use replies::Refusal;

@@ -21,3 +21,4 @@
 //   Tail, Reordered              what no answer depends on
 //   Cases                        document 01's cases A to L, in one table
 //   Blocks, Writing, Reading, Outcomes, Damage, Calls, Accepted    the laws behind them, and what a writer and a reader have to show
+#![tactic(auto)]

@@ -16,6 +16,8 @@
 // A length has four bytes, and the bytes of the twelve that are not named are not used. Each byte that a call may write is 165 before it.
 // Of `R` what the tool prints is printed. The answer to any other is a line, which shows the reply and its block, and then after `W` the page,
 // after `L` the counts, after `T` metadata and data (in hexadecimal, refused or not), and after `J` the flip count of a block that has one.
+#![tactic(auto)]
+
 mod answers;
 mod buffers;
 mod claims;

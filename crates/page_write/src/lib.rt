@@ -9,6 +9,8 @@
 // 2. lengths.rt looks at the lengths. A refusal ends the call before anything is written.
 // 3. write.rt puts block after block, message, parity and ones into the pads, then ones into the tail; the factory's mark stays as lent. One
 //    table of a generator is made after the other in the same place: that of block 0, then that of the later blocks.
+#![tactic(auto)]
+
 mod answers;
 mod lengths;
 mod write;

@@ -3,6 +3,8 @@
 //
 // What a partial remainder is stands in specs/Partial.antt, the rows that it is reduced by in specs/Clearing.antt; proofs/ has the laws: Partial
 // (partial remainders), Turns (the turns of `reduce`).
+#![tactic(auto)]
+
 ghost use Rattle.std.specs.Prelude.{◌≡◌, ℕ, ◌+◌, ◌*◌, ◌/◌, ◌%◌, ◌^◌, ◌≤◌, ◌<◌, length};
 ghost use Rattle.code.specs.Register.{register};
 ghost use Rattle.partial.specs.Partial.{reduced};

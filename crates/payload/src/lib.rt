@@ -7,6 +7,8 @@
 //   flip         flips one bit of the payload
 //
 // A run of bits lies in the metadata, in the data, or across the seam. specs/Payload.antt says how the two parts and the whole go together.
+#![tactic(auto)]
+
 ghost use Rattle.std.specs.Prelude.{◌≡◌, not, [], ◌∷◌, ◌++◌, ◌+◌, ◌*◌, ◌≤◌, ◌<◌, length};
 ghost use Rattle.bits.specs.Bits.{bit_of, run, ones, placed, Inside};
 ghost use Rattle.payload.specs.Payload.{Small, Joined};

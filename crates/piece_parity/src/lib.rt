@@ -2,6 +2,8 @@
 // that pages are written by, a short one bit by bit, since making the table takes longer.
 //
 //   carried    the parity of some bits and of the bits of a piece after them
+#![tactic(auto)]
+
 ghost use Rattle.std.specs.Prelude.{◌≡◌, ◌*◌, ◌%◌, ◌^◌, ◌≤◌, ◌<◌, length};
 ghost use Rattle.bits.specs.Bits.{bit_of, run};
 ghost use Rattle.field.specs.Field.{degree};

@@ -5,6 +5,8 @@
 //   finish_reply     which can be finished, into which buffer
 //
 // The crate `piece_states` has the calls that give these replies.
+#![tactic(auto)]
+
 ghost use Rattle.std.specs.Prelude.{◌≡◌};
 ghost use Rattle.piece_rules.specs.Rules.{start_reply, usable, finish_reply};
 

@@ -4,6 +4,8 @@
 // 2. value.rt has the calls: a state goes in, a reply and a state come out. Crate `piece_parity` takes the bits of a piece into the
 //    carried parity.
 // A state that no start has made is answered 7, or else is taken for what its numbers say: specs/Calls.antt has it all, over piece_rules/Rules.
+#![tactic(auto)]
+
 pub mod value;
 
 use piece_rules::State;

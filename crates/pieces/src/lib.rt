@@ -8,6 +8,8 @@
 // parity of these. The calls of crate `piece_states` take the state by value and answer it; the calls here are thin forms of them
 // that are lent the state. None asks anything of its caller, and a refusal or a finish leaves the state as it was.
 // The law that it does not matter where a message is cut stands in proofs/Cutting.antt, once over m and t.
+#![tactic(auto)]
+
 ghost use Rattle.std.specs.Prelude.{◌≡◌};
 ghost use Rattle.piece_states.specs.Calls.{answered, finished, start_of, feed_of, finish_of};
 

@@ -6,6 +6,8 @@
 // This test says it, for plans of layout words, in a time that does not depend on the plan. Nothing is worked out that a call uses
 // afterwards. specs/Together.antt has the comparisons; proofs/Together.antt shows that a plan that passes has all that the page calls
 // count on, and that the plan of an accepted layout passes.
+#![tactic(auto)]
+
 ghost use Rattle.std.specs.Prelude.{◌≡◌, true, ◌+◌, ◌*◌, ◌<◌};
 ghost use Rattle.page_plan.specs.Plans.{Planned};
 ghost use Rattle.plan_test.specs.Together.{counted, shaped, filled, placed, summed, holds_together};

@@ -1,4 +1,6 @@
 // The plan of a page under the layout words of the arguments, and why a layout is refused.
+#![tactic(auto)]
+
 use arguments::{LayoutWords, Options, Words};
 use layout::{Acceptance, Kind, Reason, Refusal, Rule};
 use layout_plan::{Fields, Plan};

@@ -1,6 +1,8 @@
 // The tables by which crate `field` makes products: the powers of a and their logarithms, for either field.
 //
 // Stored tables are copied (crates `powers13`, `logs13`, `logs14`). For m = 14 the powers are computed, each from four earlier ones.
+#![tactic(auto)]
+
 ghost use Rattle.std.specs.Prelude.{◌≡◌, length};
 ghost use Rattle.field.specs.Tables.{Tables};
 

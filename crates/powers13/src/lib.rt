@@ -1,4 +1,6 @@
 // The stored powers of a for m = 13 (`scripts/powers.py` prints them). One function names the table: each naming builds it whole.
+#![tactic(auto)]
+
 ghost use Rattle.std.specs.Prelude.{◌≡◌, length};
 ghost use Rattle.field.specs.declared.Field.TheVariants.{Thirteen};
 ghost use Rattle.stored_tables.specs.Powers.{Powers};

@@ -7,6 +7,8 @@
 //   lines.rt       a page's line
 //   saving.rt      a page with ruined blocks of which the others are saved
 //   salvaging.rt   metadata and data of such a page
+#![tactic(auto)]
+
 mod commands;
 mod dumping;
 mod lines;

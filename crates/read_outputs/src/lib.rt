@@ -1,4 +1,6 @@
 // The end of a run of the commands read, look and salvage: its outputs take their place, or are dropped.
+#![tactic(auto)]
+
 use read_totals::{Failed, Run, Totals};
 
 // Whether a dump was read, and not one page.

@@ -6,6 +6,8 @@
 //   was_read, was_not_read, was_salvaged, carrying   one page more; a byte of the next one
 //   ended, broken, dropped, some                     its end
 //   progress, summary                                how far a dump is read, on standard error; the last line of a dump
+#![tactic(auto)]
+
 mod sums;
 
 use layout_plan::Plan;

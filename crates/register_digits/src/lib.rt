@@ -6,6 +6,8 @@
 //   to_bytes        and to them
 //
 // What those bytes are stands in `remainder`, specs/Remainder.antt; proofs/Bytes.antt has the laws.
+#![tactic(auto)]
+
 ghost use Rattle.std.specs.Prelude.{◌≡◌, ◌+◌, ◌-◌, ◌*◌, ◌≤◌, ◌<◌, length};
 ghost use Rattle.bits.specs.Bits.{bit_of, run, number, digits, placed, Inside};
 ghost use Rattle.code.specs.Register.{register};

@@ -4,6 +4,8 @@
 //   from_fragments    the number in fragments
 //
 // specs/Fragments.antt says what they are; the laws stand in proofs/Numbers.antt.
+#![tactic(auto)]
+
 ghost use Rattle.std.specs.Prelude.{◌≡◌, ◌*◌, ◌%◌, ◌<◌, length};
 ghost use Rattle.code.specs.Register.{register};
 ghost use Rattle.register_fragments.specs.Fragments.{fragments_of, joined};

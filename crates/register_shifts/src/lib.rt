@@ -6,6 +6,8 @@
 //   lowered    the same downwards
 //
 // proofs/Shifts.antt has the laws.
+#![tactic(auto)]
+
 ghost use Rattle.std.specs.Prelude.{◌≡◌, ◌+◌, ◌*◌, ◌/◌, ◌%◌, ◌^◌, ◌≤◌, ◌<◌};
 ghost use Rattle.code.specs.Register.{register};
 

@@ -9,6 +9,8 @@
 // Registers are moved up and down in the crate `register_shifts`, and read from bits and put into pages and bytes in `register_digits`.
 // What a remainder is stands in specs/Remainder.antt and in the crate `code`; proofs/ has the laws: Words (numbers in words of 64 bits), Fold
 // (the remainder as a fold over the bits), Parity (division is linear, and what follows).
+#![tactic(auto)]
+
 pub mod add;
 pub mod coefficients;
 

@@ -7,6 +7,8 @@
 //
 // Every call of the library that refuses answers one of these. specs/Replies.antt has the table, and says of a list of rules which
 // of them gives the reply. Every call that takes a layout record or a level field takes the edition beside it.
+#![tactic(auto)]
+
 mod edition;
 
 ghost use Rattle.std.specs.Prelude.{◌≡◌};

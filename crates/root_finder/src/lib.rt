@@ -9,6 +9,8 @@
 //    propose (trace.rt, by the remainders of crate `packed_remainder`).
 // 3. The trace of a^i x is 0 at some of the roots and 1 at the others, so it splits factors (crate `splitting`). The traces for i < m
 //    together tell every two elements apart, so m rounds are enough.
+#![tactic(auto)]
+
 ghost use Rattle.std.specs.Prelude.{◌≡◌, ◌+◌, ◌<◌, ◌≤◌, length};
 
 use affine::affine_roots;

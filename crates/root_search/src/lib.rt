@@ -4,6 +4,8 @@
 //   locate    the places p below n for which a^p is a root, in ascending order
 //
 // A locator is an array of coefficients, the highest power first. Values go by Horner's rule and the lent tables.
+#![tactic(auto)]
+
 ghost use Rattle.std.specs.Prelude.{◌<◌, ◌≤◌, get_or};
 ghost use Rattle.algebra.specs.Array.{coef};
 ghost use Rattle.algebra.specs.Polynomial.{pow, value};

@@ -3,6 +3,8 @@
 // What the finder proposes is covered by no contract: these vectors show that it proposes all the roots of locators of both fields
 // and every level. A vector is a head of four bytes and then the coefficients below the leading 1, two bytes each, the highest power
 // first. The head: `R`, the field choice, the number of coefficients, and a byte not used. A line shows the places proposed.
+#![tactic(auto)]
+
 ghost use Rattle.std.specs.Prelude.{◌≤◌};
 
 use field::Field;

@@ -10,6 +10,8 @@
 //    page, ends the call.
 // 3. mask.rt flips every bit that the mask names, those of the tail and of the factory's mark included.
 // 4. round.rt has the page looked at, and then taken.
+#![tactic(auto)]
+
 mod mask;
 mod round;
 

@@ -16,6 +16,8 @@
 // Each passes its arguments on to the call of the crate that answers the question, and puts the answer into a word (crate `answer_words`):
 // reply, the reply's block, a kind and a value. None asks anything of its caller but that a slice is one: include/rudderfig.h
 // says what that means in C.
+#![tactic(auto)]
+
 mod explaining;
 mod locator;
 mod parity;

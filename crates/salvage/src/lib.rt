@@ -6,6 +6,8 @@
 //   put_all     the messages of the ruined blocks: their bits as they stand in the page, or ones
 //   place_of    where the message of a block lies in the payload, metadata followed by data
 //   put_list    the list of the ruined blocks: where the message of each lies in the files, and what stands there
+#![tactic(auto)]
+
 mod listing;
 
 ghost use Rattle.std.specs.Prelude.{true, ◌≡◌, ◌<◌};

@@ -15,6 +15,8 @@
 //   length, page_refused, ruined    what is wrong with a page
 //   error, bad_argument, bad_file, bad_output   an error's line on standard error
 //   close                           standard output closed, which may fail as well
+#![tactic(auto)]
+
 mod errors;
 mod pages;
 

@@ -11,6 +11,8 @@
 // Each takes the six numbers of the layout and the edition (`layout_plan::Sectors`) and asks nothing of its caller. A page has no metadata. The
 // calls differ from those of layout words in how the plan is made (`sectors::check_sectors`) and in nothing else: what a call answers
 // and leaves is the definition that serves both (`page_theory`, specs/Calls.antt, `write_for` and the others).
+#![tactic(auto)]
+
 mod pages;
 mod places;
 

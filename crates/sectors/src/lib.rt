@@ -4,6 +4,8 @@
 //
 // The call takes the six numbers and the edition as they are, and asks nothing of its caller. `layout` works the plan out and has the rules: they
 // are those of layout words, for a page without metadata and mark.
+#![tactic(auto)]
+
 mod check;
 
 pub use check::check_sectors;

@@ -3,6 +3,8 @@
 //   mix    adds a multiple of one array, moved up by some places, to another
 //
 // What an array stands for is said by specs/Series.antt; proofs/Element.antt and proofs/Arrays.antt cross from numbers to elements.
+#![tactic(auto)]
+
 ghost use Rattle.std.specs.Prelude.{◌≡◌, ℕ, ◌+◌, ◌<◌, ◌≤◌, get_or};
 ghost use Rattle.field.specs.Field.{longest};
 ghost use Rattle.field.specs.Tables.{Tables};

@@ -4,6 +4,8 @@
 //   cannot_split    true only where the roots are too few
 //
 // x is squared m times, and each square is divided by the locator. Squares and remainders keep the values at its roots.
+#![tactic(auto)]
+
 ghost use Rattle.std.specs.Prelude.{◌≡◌, true, false, ℕ, suc, ◌+◌, ◌<◌, ◌≤◌, get_or};
 ghost use Rattle.field.specs.Tables.{Tables};
 ghost use Rattle.field.proofs.Instance.{gf, num, a};

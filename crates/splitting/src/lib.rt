@@ -4,6 +4,8 @@
 //
 //   split_all    splits each factor of degree 3 or more, where the trace does
 //   fitted       the degree that is noted for a factor
+#![tactic(auto)]
+
 ghost use Rattle.std.specs.Prelude.{◌≡◌, ◌+◌, ◌≤◌, ◌<◌, length};
 
 use coefficient_rows::{add_multiple, copy, copy_monic, divide, inverse, take_logs, terms};

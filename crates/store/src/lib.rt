@@ -15,6 +15,8 @@
 //
 // The first `count` of the 32 places hold the layouts, oldest first (`version_list`). A layout is kept as its plan, with its sums, and not
 // as its record.
+#![tactic(auto)]
+
 mod calls;
 mod numbers;
 

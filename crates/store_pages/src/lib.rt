@@ -13,6 +13,8 @@
 // Every store that the calls of the crate `store` make keeps the plans of accepted layouts (proofs/Keeping.antt), but a type cannot say
 // so. So each call first compares the kept numbers with each other (crate `plan_test`). A plan that does not hold together, which no
 // such store keeps, is reply 7 too (specs/Tested.antt).
+#![tactic(auto)]
+
 ghost use Rattle.std.specs.Prelude.{◌≡◌};
 ghost use Rattle.page_theory.specs.Calls.{write_ended, write_for, look_ended, look_for, take_ended, take_for, judge_ended, judge_for, claim_ended, claim_for};
 ghost use Rattle.page_write.specs.Answers.{write_number, write_block};

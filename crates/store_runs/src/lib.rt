@@ -6,3 +6,4 @@
 //   Numbers      no number is given twice; a version names one layout for as long as there is one
 //   OnFlash      what is written is loaded again, and what is loaded is written again
 //   Demands      the owner's demands at calls that name a version
+#![tactic(auto)]

@@ -4,6 +4,8 @@
 //   copy_part    copies a stored part to its place in a lent table
 //   copy_parts   copies four parts of 2,048 entries, one after the other
 //   place_one    stores the logarithm of 1 where the table of powers says
+#![tactic(auto)]
+
 ghost use Rattle.std.specs.Prelude.{◌≡◌, ◌++◌, ◌+◌, ◌≤◌, length, get_or, set};
 ghost use Rattle.stored_tables.specs.Copied.{Copied};
 

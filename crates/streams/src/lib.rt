@@ -5,6 +5,8 @@
 //   left   the turns of such a loop
 //
 // Where a call fails, errno says why.
+#![tactic(auto)]
+
 ghost use Rattle.std.specs.Prelude.{◌≤◌, ◌-◌};
 
 use libc::EINTR;

@@ -5,6 +5,8 @@
 //
 // A digit of 32 coefficients adds a row of the table for each of its ones; before each digit the lanes are multiplied by a^(32 (2i + 1)).
 // Row p has its lanes next to each other, so that the compiler adds several at a time. No exponent up to 123 * 32 needs wrapping.
+#![tactic(auto)]
+
 ghost use Rattle.std.specs.Prelude.{◌≡◌, ℕ, ◌+◌, ◌*◌, ◌^◌, ◌<◌, ◌≤◌, length, get_or};
 ghost use Rattle.field.specs.Field.{degree};
 ghost use Rattle.field.specs.Tables.{Tables};

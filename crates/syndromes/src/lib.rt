@@ -5,4 +5,6 @@
 //
 // The value of a polynomial at a^j is the sum of a^(jp) over the exponents p of its terms. So the syndromes of a remainder that a set
 // of places leaves are the power sums of that set. Crate `syndrome_lanes` works the values at the odd powers of a out.
+#![tactic(auto)]
+
 pub mod power_sums;

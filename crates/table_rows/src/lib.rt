@@ -4,6 +4,8 @@
 //   put_row      a row of a number in words
 //   put_power    a row times 2^k, plus another row
 //   add_row      the sum of two rows
+#![tactic(auto)]
+
 ghost use Rattle.std.specs.Prelude.{◌≡◌, ℕ, ◌+◌, ◌*◌, ◌^◌, ◌≤◌, ◌<◌, length};
 ghost use Rattle.std.specs.Int.Bits.{bit_xor};
 ghost use Rattle.code.specs.Register.{low};

@@ -12,6 +12,8 @@
 //   front, front_mut, front_words, front_exponents   the first places of a buffer
 //
 // No public function asks anything of its caller.
+#![tactic(auto)]
+
 mod digits;
 mod hex;
 mod lines;

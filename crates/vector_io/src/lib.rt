@@ -10,6 +10,8 @@
 //
 // No function asks anything of its caller: what lies outside a slice reads as 0, and what does not fit a line is left out.
 // What is read is proved; what is written is compared by running the programs.
+#![tactic(auto)]
+
 ghost use Rattle.std.specs.Prelude.{◌≡◌, ◌+◌, get_or};
 ghost use Rattle.vector_io.specs.Number.{number_at};
 

@@ -4,6 +4,8 @@
 //   number, buffer   a number and a buffer of a line
 //
 // Words are counted from 0. No function asks anything of its caller: words that are not there are no number and no buffer.
+#![tactic(auto)]
+
 ghost use Rattle.std.specs.Prelude.{◌≤◌, length};
 
 use text::Number;

@@ -4,6 +4,8 @@
 //   numbers_in     the 16 numbers in 32 bytes
 //
 // specs/Saved.antt has what writing and loading them is of the plain list; the crate `store` has the calls.
+#![tactic(auto)]
+
 ghost use Rattle.std.specs.Prelude.{◌≡◌, length};
 ghost use Rattle.version_bytes.specs.Saved.{saved, loaded};
 

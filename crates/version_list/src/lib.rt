@@ -6,6 +6,8 @@
 //
 // specs/Plain.antt has the plain list beside the 16 versions in use, and each call of the store as a function of it; proofs/Steps.antt what each
 // comes to, case by case. The crate `store` has the calls.
+#![tactic(auto)]
+
 mod places;
 
 use layout_plan::Plan;

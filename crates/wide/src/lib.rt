@@ -6,6 +6,8 @@
 //   store_row    the first words of a number put into bytes
 //
 // specs/Bytes.antt has the definitions, and proofs/Bytes.antt the laws.
+#![tactic(auto)]
+
 ghost use Rattle.std.specs.Prelude.{◌≡◌, ◌+◌, ◌*◌, ◌^◌, ◌≤◌, ◌<◌, length, drop};
 ghost use Rattle.std.specs.Int.Bits.{bit_xor};
 ghost use Rattle.code.specs.Register.{low, register};

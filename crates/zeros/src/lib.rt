@@ -1,6 +1,8 @@
 // Counting the zeros of a run of bits (document 02, E1), 64 bits at a time and no further than asked.
 //
 //   zeros_to    the zeros of n bits from a position on, counted no further than a limit
+#![tactic(auto)]
+
 ghost use Rattle.std.specs.Prelude.{◌≡◌, ◌≤◌, ◌<◌};
 ghost use Rattle.bits.specs.Bits.{bit_of, run, Inside};
 ghost use Rattle.code.specs.Word.{zeros, zeros_to};
