@@ -1,0 +1,11 @@
+use borrow.Author.Tests.{eq-eqb, ne_eqb}
+use Rattle.replies.specs.Edition.{offered}
+use Rattle.replies.proofs.edition.offered.Goals as goal
+
+pub returns-then-edition-eq1 : goal.returns-then-edition-eq1
+unfolding offered
+returns-then-edition-eq1 c = simp (eq-eqb _ _ c.if-edition-eq1.true)
+
+pub returns : goal.returns
+unfolding offered
+returns c = simp (ne_eqb _ _ c.if-edition-eq1.false)
