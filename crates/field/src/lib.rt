@@ -15,7 +15,7 @@ ghost use Rattle.std.specs.Prelude.{◌≡◌, ◌^◌, ◌<◌};
 ghost use Rattle.field.specs.Field.{degree, modulus, longest, chosen, mul, product, power, Elem, Usable};
 
 // The field of 2^13 elements.
-#[derive(Drop)]
+#[derive(Clone, Copy)]
 pub struct Gf13;
 
 impl Gf13 {
@@ -27,7 +27,7 @@ impl Gf13 {
 }
 
 // The field of 2^14 elements.
-#[derive(Drop)]
+#[derive(Clone, Copy)]
 pub struct Gf14;
 
 impl Gf14 {
@@ -39,14 +39,14 @@ impl Gf14 {
 }
 
 // The field choice.
-#[derive(Drop)]
+#[derive(Clone, Copy)]
 pub enum Field {
     Thirteen,
     Fourteen,
 }
 
 // The answer to a choice by number.
-#[derive(Drop)]
+#[derive(Clone, Copy)]
 pub enum Choice {
     Offered(Field),
     Unknown,

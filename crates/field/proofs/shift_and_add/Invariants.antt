@@ -1,0 +1,16 @@
+use mathlib.Core.Path.{◌≡◌}
+use Prim.Native.Nat.{◌-◌, ◌*◌, ◌/◌, ◌^◌, ◌≤◌, ◌<◌}
+use native.Mathlib.Omega.{arith}
+use lib.Pow.{pow-lt}
+use lib.Bits.{mask_lt}
+use Rattle.field.proofs.Xor.{digit-le}
+use Rattle.field.proofs.Partial.{partial, partial-start, partial-next, partial-below, partial-product}
+use Rattle.field.proofs.shift_and_add.Reads as reads
+use Rattle.field.proofs.shift_and_add.Lts as lts
+use Rattle.field.proofs.shift_and_add.Given as goal
+
+abbrev pub invariant-loop-i : goal.invariant-loop-i
+invariant-loop-i l = (l.i ≤ l.m) × (l.r ≡ partial l.m l.modulus l.x l.y l.i)
+
+abbrev pub decreases-loop-i : goal.decreases-loop-i
+decreases-loop-i l = l.i
