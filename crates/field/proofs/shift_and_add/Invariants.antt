@@ -5,8 +5,6 @@ use lib.Pow.{pow-lt}
 use lib.Bits.{mask_lt}
 use Rattle.field.proofs.Xor.{digit-le}
 use Rattle.field.proofs.Partial.{partial, partial-start, partial-next, partial-below, partial-product}
-use Rattle.field.proofs.shift_and_add.Reads as reads
-use Rattle.field.proofs.shift_and_add.Lts as lts
 use Rattle.field.proofs.shift_and_add.Given as goal
 
 abbrev pub invariant-loop-i : goal.invariant-loop-i
