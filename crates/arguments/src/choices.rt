@@ -21,7 +21,7 @@ pub const EDITION: u16 = 128;
 pub const MAP: u16 = 256;
 
 // What the options say.
-#[derive(Drop)]
+#[derive(Clone, Copy)]
 pub struct Options {
     // The number of the first argument after them.
     pub at: usize,

@@ -31,7 +31,7 @@ pub enum Failed {
 
 // Pages so far, and of them those that differ; blocks that are worse and better, and those that are ruined or erased in the second page only;
 // when progress was last shown; whether to go on; which file failed.
-#[derive(Drop)]
+#[derive(Clone, Copy)]
 pub struct Totals {
     pub pages: u64,
     pub differing: u64,

@@ -56,7 +56,7 @@ pub fn pages_left(fd: i32, size: u16) -> Known {
 }
 
 // What came of passing over pages: there are so many and more, there are not, or reading failed, and errno says why.
-#[derive(Drop)]
+#[derive(Clone, Copy)]
 pub enum Passed {
     All,
     Short,

@@ -22,7 +22,7 @@ pub use sums::{block_covered, block_shape, block_start, layout_for, page_room, p
 
 // What a layout word stores of one kind of block: the level field, of which t is twice, the field choice, and the data in
 // units of 4 bytes. Document 01 calls them ECC0, GF and DATA0_SIZE in word 0, ECCN, GF and DATAN_SIZE in word 1.
-#[derive(Drop)]
+#[derive(Clone, Copy)]
 pub struct BlockFields {
     pub ecc: u8,
     pub gf: Field,
@@ -31,7 +31,7 @@ pub struct BlockFields {
 
 // The fields of the layout words: NBLOCKS, META_SIZE, those of block 0, PAGE_SIZE, those of the later blocks, the mark, and the bits
 // after it, which are to be zero.
-#[derive(Drop)]
+#[derive(Clone, Copy)]
 pub struct Fields {
     pub nblocks: u8,
     pub metadata: u8,
@@ -46,7 +46,7 @@ pub struct Fields {
 
 // The numbers of a layout of sectors (document 02, E12): how many sectors, the bytes of data in a sector and in the last one, the level
 // field, of which t is twice, the field choice, and the bytes of a page; and the edition beside them.
-#[derive(Drop)]
+#[derive(Clone, Copy)]
 pub struct Sectors {
     pub count: u16,
     pub size: u16,
@@ -58,7 +58,7 @@ pub struct Sectors {
 }
 
 // What a block is made of: message bits, parity bits by field and level, and pads.
-#[derive(Drop)]
+#[derive(Clone, Copy)]
 pub struct Shape {
     pub message: u32,
     // Message and parity bits together.
@@ -88,7 +88,7 @@ pub struct Plan {
 
 // A layout: the plan of a page with its sums. No other crate can set it, and two functions make it, one for each family of controllers
 // (`sums::layout_for`, `sector_sums::sectors_layout`).
-#[derive(Drop)]
+#[derive(Clone, Copy)]
 pub struct Layout {
     plan: Plan,
 }

@@ -12,7 +12,7 @@ ghost use Rattle.std.specs.Prelude.{◌≡◌, ◌+◌, ◌*◌, ◌<◌};
 ghost use Rattle.mark.specs.Mark.{near, place};
 
 // Where the mark starts in the page and how long it is, in bytes. Where the length is 0 there is none.
-#[derive(Drop)]
+#[derive(Clone, Copy)]
 pub struct Mark {
     pub offset: u16,
     pub length: u8,

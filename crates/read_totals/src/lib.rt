@@ -57,7 +57,7 @@ pub enum Failed {
 // Pages so far, of them those that were read, are erased and were salvaged, corrected bits, the most in a block, ruined blocks; bytes of the
 // next page that are in the buffer already; when progress was last shown; whether to go on, whether the outputs are to take their place,
 // and which file failed.
-#[derive(Drop)]
+#[derive(Clone, Copy)]
 pub struct Totals {
     pub pages: u64,
     pub read: u64,

@@ -5,7 +5,7 @@ use layout_plan::Plan;
 pub const RUINED: u8 = 255;
 
 // Corrected bits, the most in a block, erased blocks, their zeros, and ruined blocks.
-#[derive(Drop)]
+#[derive(Clone, Copy)]
 pub struct Sums {
     pub flips: u64,
     pub most: u8,

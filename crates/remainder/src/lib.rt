@@ -15,7 +15,7 @@ pub mod add;
 pub mod coefficients;
 
 // Fourteen words of 64 bits, the lowest first: room for mt = 868, at m = 14 and t = 62.
-#[derive(Drop)]
+#[derive(Clone, Copy)]
 pub struct Register {
     pub words: [u64; 14],
 }

@@ -17,7 +17,7 @@ ghost use Rattle.replies.specs.Replies.{number, block};
 pub use edition::{highest, offered};
 
 // Why a call is refused, a case for each number of the table.
-#[derive(Drop)]
+#[derive(Clone, Copy)]
 pub enum Refusal {
     // 1: a level field above the highest.
     LevelTooHigh,

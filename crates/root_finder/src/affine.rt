@@ -9,7 +9,7 @@ ghost use Rattle.std.specs.Prelude.{◌≡◌, ◌<◌, ◌≤◌, length};
 use coefficient_rows::{inverse, log_of, scaled_term, wrapped};
 
 // x^4 + a x^2 + b x + c. A root y of it stands for y + shift, or for 1 / y + shift.
-#[derive(Drop)]
+#[derive(Clone, Copy)]
 struct Affine {
     a: u16,
     b: u16,

@@ -14,7 +14,7 @@ use layout_plan::Plan;
 pub use places::{close_gap, held, index_of};
 
 // A layout with its version number, and the edition that it was stored under.
-#[derive(Drop)]
+#[derive(Clone, Copy)]
 pub struct Numbered {
     pub number: u16,
     pub edition: u64,
