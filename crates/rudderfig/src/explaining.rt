@@ -18,8 +18,7 @@ use explain_words::{block_word, layout_word, place_word};
 use page_explain::explain_block;
 
 // Is this layout accepted, and if not, why?
-#[unsafe(no_mangle)]
-pub extern "C" fn rudderfig_explain_layout(edition: u64, words: &[u8]) -> u64
+pub fn rudderfig_explain_layout(edition: u64, words: &[u8]) -> u64
     ensures { result ≡ layout_word (explain_layout (words_of edition words.now)) }
 {
     let answer = explain_layout(edition, words);
@@ -27,8 +26,7 @@ pub extern "C" fn rudderfig_explain_layout(edition: u64, words: &[u8]) -> u64
 }
 
 // The flips of a block of a page, listed as page positions; or its zeros, that it is ruined, or why the call is refused.
-#[unsafe(no_mangle)]
-pub extern "C" fn rudderfig_explain_block(
+pub fn rudderfig_explain_block(
     edition: u64,
     words: &[u8],
     page: &[u8],
@@ -43,8 +41,7 @@ pub extern "C" fn rudderfig_explain_block(
 }
 
 // What is the page bit at `position`?
-#[unsafe(no_mangle)]
-pub extern "C" fn rudderfig_explain_bit(edition: u64, words: &[u8], position: u64) -> u64
+pub fn rudderfig_explain_bit(edition: u64, words: &[u8], position: u64) -> u64
     ensures { result ≡ place_word (explain_bit (words_of edition words.now) position) }
 {
     let answer = explain_bit(edition, words, position);

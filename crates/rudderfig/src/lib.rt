@@ -18,9 +18,9 @@
 // says what that means in C.
 #![tactic(auto)]
 
-mod explaining;
-mod locator;
-mod parity;
+pub mod explaining;
+pub mod locator;
+pub mod parity;
 
 ghost use Rattle.std.specs.Prelude.{◌≡◌};
 ghost use Rattle.bch.specs.Answers.{locate_of};
@@ -42,8 +42,7 @@ use page_take::TakeAnswer;
 use page_write::WriteAnswer;
 
 // Is this layout acceptable?
-#[unsafe(no_mangle)]
-pub extern "C" fn rudderfig_check_layout(edition: u64, words: &[u8]) -> u64
+pub fn rudderfig_check_layout(edition: u64, words: &[u8]) -> u64
     ensures { result ≡ acceptance_word (acceptance (words_of edition words.now)) }
 {
     match layout::check_layout(edition, words) {
@@ -53,8 +52,7 @@ pub extern "C" fn rudderfig_check_layout(edition: u64, words: &[u8]) -> u64
 }
 
 // Where does the page bit at `position` belong? Kind 0: block times 2^16 plus exponent. Kind 1: in the tail. Kind 2: in the mark.
-#[unsafe(no_mangle)]
-pub extern "C" fn rudderfig_locate_bit(edition: u64, words: &[u8], position: u64) -> u64
+pub fn rudderfig_locate_bit(edition: u64, words: &[u8], position: u64) -> u64
     ensures { result ≡ bit_word (bit_answer (words_of edition words.now) position) }
 {
     match page_bits::locate_bit(edition, words, position) {
@@ -66,8 +64,7 @@ pub extern "C" fn rudderfig_locate_bit(edition: u64, words: &[u8], position: u64
 }
 
 // Where does the coefficient of x^exponent of a block lie? The value is the position.
-#[unsafe(no_mangle)]
-pub extern "C" fn rudderfig_bit_position(
+pub fn rudderfig_bit_position(
     edition: u64,
     words: &[u8],
     block: u64,
@@ -82,8 +79,7 @@ pub extern "C" fn rudderfig_bit_position(
 }
 
 // Writes a page from metadata and data.
-#[unsafe(no_mangle)]
-pub extern "C" fn rudderfig_write_page(
+pub fn rudderfig_write_page(
     edition: u64,
     words: &[u8],
     metadata: &[u8],
@@ -100,8 +96,7 @@ pub extern "C" fn rudderfig_write_page(
 }
 
 // Looks at a page: the count of each block. Reply 9 names the lowest ruined block, and the counts are written all the same.
-#[unsafe(no_mangle)]
-pub extern "C" fn rudderfig_look_page(
+pub fn rudderfig_look_page(
     edition: u64,
     words: &[u8],
     page: &[u8],
@@ -116,8 +111,7 @@ pub extern "C" fn rudderfig_look_page(
 }
 
 // Takes metadata and data out of a page. Reply 9 names the lowest ruined block.
-#[unsafe(no_mangle)]
-pub extern "C" fn rudderfig_take_page(
+pub fn rudderfig_take_page(
     edition: u64,
     words: &[u8],
     page: &[u8],
@@ -134,8 +128,7 @@ pub extern "C" fn rudderfig_take_page(
 }
 
 // Judges one block of a page. The value is the number of its flips; reply 9 names the block.
-#[unsafe(no_mangle)]
-pub extern "C" fn rudderfig_judge_block(edition: u64, words: &[u8], page: &[u8], block: u64) -> u64
+pub fn rudderfig_judge_block(edition: u64, words: &[u8], page: &[u8], block: u64) -> u64
     ensures { result ≡ judge_word (judge_of (words_of edition words.now) page.now block) }
 {
     match page_judge::judge_block(edition, words, page, block) {
@@ -145,8 +138,7 @@ pub extern "C" fn rudderfig_judge_block(edition: u64, words: &[u8], page: &[u8],
 }
 
 // Are these error locations of a block, reported by a hardware locator, right?
-#[unsafe(no_mangle)]
-pub extern "C" fn rudderfig_check_claim(
+pub fn rudderfig_check_claim(
     edition: u64,
     words: &[u8],
     page: &[u8],
@@ -162,8 +154,7 @@ pub extern "C" fn rudderfig_check_claim(
 }
 
 // From a remainder alone, which bits are wrong? The value is how many.
-#[unsafe(no_mangle)]
-pub extern "C" fn rudderfig_locate_errors(
+pub fn rudderfig_locate_errors(
     edition: u64,
     level_field: u64,
     field_choice: u64,

@@ -10,8 +10,7 @@ use fragments::answers::fragments_reply;
 use fragments::{export_fragments, import_fragments};
 
 // The fragments of a remainder.
-#[unsafe(no_mangle)]
-pub extern "C" fn rudderfig_export_fragments(
+pub fn rudderfig_export_fragments(
     level_field: u64,
     remainder: &[u8],
     fragments: &mut [u32],
@@ -23,8 +22,7 @@ pub extern "C" fn rudderfig_export_fragments(
 }
 
 // The remainder that fragments hold.
-#[unsafe(no_mangle)]
-pub extern "C" fn rudderfig_import_fragments(
+pub fn rudderfig_import_fragments(
     level_field: u64,
     fragments: &[u32],
     remainder: &mut [u8],

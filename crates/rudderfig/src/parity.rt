@@ -58,8 +58,7 @@ pub fn finished(state: State, parity: &mut [u8]) -> Worded
 }
 
 // Starts the parity of a block in the lent state: the edition, its level field, its field choice and the bytes of its message.
-#[unsafe(no_mangle)]
-pub extern "C" fn rudderfig_parity_start(
+pub fn rudderfig_parity_start(
     state: &mut State,
     edition: u64,
     level_field: u64,
@@ -75,8 +74,7 @@ pub extern "C" fn rudderfig_parity_start(
 }
 
 // Feeds one more piece of the message.
-#[unsafe(no_mangle)]
-pub extern "C" fn rudderfig_parity_feed(state: &mut State, piece: &[u8]) -> u64
+pub fn rudderfig_parity_feed(state: &mut State, piece: &[u8]) -> u64
     ensures { StateReturns (feed_of state.old piece.now) result state.new }
 {
     let s = *state;
@@ -86,8 +84,7 @@ pub extern "C" fn rudderfig_parity_feed(state: &mut State, piece: &[u8]) -> u64
 }
 
 // Finishes: the parity of the message.
-#[unsafe(no_mangle)]
-pub extern "C" fn rudderfig_parity_finish(state: &mut State, parity: &mut [u8]) -> u64
+pub fn rudderfig_parity_finish(state: &mut State, parity: &mut [u8]) -> u64
     ensures { ParityReturns (finish_of state.old parity.old) result state.new parity.new }
 {
     let s = *state;
