@@ -4,7 +4,7 @@
 -- exponent f i      the exponent number i, (2 (i / m) + 1) 2^(i mod m)
 -- fresh n l         the numbers of the list l differ from each other and from the bits that n has
 -- differing g n     g 0, .., g (n - 1) differ
-use mathlib.Core.Path.{◌≡◌, refl, sym, ap, ◌∙◌}
+use mathlib.Core.Path.{◌≡◌, sym, ap, ◌∙◌}
 use mathlib.Core.Bool.{Bool, true, ◌&&◌}
 use mathlib.Core.List.{List, [], ◌∷◌}
 use Prim.Native.Nat.{ℕ, zero, suc, ◌+◌, ◌-◌, ◌*◌, ◌/◌, ◌%◌, ◌^◌, ◌<◌}

@@ -8,7 +8,7 @@
 -- is_hex text            0x and something after it
 -- without_prefix text    what stands after 0x, where a text starts so
 -- number_of text         the number that a text says
-use Rattle.std.specs.Prelude.{Bool, true, false, cond, List, ℕ, zero, suc, ◌+◌, ◌*◌, ◌-◌, ◌^◌, length, get_or, drop, eqb, ltb}
+use Rattle.std.specs.Prelude.{Bool, false, cond, List, ℕ, zero, suc, ◌+◌, ◌*◌, ◌-◌, ◌^◌, length, get_or, drop, eqb, ltb}
 use Rattle.text.specs.declared.Number.{Number}
 use Rattle.text.specs.declared.Number.TheVariants.{Is, Bad}
 

@@ -1,10 +1,9 @@
-use mathlib.Core.Path.{◌≡◌}
-use Prim.Native.Nat.{◌-◌, ◌*◌, ◌/◌, ◌^◌, ◌≤◌, ◌<◌}
+use Prim.Native.Nat.{◌-◌, ◌*◌, ◌/◌, ◌^◌}
 use native.Mathlib.Omega.{arith}
 use lib.Pow.{pow-lt}
 use lib.Bits.{mask_lt}
 use Rattle.field.proofs.Xor.{digit-le}
-use Rattle.field.proofs.Partial.{partial, partial-start, partial-next, partial-below, partial-product}
+use Rattle.field.proofs.Partial.{partial-start, partial-next, partial-below, partial-product}
 use Rattle.field.proofs.shift_and_add.Goals as goal
 
 pub loop-i-init : goal.loop-i-init

@@ -1,10 +1,6 @@
 use mathlib.Core.Path.{◌≡◌}
-use Prim.Native.Nat.{◌-◌, ◌*◌, ◌/◌, ◌^◌, ◌≤◌, ◌<◌}
-use native.Mathlib.Omega.{arith}
-use lib.Pow.{pow-lt}
-use lib.Bits.{mask_lt}
-use Rattle.field.proofs.Xor.{digit-le}
-use Rattle.field.proofs.Partial.{partial, partial-start, partial-next, partial-below, partial-product}
+use Prim.Native.Nat.{◌≤◌}
+use Rattle.field.proofs.Partial.{partial}
 use Rattle.field.proofs.shift_and_add.Given as goal
 
 abbrev pub invariant-loop-i : goal.invariant-loop-i

@@ -1,6 +1,5 @@
 use mathlib.Core.Path.{sym, ◌∙◌}
 use native.Mathlib.Omega.{arith}
-use borrow.Author.Rules.{rules}
 use Rattle.mark.proofs.Runs.{near_none, near_before, near-across}
 use Rattle.mark.proofs.near.Goals as goal
 

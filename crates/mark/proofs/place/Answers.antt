@@ -1,5 +1,4 @@
 use mathlib.Core.Path.{sym}
-use borrow.Author.Rules.{rules}
 use Rattle.mark.proofs.Places.{place-before, place_after}
 use Rattle.mark.proofs.place.Goals as goal
 

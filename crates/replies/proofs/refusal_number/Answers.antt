@@ -1,5 +1,4 @@
 use mathlib.Core.Path.{sym, ap}
-use borrow.Author.Rules.{rules}
 use Rattle.replies.specs.Replies.{number}
 use Rattle.replies.proofs.refusal_number.Goals as goal
 

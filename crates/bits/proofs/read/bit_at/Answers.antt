@@ -1,5 +1,4 @@
 use Rattle.bits.specs.Bits.{bit, bit_at}
-use borrow.Author.Rules.{rules}
 use Rattle.bits.proofs.read.bit_at.Goals as goal
 
 pub returns : goal.returns

@@ -2,7 +2,6 @@ use Prim.Native.Nat.{◌-◌, ◌^◌}
 use native.Mathlib.Nat.{div-le_self}
 use native.Mathlib.Omega.{arith}
 use Rattle.bits.proofs.Steps.{bits-first}
-use borrow.Author.Rules.{rules}
 use Rattle.bits.proofs.read.bits_at.Goals as goal
 
 pub overflow_cast-result-3 : goal.overflow_cast-result-3

@@ -1,6 +1,5 @@
 use native.Mathlib.Omega.{arith}
 use Rattle.bits.proofs.Steps.{byte-joined}
-use borrow.Author.Rules.{rules}
 use Rattle.bits.proofs.read.byte_at.Goals as goal
 
 pub returns : goal.returns

@@ -1,6 +1,5 @@
 use mathlib.Core.Path.{refl}
 use Rattle.bits.proofs.Steps.{halves-joined}
-use borrow.Author.Rules.{rules}
 use Rattle.bits.proofs.read.eight_at.Goals as goal
 
 pub returns : goal.returns

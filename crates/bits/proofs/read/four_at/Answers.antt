@@ -1,7 +1,6 @@
 use mathlib.Core.Path.{refl}
 use Prim.Native.Nat.{◌+◌}
 use Rattle.bits.proofs.Steps.{four-joined}
-use borrow.Author.Rules.{rules}
 use Rattle.bits.proofs.read.four_at.Goals as goal
 
 pub returns : goal.returns

@@ -1,6 +1,5 @@
 use native.Mathlib.Omega.{arith}
 use Rattle.bits.proofs.Steps.{four-joined}
-use borrow.Author.Rules.{rules}
 use Rattle.bits.proofs.read.four_near_end.Goals as goal
 
 pub returns : goal.returns

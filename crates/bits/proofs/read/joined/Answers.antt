@@ -1,6 +1,5 @@
 use native.Mathlib.Omega.{arith}
 use Rattle.bits.proofs.Steps.{joined-lt}
-use borrow.Author.Rules.{rules}
 use Rattle.bits.proofs.read.joined.Goals as goal
 
 pub overflow_add-result : goal.overflow_add-result

@@ -2,7 +2,6 @@ use mathlib.Core.Path.{refl}
 use Prim.Native.Nat.{◌+◌, ◌/◌}
 use native.Mathlib.Omega.{arith}
 use Rattle.bits.proofs.Steps.{word-joined}
-use borrow.Author.Rules.{rules}
 use Rattle.bits.proofs.read.word_at.Goals as goal
 
 pub returns-then-i-page : goal.returns-then-i-page

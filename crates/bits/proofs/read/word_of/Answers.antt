@@ -1,7 +1,6 @@
 use Prim.Native.Nat.{◌+◌, ◌*◌}
 use native.Mathlib.Omega.{arith}
 use Rattle.bits.proofs.Steps.{joined-lt}
-use borrow.Author.Rules.{rules}
 use Rattle.bits.proofs.read.word_of.Goals as goal
 
 pub overflow_add-result : goal.overflow_add-result

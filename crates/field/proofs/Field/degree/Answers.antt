@@ -1,5 +1,4 @@
 use mathlib.Core.Path.{sym, ap}
-use borrow.Author.Rules.{rules}
 use Rattle.field.specs.Field.{degree}
 use Rattle.field.proofs.Field.degree.Goals as goal
 

@@ -1,5 +1,4 @@
 use mathlib.Core.Path.{sym, ap}
-use borrow.Author.Rules.{rules}
 use Rattle.field.specs.Field.{modulus}
 use Rattle.field.proofs.Field.modulus.Goals as goal
 

@@ -1,6 +1,5 @@
 use Rattle.text.proofs.Numbers.{product-fits, appended-other, appended-large, appended-is}
 use native.Mathlib.Omega.{arith}
-use borrow.Author.Rules.{rules}
 use Rattle.text.proofs.digits.append.Goals as goal
 
 pub returns-then-base-d : goal.returns-then-base-d

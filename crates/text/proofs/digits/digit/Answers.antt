@@ -1,6 +1,5 @@
 use borrow.Author.Tests.{lt-ltb, le-ltb}
 use Rattle.text.specs.Numbers.{digit_of}
-use borrow.Author.Rules.{rules}
 use Rattle.text.proofs.digits.digit.Goals as goal
 
 pub returns-then-c-lt48 : goal.returns-then-c-lt48

@@ -1,9 +1,6 @@
-use mathlib.Core.Path.{◌≡◌, refl, sym, ap, ◌∙◌}
-use Prim.Native.Nat.{◌≤◌, ◌-◌, ◌*◌}
-use native.Mathlib.Numerals.{add-one}
+use mathlib.Core.Path.{◌≡◌, sym, ap, ◌∙◌}
 use native.Mathlib.Omega.{arith}
 use lib.ListN.{length}
-use Rattle.text.specs.declared.Number.TheVariants.{Is}
 use Rattle.text.specs.Numbers.{digits_to}
 use Rattle.text.proofs.Numbers.{digits-empty, digits-next, digits-none}
 use borrow.Author.Rules.{rules}

@@ -1,12 +1,8 @@
-use mathlib.Core.Path.{◌≡◌, refl, sym, ap, ◌∙◌}
-use Prim.Native.Nat.{◌≤◌, ◌-◌, ◌*◌}
-use native.Mathlib.Numerals.{add-one}
-use native.Mathlib.Omega.{arith}
+use mathlib.Core.Path.{◌≡◌}
+use Prim.Native.Nat.{◌≤◌, ◌-◌}
 use lib.ListN.{length}
 use Rattle.text.specs.declared.Number.TheVariants.{Is}
 use Rattle.text.specs.Numbers.{digits_to}
-use Rattle.text.proofs.Numbers.{digits-empty, digits-next, digits-none}
-use borrow.Author.Rules.{rules}
 use Rattle.text.proofs.digits.digits.Given as goal
 
 abbrev pub invariant-loop-i : goal.invariant-loop-i

@@ -1,7 +1,6 @@
 use Rattle.text.proofs.Numbers.{is-hex-other, is-hex-second}
-use borrow.Author.Tests.{lt-ltb, le-ltb, eq-eqb, ne_eqb}
+use borrow.Author.Tests.{lt-ltb}
 use Rattle.text.specs.Numbers.{is_hex}
-use borrow.Author.Rules.{rules}
 use Rattle.text.proofs.digits.is_hex.Goals as goal
 
 pub returns-then-text-lt3 : goal.returns-then-text-lt3

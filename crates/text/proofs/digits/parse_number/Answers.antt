@@ -1,7 +1,6 @@
 use Rattle.text.proofs.Numbers.{is-hex-long, number-empty, number-hex, number-decimal}
 use mathlib.Core.Path.{sym, ◌∙◌}
 use native.Mathlib.Omega.{arith}
-use borrow.Author.Rules.{rules}
 use Rattle.text.proofs.digits.parse_number.Goals as goal
 
 pub returns-then-text-eq0 : goal.returns-then-text-eq0

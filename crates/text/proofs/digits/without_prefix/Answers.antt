@@ -1,6 +1,5 @@
 use mathlib.Core.Path.{sym, ◌∙◌}
 use native.Mathlib.Omega.{arith}
-use borrow.Author.Rules.{rules}
 use Rattle.text.proofs.Numbers.{is-hex-long, prefix-dropped, prefix-missing}
 use Rattle.text.proofs.digits.without_prefix.Goals as goal
 

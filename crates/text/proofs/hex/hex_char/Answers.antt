@@ -1,5 +1,4 @@
 use mathlib.Core.Path.{refl}
-use borrow.Author.Rules.{rules}
 use Rattle.text.proofs.Printed.{char-decimal, char-letter}
 use Rattle.text.proofs.hex.hex_char.Goals as goal
 

@@ -1,9 +1,6 @@
 use Rattle.text.proofs.Bytes.{all-hex-next, all-hex-other}
-use mathlib.Core.Path.{◌≡◌, refl, sym, ap, ◌∙◌}
-use Prim.Native.Nat.{◌≤◌, ◌-◌, ◌*◌}
-use native.Mathlib.Numerals.{add-one}
+use mathlib.Core.Path.{◌≡◌, refl, ap, ◌∙◌}
 use native.Mathlib.Omega.{arith}
-use mathlib.Core.Bool.{true}
 use lib.ListN.{length}
 use Rattle.text.specs.Bytes.{all_hex}
 use borrow.Author.Rules.{rules}

@@ -1,12 +1,8 @@
-use Rattle.text.proofs.Bytes.{all-hex-next, all-hex-other}
-use mathlib.Core.Path.{◌≡◌, refl, sym, ap, ◌∙◌}
-use Prim.Native.Nat.{◌≤◌, ◌-◌, ◌*◌}
-use native.Mathlib.Numerals.{add-one}
-use native.Mathlib.Omega.{arith}
+use mathlib.Core.Path.{◌≡◌}
+use Prim.Native.Nat.{◌≤◌, ◌-◌}
 use mathlib.Core.Bool.{true}
 use lib.ListN.{length}
 use Rattle.text.specs.Bytes.{all_hex}
-use borrow.Author.Rules.{rules}
 use Rattle.text.proofs.pairs.all_hex.Given as goal
 
 abbrev pub invariant-loop-i : goal.invariant-loop-i

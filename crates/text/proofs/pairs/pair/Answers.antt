@@ -1,6 +1,5 @@
 use mathlib.Core.Path.{sym}
 use Rattle.text.specs.Bytes.{pair_of}
-use borrow.Author.Rules.{rules}
 use Rattle.text.proofs.pairs.pair.Goals as goal
 
 pub returns : goal.returns

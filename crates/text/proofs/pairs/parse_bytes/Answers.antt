@@ -1,7 +1,5 @@
-use borrow.Author.Tests.{not-true, not-false}
 use mathlib.Core.Path.{sym, ◌∙◌}
 use Rattle.text.proofs.Bytes.{bytes-odd, bytes-many, bytes-other, bytes-all}
-use borrow.Author.Rules.{rules}
 use Rattle.text.proofs.pairs.parse_bytes.Goals as goal
 
 pub returns-then-text-ne0 : goal.returns-then-text-ne0

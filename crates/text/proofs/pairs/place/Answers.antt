@@ -1,9 +1,6 @@
 use Rattle.text.proofs.Bytes.{placed-next}
-use mathlib.Core.Path.{◌≡◌, refl, sym, ap, ◌∙◌}
-use Prim.Native.Nat.{◌≤◌, ◌-◌, ◌*◌}
-use native.Mathlib.Numerals.{add-one}
+use mathlib.Core.Path.{◌≡◌, refl, ap, ◌∙◌}
 use native.Mathlib.Omega.{arith}
-use lib.ListN.{length}
 use Rattle.text.specs.Bytes.{placed}
 use borrow.Author.Rules.{rules}
 use Rattle.text.proofs.pairs.place.Goals as goal

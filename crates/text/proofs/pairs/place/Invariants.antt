@@ -1,11 +1,7 @@
-use Rattle.text.proofs.Bytes.{placed-next}
-use mathlib.Core.Path.{◌≡◌, refl, sym, ap, ◌∙◌}
-use Prim.Native.Nat.{◌≤◌, ◌-◌, ◌*◌}
-use native.Mathlib.Numerals.{add-one}
-use native.Mathlib.Omega.{arith}
+use mathlib.Core.Path.{◌≡◌}
+use Prim.Native.Nat.{◌≤◌, ◌-◌}
 use lib.ListN.{length}
 use Rattle.text.specs.Bytes.{placed}
-use borrow.Author.Rules.{rules}
 use Rattle.text.proofs.pairs.place.Given as goal
 
 abbrev pub invariant-loop-i : goal.invariant-loop-i

@@ -1,6 +1,5 @@
 use native.Mathlib.Omega.{arith}
 use lib.ListN.{length-take}
-use borrow.Author.Rules.{rules}
 use Rattle.text.proofs.parts.front_mut.Goals as goal
 
 pub slice_bounds-result-end : goal.slice_bounds-result-end

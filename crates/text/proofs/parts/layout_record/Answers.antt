@@ -1,6 +1,5 @@
 use mathlib.Core.Path.{refl}
 use Rattle.text.specs.Parts.{record_of}
-use borrow.Author.Rules.{rules}
 use Rattle.text.proofs.parts.layout_record.Goals as goal
 
 pub returns : goal.returns

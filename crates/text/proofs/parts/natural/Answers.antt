@@ -6,7 +6,6 @@ use lib.Signed.{le_z_yes, yes_non_neg, nat_abs-le}
 use mir.Syntax.{w64}
 use mir.Val.{Fits, to_z, of_z}
 use mir.ValLaws.{to_z-of_z}
-use borrow.Author.Rules.{rules}
 use Rattle.text.proofs.parts.natural.Goals as goal
 
 pub overflow_cast-result : goal.overflow_cast-result

@@ -1,6 +1,4 @@
-use Prim.Native.Nat.{◌*◌}
 use native.Mathlib.Omega.{arith}
-use borrow.Author.Rules.{rules}
 use Rattle.text.proofs.Numbers.{product-fits}
 use Rattle.text.proofs.parts.times.Goals as goal
 
