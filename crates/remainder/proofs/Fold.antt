@@ -5,7 +5,7 @@ use mathlib.Core.List.{[], ◌∷◌, ◌++◌}
 use Prim.Native.Nat.{ℕ, zero, suc, ◌+◌, ◌*◌, ◌/◌, ◌%◌, ◌^◌, ◌<◌, ◌≤◌}
 use native.Mathlib.Omega.{arith}
 use native.Mathlib.Decide.{ℕ_discrete}
-use native.Mathlib.Nat.{pow-suc, mod-lt, mod-eq_of_lt, div-eq_of_lt, div-lt_iff_lt-mul, zero-mul, zero-add, mul-le-mul}
+use native.Mathlib.Nat.{pow-suc, mod-lt, div-eq_of_lt, div-lt_iff_lt-mul, mul-le-mul}
 use borrow.Author.Tests.{eq-eqb, ne_eqb}
 use lib.ListN.{length, get_or, take, replicate}
 use lib.Seq.{take-suc, take-length}

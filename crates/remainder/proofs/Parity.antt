@@ -161,6 +161,10 @@ module _ (d g : ℕ) where
         ∙ ap (λ y. bit_xor y (parity_from d g 0 w)) (from-xor (remainder_step d g r false) s n)
         ∙ xor_assoc A (remainder_from d g s (replicate n false)) (parity_from d g 0 w) ∙ ap (bit_xor A) (sym (parity-sum s w))
 
+    rest-from : (v : ℕ) → remainder_from d g v (replicate d false) ≡ rest d g v
+    unfolding rest
+    rest-from v = refl
+
     -- k coefficients at once are k single steps: b has their digits, and v is the sum of b and of the k highest coefficients so far.
     pub parity-digits : (k r b : ℕ) {v : ℕ} → k ≤ d → r < 2 ^ d → b < 2 ^ k → v ≡ bit_xor (r / 2 ^ (d - k)) b
         → parity_from d g r (digits b k) ≡ bit_xor (rest d g v) (r * 2 ^ k % 2 ^ d)
@@ -178,7 +182,8 @@ module _ (d g : ℕ) where
         ap (λ y. remainder_from d g y (replicate k false)) er ∙ from-xor (u * 2 ^ e) z k ∙ ap₂ bit_xor (rest_part u e k hu ed) (zeros-short z e k hz (omega arith)) in
         let y : parity_from d g 0 (digits b k) ≡ rest d g b =
         parity-message (digits b k) ∙ remainder_from-append d g 0 (digits b k) (replicate d false)
-        ∙ unfold rest in ap (λ m. remainder_from d g m (replicate d false)) (remainder_from-short d g 0 0 (digits b k) (omega arith) (omega arith) ∙ rw (number_digits b k, zero-mul, zero-add) (mod-eq_of_lt hb)) in
+        ∙ ap (λ m. remainder_from d g m (replicate d false)) (remainder_from-short d g 0 0 (digits b k) (omega arith) (omega arith) ∙ rw (number_digits b k, zero-mul, zero-add) (mod-eq_of_lt hb))
+        ∙ rest-from b in
         let m : r * 2 ^ k % 2 ^ d ≡ z * 2 ^ k = ap (λ i. r * 2 ^ k % 2 ^ i) ed ∙ mod-up r e k in
         parity-sum r (digits b k) ∙ rw (n, x, y, m, ev, rest-xor u b) (xor_assoc (rest d g u) (z * 2 ^ k) (rest d g b) ∙ ap (bit_xor (rest d g u)) (xor_comm (z * 2 ^ k) (rest d g b)) ∙ sym (xor_assoc (rest d g u) (rest d g b) (z * 2 ^ k)))
 

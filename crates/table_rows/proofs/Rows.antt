@@ -7,7 +7,7 @@ use native.Mathlib.Nat.{mod-eq_of_lt, mul-le-mul_left}
 use lib.ListN.{drop}
 use lib.Pow.{pow_pos}
 use Rattle.wide.specs.Bytes.{little, Only}
-use Rattle.wide.proofs.Bytes.{Bytes, little-lt, little-mod, bytes_drop, row-kept-lower, row-kept-upper, row_up}
+use Rattle.wide.proofs.Bytes.{Bytes, little-mod, bytes_drop, row-kept-lower, row-kept-upper, row_up}
 use Rattle.table_rows.specs.Rows.{row_bytes, Row, OnlyRows}
 
 -- where rows stand

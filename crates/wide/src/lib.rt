@@ -14,7 +14,7 @@ ghost use Rattle.code.specs.Register.{low, register};
 ghost use Rattle.wide.specs.Bytes.{little, Only};
 
 // Fifteen words of 64 bits, the lowest first.
-#[derive(Drop)]
+#[derive(Clone, Copy)]
 pub struct Wide {
     pub words: [u64; 15],
 }
