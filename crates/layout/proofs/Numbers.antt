@@ -1,7 +1,7 @@
 -- The numbers that this crate's refusals have in document 01's table.
 use mathlib.Core.Path.{◌≡◌, refl}
 use mathlib.Core.Logic.{◌⊎◌, inl, inr}
-use Prim.Native.Nat.{ℕ, ◌<◌}
+use Prim.Native.Nat.{◌<◌}
 use native.Mathlib.Omega.{arith}
 use Rattle.replies.specs.Replies.{number}
 use Rattle.layout.specs.declared.Rule.{Rule}

@@ -3,8 +3,8 @@
 -- one-sector, more-sectors      the layout of one sector, and of more
 -- sector-whole                  the length of a sector, pads included, is a multiple of 8 bytes
 -- sector-pads                   and the pads are no more than it takes
-use mathlib.Core.Path.{◌≡◌, refl, sym, ap, ◌∙◌}
-use Prim.Native.Nat.{ℕ, ◌+◌, ◌-◌, ◌*◌, ◌/◌, ◌%◌, ◌≤◌, ◌<◌}
+use mathlib.Core.Path.{◌≡◌, ap, ◌∙◌}
+use Prim.Native.Nat.{ℕ, ◌+◌, ◌-◌, ◌*◌, ◌/◌, ◌%◌, ◌<◌}
 use native.Mathlib.Omega.{arith}
 use borrow.Author.Tests.{eq-eqb, ne_eqb}
 use Rattle.field.specs.Field.{degree}
@@ -14,7 +14,7 @@ use Rattle.layout_plan.specs.declared.Layout.{Layout}
 use Rattle.layout_plan.specs.declared.Shape.{Shape}
 use Rattle.layout_plan.specs.declared.Plan.{Plan}
 use Rattle.layout_plan.specs.Record.{field_of}
-use Rattle.layout_plan.specs.SectorPlan.{missing, parity_pads, pad_bytes, sector_shape, own_shape, last_shape, sectors_plan, sector_plan, sector_layout}
+use Rattle.layout_plan.specs.SectorPlan.{missing, parity_pads, pad_bytes, sector_shape, sectors_plan, sector_plan, sector_layout}
 
 abbrev pub with-plan : Plan → Layout
 with-plan p = record { plan = p }

@@ -73,7 +73,7 @@ pub struct Shape {
 // What a layout comes to: how many blocks, how many bytes of page, metadata and data, the bits of all blocks with their pads, what a
 // block is made of, and the mark. The first `firsts` blocks have the shape `first`, the others the shape `later`. Under layout words that
 // is block 0, under sectors every sector but the last.
-#[derive(Drop)]
+#[derive(Clone, Copy)]
 pub struct Plan {
     pub blocks: u16,
     pub firsts: u16,

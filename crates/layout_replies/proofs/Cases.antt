@@ -29,7 +29,6 @@ use Rattle.layout.specs.Acceptance.{test, level_rule, message_rule, length_rule,
 use Rattle.layout.specs.Bits.{within, block_below, block_of, exponent_at, position_at, located, bit_in, bit_for, bit_answer, position_in, position_for, position_answer}
 use Rattle.layout_plan.proofs.Plans.{degree-small, product_le, shape-later}
 use Rattle.layout.proofs.Records.{no_mark, acceptance-padded}
-use Rattle.layout.proofs.Reasons.{level-first, level-later, length-first, length-later}
 use Rattle.layout.specs.declared.Acceptance.TheVariants as answer
 use Rattle.layout.specs.declared.BitAnswer.TheVariants as bit
 use Rattle.layout.specs.declared.PositionAnswer.TheVariants as position

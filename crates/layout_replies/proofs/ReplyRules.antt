@@ -1,7 +1,7 @@
 -- Each call about a layout replies as its list of rules says, so each reply is given exactly if its rule applies and none before it does. This is said of
 -- whatever names the layout, with its list of rules; `words-ruled` and `words-ascends` give that of layout words.
 use mathlib.Core.Path.{◌≡◌, refl, sym, ap, ◌∙◌}
-use mathlib.Core.Bool.{Bool, true, false, not, cond, true≢false}
+use mathlib.Core.Bool.{Bool, true, false, cond, true≢false}
 use mathlib.Core.List.{List, [], ◌∷◌, ◌++◌}
 use Prim.Native.Nat.{ℕ, zero, suc, ◌*◌, ◌≤◌}
 use native.Mathlib.Omega.{arith}
@@ -29,7 +29,7 @@ use Rattle.layout.specs.declared.Finding.TheVariants.{Kept, Broken}
 use Rattle.layout.specs.declared.Refusal.{Refusal}
 use Rattle.layout.specs.declared.Refusal.TheVariants as refusal
 use Rattle.layout.specs.declared.Acceptance.{Acceptance}
-use Rattle.layout.specs.declared.Acceptance.TheVariants.{Accepted, Refused}
+use Rattle.layout.specs.declared.Acceptance.TheVariants.{Refused}
 use Rattle.layout_plan.specs.Record.{Words, fields_in, layout_of, record_length}
 use Rattle.layout_plan.specs.Plan.{plan_of, covered}
 use Rattle.layout.specs.Acceptance.{test, level_rule, message_rule, length_rule, mark_rule, room_rule, either, of_blocks, finding_of, judged, acceptance, rule_refusal, refusal_of, refusal_reply}

@@ -21,7 +21,7 @@ use Rattle.layout_plan.specs.Record.{Words}
 use Rattle.layout_plan.specs.Plan.{shape_with, shape_of, later_shape, data_bytes, plan_for, layout_for, plan_of, shape, field, level, start, from, Valid}
 use Rattle.layout.specs.Acceptance.{acceptance}
 use Rattle.layout.specs.Bits.{within, block_below, block_of, bit_answer}
-use Rattle.layout_replies.proofs.Cases.{word, words, two_blocks, layout_e, CaseA, CaseB, CaseC, CaseD, CaseE, CaseI, CaseK, CaseEdition, layout-cases}
+use Rattle.layout_replies.proofs.Cases.{words, two_blocks, layout_e, CaseA, CaseB, CaseC, CaseD, CaseE, CaseI, CaseK, CaseEdition, layout-cases}
 use Rattle.code.specs.Word.{Word, apart, distance, ones, turned, flipped}
 use Rattle.code.specs.Code.{Codeword}
 use Rattle.code.specs.Outcome.{by-codeword}

@@ -102,16 +102,16 @@ module _ (page c : List ℕ) where
   ends-looking (done w) l = record { table = among-small 0 _ (omega arith); kept = λ n k. absurd (n refl); block = λ n. refl }
   ends-looking (refused b) l = record { table = unfold among in refl; kept = λ n k. absurd (k refl); block = λ n. absurd (n refl) }
 
-  look_in : (q : Plan) → LookEnds c (look_in q page c)
+  look-in : (q : Plan) → LookEnds c (look_in q page c)
   unfolding look_in
-  look_in q = elim (ℕ_discrete (look_reply q (length page) (length c)) 0) [
+  look-in q = elim (ℕ_discrete (look_reply q (length page) (length c)) 0) [
     | yes e ↦ rw e (ends-looking (reading q page) (counts q page))
     | no n ↦ rw (look-wrong q page c n) (ends-look _ (inl (look-small q _ _)))
   ]
 
   pub look-ends : (a : Acceptance) → LookEnds c (look_for a page c)
   unfolding look_for
-  look-ends (Accepted l) = look_in (plan_of l)
+  look-ends (Accepted l) = look-in (plan_of l)
   look-ends (Refused r) = ends-look (refusal_reply r) (refusal-reply-early r)
 
 module _ (page m d : List ℕ) where

@@ -95,9 +95,9 @@ module _ (q : Plan) (page : List ℕ) where
   ruined-follows h = by-reading (reads_first q.blocks) h
 
   module _ (c : List ℕ) where
-    look_in : Follows (rules.look_in q page c) (call.look_in q page c).reply (call.look_in q page c).block
+    look-in : Follows (rules.look_in q page c) (call.look_in q page c).reply (call.look_in q page c).block
     unfolding rules.look_in call.look_in look_reply unequal reply reply_block verdict verdict_number verdict_block number block
-    look_in = go (eqb (length page) q.size) (eqb (length c) q.blocks)
+    look-in = go (eqb (length page) q.size) (eqb (length c) q.blocks)
       where
         replied : (x y : Bool) → Looked
         replied x y = cond (eqb (cond x (cond y 0 6) 5) 0) (look_by (reading q page) (counts q page)) (look_ended (cond x (cond y 0 6) 5) 0 c)
@@ -132,7 +132,7 @@ module _ (q : Plan) (page : List ℕ) where
 pub look-replies : {before : List Rule} {q : Plan} {a : Acceptance} → Ruled before q a → (page c : List ℕ)
     → Follows (look_rules before q page c) (look_for a page c).reply (look_for a page c).block
 unfolding look_rules look_for
-look-replies (accepts l none) page c = accepted-follows none (look_in (plan_of l) page c)
+look-replies (accepts l none) page c = accepted-follows none (look-in (plan_of l) page c)
 look-replies {before} (refuses q r e) page c = refused-follows before r e _
 
 pub look-exactly : {before : List Rule} {q : Plan} {a : Acceptance} → Ruled before q a → (page c : List ℕ)

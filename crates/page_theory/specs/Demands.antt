@@ -10,7 +10,7 @@
 -- Looks q page r                    demand 2: what looking at a page reports of each block, ruined ones included
 -- Takes q page r                    demand 2: what is taken out of a page, block by block
 -- Reads q page look take            demand 2: counts and payload of a page that was looked at and taken belong to the same codewords
-use Rattle.std.specs.Prelude.{◌≡◌, true, List, [], ◌∷◌, ◌++◌, ℕ, ◌*◌, ◌≤◌, ◌<◌, length, get_or}
+use Rattle.std.specs.Prelude.{◌≡◌, true, List, [], ◌∷◌, ◌++◌, ℕ, ◌*◌, ◌<◌, length, get_or}
 use Rattle.bits.specs.Bits.{bit_of, Bytes}
 use Rattle.replies.specs.Replies.{among}
 use Rattle.layout_plan.specs.declared.Plan.{Plan}
