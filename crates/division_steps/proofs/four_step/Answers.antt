@@ -1,0 +1,20 @@
+use mathlib.Core.Path.{◌≡◌}
+use native.Mathlib.Omega.{arith}
+use borrow.Author.Rules.{rules}
+use lib.ListN.{length}
+use Rattle.division_steps.proofs.Rows.{added-step, place-most}
+use Rattle.division_steps.proofs.Steps.{top-word}
+use Rattle.division_steps.proofs.four_step.Goals as goal
+
+pub words_added-requires : goal.words_added-requires
+words_added-requires c = (omega arith, omega arith, c.requires.0.size, λ b h. place-most c.requires.0.wide _ b (c.places-at.ensures b h))
+
+pub returns : goal.returns
+returns c = let p = c.requires in
+    let s = c.args.state.words in
+    let up = c.word_up-next in
+    let l : length s ≡ 15 = search rules in
+    let n : length up.result.words ≡ 15 = search rules in
+    let m : length c.words_added.result.words ≡ 15 = search rules in
+    added-step 4 _ _ p.0 (λ j. (c.shared_slice_known-1.given j).fits) _ c.places-at.ensures s up.result.words c.words_added.result.words c.args.w p.1 c.ranges.w.fits
+    (top-word s (λ k. search rules) 5 (omega arith) (omega arith) p.1) up.ensures (λ k. search rules) n m c.words_added.ensures
