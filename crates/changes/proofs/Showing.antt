@@ -6,13 +6,13 @@
 -- flips-ruined, flips-written, flips-erased          what is shown by a count, in its three cases
 -- flips-shown           what is shown by the count of a block is what its outcome says
 -- line-shown            the line by the counts of two pages is the line of the block
-use mathlib.Core.Path.{◌≡◌, refl, sym, ap, ap₂, ◌∙◌}
+use mathlib.Core.Path.{◌≡◌, refl, sym, ap, ◌∙◌}
 use mathlib.Core.Bool.{Bool, true, false, cond}
 use mathlib.Core.List.{List}
 use Prim.Native.Nat.{ℕ, zero, suc, ◌+◌, ◌-◌, ◌<◌, ◌≤◌}
 use native.Mathlib.Omega.{arith}
 use native.Mathlib.Nat.{zero-add}
-use lib.IntN.{ℤ, pos, negsuc, neg_ℤ, ◌+ℤ◌, ◌-ℤ◌, +ℤ_comm, +ℤ_invr, -ℤ-+ℤ_cancel}
+use lib.IntN.{pos, negsuc, ◌+ℤ◌, ◌-ℤ◌, +ℤ_comm, +ℤ_invr, -ℤ-+ℤ_cancel}
 use lib.ListN.{get_or}
 use lib.Dec.{ltb}
 use mir.Syntax.{w8, w16}
@@ -25,9 +25,8 @@ use Rattle.layout_plan.specs.Plan.{bits, Valid}
 use Rattle.code.specs.Outcome.{Outcome, good, erased, ruined, erased_count}
 use Rattle.code.proofs.Outcome.{repaired-judge, erased-judge}
 use Rattle.page_theory.specs.Reading.{outcome, count_of, counts}
-use Rattle.changes.specs.declared.Flips.{Flips}
 use Rattle.changes.specs.declared.Flips.TheVariants.{Number, Ruined}
-use Rattle.changes.specs.Lines.{shown, difference, line_by, line, flips_of, line_of}
+use Rattle.changes.specs.Lines.{shown, difference, line, flips_of, line_of}
 
 pub difference-exact : (first second : ℕ) → pos first +ℤ difference first second ≡ pos second
 unfolding difference

@@ -12,21 +12,21 @@ ghost use Rattle.std.specs.Prelude.{◌≡◌, true, false, nat_abs};
 ghost use Rattle.changes.specs.Lines.{flips_of, difference, change_of, line_of};
 
 // What is shown of a block of one page: its flips or, where it is erased, its zeros; no number where it is ruined.
-#[derive(Drop)]
+#[derive(Clone, Copy)]
 pub enum Flips {
     Number(u8),
     Ruined,
 }
 
 // The change from the first page to the second: a signed number, or none where the block is ruined in one of them.
-#[derive(Drop)]
+#[derive(Clone, Copy)]
 pub enum Change {
     By(i16),
     Unknown,
 }
 
 // A line of the report.
-#[derive(Drop)]
+#[derive(Clone, Copy)]
 pub struct BlockLine {
     pub first: Flips,
     pub second: Flips,

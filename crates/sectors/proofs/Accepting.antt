@@ -3,17 +3,16 @@
 -- one-plan, more-plan       the plan of one sector, and of more
 -- sectors-taken             what holds of numbers that are accepted
 -- sectors-valid             their plan is valid
-use mathlib.Core.Path.{◌≡◌, refl, sym, ap, subst, ◌∙◌}
+use mathlib.Core.Path.{◌≡◌, refl, ap}
 use mathlib.Core.Bool.{Bool, true, false, cond}
-use mathlib.Core.Logic.{⊎_elim}
 use Prim.Native.Nat.{ℕ, suc, ◌+◌, ◌-◌, ◌*◌, ◌≤◌, ◌<◌}
 use native.Mathlib.Omega.{arith}
 use native.Mathlib.Decide.{ℕ_discrete, dec_lt}
-use native.Mathlib.Nat.{one-mul, zero-mul, mul-add}
-use lib.Dec.{eqb, leb, ltb}
+use native.Mathlib.Nat.{one-mul, zero-mul}
+use lib.Dec.{leb, ltb}
 use borrow.Author.Tests.{eq-eqb, ne_eqb, lt-ltb, le-ltb, leb-true}
 use Rattle.field.specs.declared.Field.{Field}
-use Rattle.field.specs.Field.{degree, longest}
+use Rattle.field.specs.Field.{longest}
 use Rattle.replies.specs.Edition.{offered, highest}
 use Rattle.replies.proofs.Editions.{highest-small}
 use Rattle.layout_plan.specs.declared.Sectors.{Sectors}
@@ -23,10 +22,8 @@ use Rattle.layout_plan.specs.declared.Plan.{Plan}
 use Rattle.layout.specs.declared.Finding.{Finding}
 use Rattle.layout.specs.declared.Finding.TheVariants.{Kept, Broken}
 use Rattle.layout.specs.declared.Refusal.TheVariants as refusal
-use Rattle.layout.specs.declared.Acceptance.{Acceptance}
 use Rattle.layout.specs.declared.Acceptance.TheVariants.{Accepted, Refused}
-use Rattle.layout_plan.specs.Record.{field_of}
-use Rattle.layout_plan.specs.Plan.{plan_of, shape, bits, field, level, covered, start, used, room, from, payload, Summed, Valid}
+use Rattle.layout_plan.specs.Plan.{plan_of, shape, start, used, room, from, payload, Summed, Valid}
 use Rattle.layout_plan.specs.SectorPlan.{sector_shape, own_shape, last_shape, sectors_plan, sector_plan, sector_layout}
 use Rattle.layout.specs.Acceptance.{finding_of, judged}
 use Rattle.layout_plan.proofs.Plans.{pitch, start-next, start-order, start_up, start-firsts, start-laters, from-firsts, from-laters}

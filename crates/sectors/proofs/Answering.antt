@@ -3,13 +3,13 @@
 -- count-wrong, choice-wrong, edition-wrong, level-wrong      what is looked at before the plan
 -- numbers-right                                              nothing is wrong with them, and the rules of layout words answer
 -- kept-found, broken-found                                   their answer
-use mathlib.Core.Path.{◌≡◌, refl, sym, ap, ◌∙◌}
+use mathlib.Core.Path.{◌≡◌, refl, sym, ◌∙◌}
 use mathlib.Core.Bool.{Bool, true, false, cond}
 use Prim.Native.Nat.{ℕ, ◌-◌, ◌≤◌, ◌<◌}
 use native.Mathlib.Omega.{arith}
 use native.Mathlib.Decide.{ℕ_discrete}
-use lib.Dec.{eqb, leb, ltb}
-use borrow.Author.Tests.{eq-eqb, ne_eqb, le-leb, lt-leb, lt-ltb, leb-true, eqb-true}
+use lib.Dec.{eqb, leb}
+use borrow.Author.Tests.{eq-eqb, ne_eqb, le-leb, lt-leb, lt-ltb, leb-true}
 use Rattle.replies.specs.Edition.{offered, highest}
 use Rattle.layout_plan.specs.declared.Sectors.{Sectors}
 use Rattle.layout_plan.specs.declared.Layout.{Layout}

@@ -5,10 +5,7 @@
 -- replied s                                    the reply to a layout
 -- SectorCases                                  the table of cases
 use mathlib.Core.Path.{◌≡◌, refl}
-use mathlib.Core.Bool.{Bool, true, false, not, cond}
-use mathlib.Core.List.{List, []}
-use Prim.Native.Nat.{ℕ, ◌+◌, ◌-◌, ◌*◌, ◌/◌, ◌%◌}
-use lib.Dec.{eqb, leb, ltb}
+use Prim.Native.Nat.{ℕ}
 use Rattle.field.specs.Field.{degree, longest}
 use Rattle.field.specs.declared.Field.TheVariants.{Thirteen, Fourteen}
 use Rattle.replies.specs.Replies.{number}

@@ -4,22 +4,20 @@
 -- sectors-ruled            the answer follows the rules
 -- sectors-ascends          after the three rules of reply 7 the turns never fall
 -- sectors-unmarked         reply 11 is never given: there is no mark
-use mathlib.Core.Path.{◌≡◌, refl, sym, ap, ◌∙◌}
+use mathlib.Core.Path.{◌≡◌, refl, ap, ◌∙◌}
 use mathlib.Core.Bool.{Bool, true, false, cond}
-use mathlib.Core.Logic.{⊎_elim}
-use Prim.Native.Nat.{ℕ, ◌+◌, ◌<◌}
+use Prim.Native.Nat.{ℕ}
 use native.Mathlib.Omega.{arith}
 use lib.Dec.{leb}
 use Rattle.replies.specs.declared.Refusal.TheVariants as row
 use Rattle.replies.specs.declared.Verdict.TheVariants as verdict
-use Rattle.replies.specs.Replies.{number, rule, verdict}
+use Rattle.replies.specs.Replies.{number, verdict}
 use Rattle.replies.specs.Edition.{offered}
 use Rattle.replies.specs.Given.{turn, at_most, ascending}
 use Rattle.replies.proofs.Given.{verdict-none}
 use Rattle.layout_plan.specs.declared.Sectors.{Sectors}
 use Rattle.layout.specs.declared.Reason.{Reason}
-use Rattle.layout.specs.declared.Rule.{Rule}
-use Rattle.layout.specs.declared.Rule.TheVariants.{Level, Message, Length, Outside, Room}
+use Rattle.layout.specs.declared.Rule.TheVariants.{Outside}
 use Rattle.layout.specs.declared.Finding.{Finding}
 use Rattle.layout.specs.declared.Finding.TheVariants.{Kept, Broken}
 use Rattle.layout.specs.declared.Refusal.TheVariants as refusal

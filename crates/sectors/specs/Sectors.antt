@@ -5,7 +5,7 @@
 -- sector_found s           the answer by the rules of layout words, of the plan of the sectors
 -- sector_acceptance s      the answer to the six numbers and the edition
 -- sector_rules s           the same as a list of rules: 7 for the count, for the field choice and for the edition, then 1, 2, 3 and 4
-use Rattle.std.specs.Prelude.{ℕ, ◌-◌, List, [], ◌∷◌, Bool, false, not, cond, eqb, leb, ltb}
+use Rattle.std.specs.Prelude.{ℕ, ◌-◌, List, ◌∷◌, Bool, false, not, cond, eqb, leb}
 use Rattle.replies.specs.declared.Refusal.TheVariants as row
 use Rattle.replies.specs.Replies.{Rule, rule}
 use Rattle.replies.specs.Edition.{offered}

@@ -4,7 +4,7 @@
 -- vacant               what a place without a layout holds
 -- index_of l n          the place of the first layout with the number n, and the length of the list where there is none
 -- closed l at i        the list l after the layouts behind the place `at` were moved one place forward, up to the place i
-use Rattle.std.specs.Prelude.{cond, List, [], ◌∷◌, ◌++◌, ℕ, zero, suc, ◌-◌, take, drop, eqb, ltb}
+use Rattle.std.specs.Prelude.{cond, List, [], ◌∷◌, ◌++◌, ℕ, suc, ◌-◌, take, drop, eqb, ltb}
 use Rattle.field.specs.declared.Field.TheVariants.{Thirteen}
 use Rattle.layout_plan.specs.declared.Shape.{Shape}
 use Rattle.version_list.specs.declared.Numbered.{Numbered}
