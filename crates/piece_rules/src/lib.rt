@@ -18,7 +18,7 @@ use replies::highest;
 // A block whose message is arriving: its level field, field choice and message bytes, the bytes fed so far, and the parity of
 // these in fourteen words of 64 bits, the lowest first.
 #[repr(C)]
-#[derive(Drop)]
+#[derive(Clone, Copy)]
 pub struct State {
     pub level: u64,
     pub choice: u64,
