@@ -8,6 +8,7 @@ An element is a number whose bit i is the coefficient of x^i; a is the class of 
 """
 import pathlib
 import sys
+import textwrap
 
 CRATES = pathlib.Path(__file__).resolve().parent.parent / "crates"
 MODULI = {13: 0x201B, 14: 0x402B}  # x^13 + x^4 + x^3 + x + 1 and x^14 + x^5 + x^3 + x + 1
@@ -33,8 +34,9 @@ def logarithms(m):
 
 
 def constant(name, entries):
-    """The lines of a constant, one entry each."""
-    return "\n".join([f"const {name}: [u16; {len(entries)}] = ["] + [f"    {entry}," for entry in entries] + ["];"]) + "\n"
+    """The lines of a constant, its entries wrapped at 99 columns, as `rt fmt` lays them out."""
+    rows = textwrap.wrap(" ".join(f"{entry}," for entry in entries), 99, initial_indent="    ", subsequent_indent="    ")
+    return "\n".join([f"const {name}: [u16; {len(entries)}] = ["] + rows + ["];"]) + "\n"
 
 
 def parts(entries):
