@@ -26,7 +26,7 @@ pub use version_list::{Lookup, Numbered};
 
 // The layouts, how many there are, the number that storing gives next, and the versions in use, chip select 0 first. No other crate
 // can set them.
-#[derive(Drop)]
+#[derive(Clone, Copy)]
 pub struct Store {
     layouts: [Numbered; 32],
     count: usize,
@@ -35,7 +35,7 @@ pub struct Store {
 }
 
 // Why a call is refused: a case of document 01's table, or one of the store's own numbers.
-#[derive(Drop)]
+#[derive(Clone, Copy)]
 pub enum Refusal {
     Table(replies::Refusal),
     // 12: the store holds 32 layouts.
@@ -47,28 +47,28 @@ pub enum Refusal {
 }
 
 // The answer of a call that names a version.
-#[derive(Drop)]
+#[derive(Clone, Copy)]
 pub enum VersionAnswer {
     Version(u16),
     Refused(Refusal),
 }
 
 // The answer of a call that names none.
-#[derive(Drop)]
+#[derive(Clone, Copy)]
 pub enum Verdict {
     Passed,
     Refused(Refusal),
 }
 
 // What storing ends with.
-#[derive(Drop)]
+#[derive(Clone, Copy)]
 pub struct Stored {
     pub answer: VersionAnswer,
     pub store: Store,
 }
 
 // What a call that changes the store otherwise ends with.
-#[derive(Drop)]
+#[derive(Clone, Copy)]
 pub struct Changed {
     pub verdict: Verdict,
     pub store: Store,

@@ -17,7 +17,7 @@ use Rattle.layout.specs.declared.Acceptance.{Acceptance}
 use Rattle.layout.specs.declared.Acceptance.TheVariants.{Accepted, Refused}
 use Rattle.layout_plan.specs.Record.{Words}
 use Rattle.layout_plan.specs.Plan.{plan_of}
-use Rattle.layout.specs.Acceptance.{acceptance, refusal_reply}
+use Rattle.layout.specs.Acceptance.{acceptance}
 use Rattle.layout.proofs.Numbers.{refusal-reply-range}
 use Rattle.version_list.specs.Plain.{Listed, Ended, ended, holds, known, numbered, added, add_reply, add_of, store_for, store_of}
 use Rattle.version_list.specs.Plain.{removed, remove_reply, remove_of, with_uses, set_reply, set_of}

@@ -15,11 +15,10 @@ use borrow.Author.Tests.{eqb-true, eqb-false}
 use Rattle.layout_plan.specs.Record.{Words}
 use Rattle.version_list.specs.declared.Numbered.{Numbered}
 use Rattle.version_list.specs.declared.Lookup.TheVariants.{Found, Unknown}
-use Rattle.version_list.specs.Plain.{Listed, Ended, find, without, added, store_of, removed, remove_of, with_uses, set_of}
-use Rattle.version_bytes.specs.Saved.{load_of}
+use Rattle.version_list.specs.Plain.{Listed, Ended, find, without, added, store_of, removed, with_uses}
 use Rattle.store_runs.specs.Runs.{lookup_answer, version_of, Call, store, remove, set, in_use, save, load, write, look, take, judge, claim, after, after_all}
 use Rattle.store_runs.specs.Reached.{Reached}
-use Rattle.store_runs.proofs.Changes.{Refuses, Added, Removed, Set, Loaded, store-cases, remove-cases, set_cases, load-cases}
+use Rattle.store_runs.proofs.Changes.{Added, Removed, store-cases, remove-cases, set_cases, load-cases}
 use Rattle.store_runs.proofs.Lists.{find-append, find-other, find-without, find-removed, find-small}
 use Rattle.store_runs.proofs.Reached.{reached-after}
 

@@ -5,8 +5,8 @@
 use mathlib.Core.Path.{◌≡◌, refl, ◌∙◌}
 use mathlib.Core.Bool.{Bool, true, false, cond}
 use mathlib.Core.Logic.{⊎_elim}
-use mathlib.Core.List.{List, [], ◌∷◌, ◌++◌}
-use Prim.Native.Nat.{ℕ, suc, ◌+◌, ◌≤◌, ◌<◌}
+use mathlib.Core.List.{List, [], ◌∷◌}
+use Prim.Native.Nat.{ℕ, suc, ◌+◌, ◌≤◌}
 use native.Mathlib.Omega.{arith}
 use lib.ListN as list
 use lib.ListN.{length, length-append, length-set}
@@ -14,8 +14,8 @@ use lib.Dec.{eqb}
 use Rattle.bits.proofs.Runs.{run_length}
 use Rattle.layout_plan.specs.Record.{Words}
 use Rattle.version_list.specs.declared.Numbered.{Numbered}
-use Rattle.version_list.specs.Plain.{Listed, Ended, empty, known, without, added, store_of, removed, remove_of, with_uses, set_of}
-use Rattle.version_bytes.specs.Saved.{number_at, loaded, all_known, load_of}
+use Rattle.version_list.specs.Plain.{Listed, Ended, empty, known, without, added, removed, with_uses}
+use Rattle.version_bytes.specs.Saved.{number_at, loaded, all_known}
 use Rattle.store_runs.specs.Runs.{Call, store, remove, set, in_use, save, load, write, look, take, judge, claim, after, after_all}
 use Rattle.store_runs.specs.Reached as reached
 use Rattle.store_runs.specs.Reached.{Reached}
