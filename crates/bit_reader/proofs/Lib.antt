@@ -1,3 +1,1 @@
-pub mod Reader
-pub mod Thin
 pub mod Walking

@@ -8,9 +8,8 @@
 //   BitReader   new, position, moved: made, asked where it stands, moved; next: taken apart for the function on its page and position
 //   next_bit    one bit by way of a reader; its parameters are a page and a position, so its callers hold no reader
 //
-// No function asks anything of its arguments. What a read gives stands in specs/Reading.antt; proofs/ has the laws: Walking (a read inside
-// the page and at its end, what n reads give), and for the proofs by hand of functions over a reader, Reader (what it owns) and Thin (a
-// function that takes it apart and calls one on its page and position).
+// No function asks anything of its arguments. What a read gives stands in specs/Reading.antt; proofs/Walking.antt has the laws (a read
+// inside the page and at its end, what n reads give).
 #![tactic(auto)]
 
 ghost use Rattle.std.specs.Prelude.{◌≡◌};
@@ -21,14 +20,14 @@ use crate::steps::step_at;
 pub mod steps;
 
 // What a read gives: a bit with the position after it, or the end.
-#[derive(Drop)]
+#[derive(Clone, Copy)]
 pub enum Step {
     Bit(u8, usize),
     End,
 }
 
 // A page, and the position of the bit that is read next.
-#[derive(Drop)]
+#[derive(Clone, Copy)]
 pub struct BitReader<'a> {
     pub page: &'a [u8],
     pub position: usize,
