@@ -16,7 +16,7 @@ use bits::read::bit_at;
 use mark::Mark;
 
 // The next position at which two pages differ, or that they are alike from there on.
-#[derive(Drop)]
+#[derive(Clone, Copy)]
 pub enum Difference {
     At(usize),
     Alike,

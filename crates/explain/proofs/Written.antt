@@ -3,8 +3,8 @@
 -- Holds q lent payload p x     in the page that is written over the lent one, position p, of which x is answered, holds a bit of that byte of the metadata or
 --                              of the data, a bit of the parity of that block, a one of the tail, or what the lent page held in the mark
 -- part-holds                   each position of the page does
-use mathlib.Core.Path.{◌≡◌, refl, sym, ap, ◌∙◌}
-use mathlib.Core.Bool.{Bool, true, false, cond}
+use mathlib.Core.Path.{◌≡◌, ap, ◌∙◌}
+use mathlib.Core.Bool.{true}
 use mathlib.Core.List.{List, ◌++◌}
 use Prim.Native.Nat.{ℕ, ◌+◌, ◌-◌, ◌*◌, ◌/◌, ◌%◌, ◌≤◌, ◌<◌}
 use native.Mathlib.Decide.{dec_lt}
@@ -15,20 +15,18 @@ use borrow.Author.Tests.{lt-ltb, le-ltb}
 use Rattle.bits.specs.Bits.{bit_of}
 use Rattle.bits.proofs.Runs.{run_at}
 use Rattle.field.specs.Field.{degree}
-use Rattle.mark.specs.Mark.{marked, streamed}
+use Rattle.mark.specs.Mark.{streamed}
 use Rattle.layout_plan.specs.declared.Plan.{Plan}
 use Rattle.layout.specs.declared.BitAnswer.{BitAnswer}
-use Rattle.layout.specs.declared.BitAnswer.TheVariants as bit
 use Rattle.layout_plan.specs.Plan.{bits, field, level, covered, start, from, Valid}
-use Rattle.layout.specs.Bits.{block_of, exponent_at, bit_in}
-use Rattle.page_bits.proofs.Placing.{Lies, block-lies}
+use Rattle.layout.specs.Bits.{block_of, exponent_at}
+use Rattle.page_bits.proofs.Placing.{block-lies}
 use Rattle.page_bits.proofs.Inverse.{Belongs, Stands, in-mark, in_block, in_tail, bit-partition}
 use Rattle.code.specs.Generator.{parity}
 use Rattle.page_theory.specs.Page.{message, written, written_bit, page_bit}
 use Rattle.page_theory.proofs.Blocks.{message-length, written-tail}
 use Rattle.explain.specs.declared.Part.TheVariants as part
 use Rattle.explain.specs.declared.Place.{Place}
-use Rattle.explain.specs.declared.PlaceAnswer.{PlaceAnswer}
 use Rattle.explain.specs.declared.PlaceAnswer.TheVariants as answer
 use Rattle.explain.specs.Parts.{place_at, message_place, covered_place, part_by, bit_part}
 

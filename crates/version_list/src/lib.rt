@@ -22,7 +22,7 @@ pub struct Numbered {
 }
 
 // The layout of a version, if the store has it.
-#[derive(Drop)]
+#[derive(Clone, Copy)]
 pub enum Lookup {
     Found(Numbered),
     Unknown,
