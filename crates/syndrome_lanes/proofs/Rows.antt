@@ -29,7 +29,6 @@ use Rattle.field.proofs.Primitive.{primitive, usable}
 use Rattle.field.proofs.Multiply.{mul-add-left, mul-zero-left}
 use Rattle.powers.specs.Powers.{Powers}
 use Rattle.code.specs.Word.{descending}
-use Rattle.code.specs.Code.{value}
 use Rattle.code.specs.Locations.{power_sum}
 use Rattle.code.specs.Register.{register}
 use Rattle.remainder.proofs.Words.{Words, register-bit}
