@@ -1,116 +1,86 @@
-// Descriptors of files, read into buffers and written from them, as a whole. A call that a signal interrupts is made again.
+// What the tool reaches of the system, and streams of bytes, which are read into buffers and written from them as a whole. A call that
+// a signal interrupts is made again.
 //
-//   fill   reads until the buffer is full or the file ends
-//   put    writes all bytes
-//   left   the turns of such a loop
+//   System         the arguments, the files, the clock and the three standard streams
+//   Source, Sink   what is read, what is written: a standard stream, a file, or nothing
+//   fill           reads until the buffer is full or the source ends
+//   put            writes all bytes
+//   settle         what was written has reached its device
+//   left           the turns of such a loop
 //
-// Where a call fails, errno says why.
+// Where a call fails, its error says why.
 #![tactic(auto)]
 
 ghost use Rattle.std.specs.Prelude.{◌≤◌, ◌-◌};
+ghost use Rattle.std.specs.Io.{ReadsAtMost};
 
-use libc::EINTR;
+use std::env::Env;
+use std::fs::{File, Files, OpenOptions};
+use std::io::{Error, ErrorKind, Read, Stderr, Stdin, Stdout, Write};
+use std::time::Clock;
+use std::{fs, io};
+
+// The system that the tool runs on.
+pub trait System: Env + Files<File = File> + Clock {
+    fn input(&self) -> Stdin;
+
+    fn output(&self) -> Stdout;
+
+    fn errors(&self) -> Stderr;
+}
+
+impl System for HostRuntime {
+    fn input(&self) -> Stdin {
+        self.stdin()
+    }
+
+    fn output(&self) -> Stdout {
+        self.stdout()
+    }
+
+    fn errors(&self) -> Stderr {
+        self.stderr()
+    }
+}
+
+// What is read. Nothing has no bytes.
+#[derive(Clone, Copy)]
+pub enum Source<'a> {
+    Nothing,
+    Input(Stdin),
+    File(&'a File),
+}
+
+// What is written. What is put to nothing is dropped.
+#[derive(Clone, Copy)]
+pub enum Sink<'a> {
+    Nothing,
+    Output(Stdout),
+    Errors(Stderr),
+    File(&'a File),
+}
 
 // What came of reading: so many bytes are in the buffer, or a read failed.
-#[derive(Drop)]
+#[derive(Clone, Copy)]
 pub enum Filled {
     Bytes(usize),
-    Failed,
+    Failed(Error),
 }
 
-// What one call moved: so many bytes, or none because it was interrupted or failed.
-#[derive(Drop)]
-enum Moved {
-    Bytes(usize),
-    Interrupted,
-    Failed,
-}
-
-// How far a buffer is moved, whether to go on, and whether a call failed.
-#[derive(Drop)]
-struct Step {
-    at: usize,
-    more: bool,
-    failed: bool,
-}
-
-fn not_moved() -> Moved {
-    if os::errno() == EINTR {
-        return Moved::Interrupted;
+fn read_some(source: Source<'_>, buffer: &mut [u8]) -> io::Result<usize>
+    ensures { ReadsAtMost result buffer.new }
+{
+    match source {
+        Source::Nothing => Ok(0),
+        Source::Input(input) => {
+            let mut input = input;
+            input.read(buffer)
+        }
+        Source::File(file) => {
+            let mut file = file;
+            file.read(buffer)
+        }
     }
-    Moved::Failed
-}
-
-fn read_some(fd: i32, buffer: &mut [u8]) -> Moved {
-    let got = libc::read(fd, buffer);
-    if got < 0 {
-        return not_moved();
-    }
-    Moved::Bytes(io::count(got, buffer))
-}
-
-fn write_some(fd: i32, bytes: &[u8]) -> Moved {
-    let got = libc::write(fd, bytes);
-    if got < 0 {
-        return not_moved();
-    }
-    Moved::Bytes(io::count(got, bytes))
-}
-
-// The place n bytes on, and no further than the end.
-fn further(at: usize, n: usize, end: usize) -> usize {
-    if end <= at {
-        return end;
-    }
-    if end - at < n {
-        return end;
-    }
-    at + n
-}
-
-// The step that a call made, from place `at` of a buffer with so many bytes.
-fn after(moved: Moved, at: usize, end: usize) -> Step {
-    match moved {
-        Moved::Bytes(n) => Step {
-            at: further(at, n, end),
-            more: 0 < n,
-            failed: false,
-        },
-        Moved::Interrupted => Step {
-            at: at,
-            more: true,
-            failed: false,
-        },
-        Moved::Failed => Step {
-            at: at,
-            more: false,
-            failed: true,
-        },
-    }
-}
-
-fn ended(at: usize) -> Step {
-    Step {
-        at: at,
-        more: false,
-        failed: false,
-    }
-}
-
-fn read_at(fd: i32, buffer: &mut [u8], at: usize) -> Step {
-    let end = buffer.len();
-    if end <= at {
-        return ended(at);
-    }
-    after(read_some(fd, &mut buffer[at..]), at, end)
-}
-
-fn write_at(fd: i32, bytes: &[u8], at: usize) -> Step {
-    let end = bytes.len();
-    if end <= at {
-        return ended(at);
-    }
-    after(write_some(fd, &bytes[at..]), at, end)
 }
 
 // The turns of a loop that are left after one, of which there are so many that they never run out: none where there is no more to do.
@@ -126,35 +96,74 @@ pub fn left(turns: u64, more: bool) -> u64
     turns - 1
 }
 
-// Fills the buffer from place `from` on, as far as the file goes, and says how many bytes it then holds.
-pub fn fill(fd: i32, buffer: &mut [u8], from: usize) -> Filled {
-    let mut state = Step {
-        at: from,
-        more: true,
-        failed: false,
-    };
-    let mut turns = u64::MAX;
-    while 0 < turns {
-        state = read_at(fd, buffer, state.at);
-        turns = left(turns, state.more);
+// Fills the buffer from place `from` on, as far as the source goes, and says how many bytes it then holds.
+pub fn fill(source: Source<'_>, buffer: &mut [u8], from: usize) -> Filled {
+    let mut at = from;
+    for _ in 0..u64::MAX {
+        if buffer.len() <= at {
+            break;
+        }
+        match read_some(source, &mut buffer[at..]) {
+            Ok(0) => break,
+            Ok(n) => at += n,
+            Err(error) => {
+                if error.kind() != ErrorKind::Interrupted {
+                    return Filled::Failed(error);
+                }
+            }
+        }
     }
-    if state.failed {
-        return Filled::Failed;
-    }
-    Filled::Bytes(state.at)
+    Filled::Bytes(at)
 }
 
-// Writes all bytes, and says whether that is done.
-pub fn put(fd: i32, bytes: &[u8]) -> bool {
-    let mut state = Step {
-        at: 0,
-        more: true,
-        failed: false,
-    };
-    let mut turns = u64::MAX;
-    while 0 < turns {
-        state = write_at(fd, bytes, state.at);
-        turns = left(turns, state.more);
+// Writes all bytes.
+pub fn put(sink: Sink<'_>, bytes: &[u8]) -> io::Result<()> {
+    match sink {
+        Sink::Nothing => Ok(()),
+        Sink::Output(output) => {
+            let mut output = output;
+            output.write_all(bytes)
+        }
+        Sink::Errors(errors) => {
+            let mut errors = errors;
+            errors.write_all(bytes)
+        }
+        Sink::File(file) => {
+            let mut file = file;
+            file.write_all(bytes)
+        }
     }
-    state.at == bytes.len()
+}
+
+fn settle_file(file: &File) -> io::Result<()> {
+    if !file.metadata()?.is_file() {
+        return Ok(());
+    }
+    file.sync_all()
+}
+
+// Standard output has no such call of its own. Where it is a file, that is opened once more.
+fn settle_output<R: System>(rt: &R) -> io::Result<()> {
+    let name = "/proc/self/fd/1";
+    let Ok(metadata) = fs::metadata(rt, name) else {
+        return Ok(());
+    };
+    if !metadata.is_file() {
+        return Ok(());
+    }
+    match OpenOptions::new().write(true).open(rt, name) {
+        Ok(file) => settle_file(&file),
+        Err(_) => Ok(()),
+    }
+}
+
+// What was written has reached its device, where it went to a file: a write that is late may fail only then. A pipe or a terminal
+// keeps nothing back.
+pub fn settle<R: System>(rt: &R, sink: Sink<'_>) -> io::Result<()> {
+    match sink {
+        Sink::Nothing => Ok(()),
+        Sink::Output(_) => settle_output(rt),
+        Sink::Errors(_) => Ok(()),
+        Sink::File(file) => settle_file(file),
+    }
 }

@@ -4,16 +4,20 @@
 //   parse_bytes       bytes in hexadecimal, two digits each
 //   hex_byte          a byte in hexadecimal
 //   layout_record     the layout record of three words
+//   decimal           a number in decimal digits
 //   plus, times, larger   of two numbers
 //   natural           a number that is not below 0
 //   without_prefix    the digits after 0x
 //   index_of          the number of a word in a list
 //   put, put_all      bytes onto a buffer
 //   front, front_mut, front_words, front_exponents   the first places of a buffer
+//   buffer, large_buffer, same   buffers of zeros, and whether two hold the same
 //
 // No public function asks anything of its caller.
 #![tactic(auto)]
 
+mod buffers;
+mod decimals;
 mod digits;
 mod hex;
 mod lines;
@@ -21,6 +25,8 @@ mod pairs;
 mod parts;
 mod words;
 
+pub use buffers::{buffer, large_buffer, same};
+pub use decimals::decimal;
 pub use digits::{parse_number, without_prefix};
 pub use hex::hex_byte;
 pub use lines::{put, put_all};
