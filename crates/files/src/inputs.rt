@@ -1,31 +1,54 @@
 // Files that are read.
 use crate::is_dash;
-use libc::{SEEK_CUR, SEEK_END, SEEK_SET, STDIN_FILENO};
-use streams::Filled;
+use crate::names::text_of;
+use std::fs::File;
+use std::io::{Error, Seek, SeekFrom, Stdin};
+use std::{fs, io};
+use streams::{Filled, Source, System};
+
+// A file that is read.
+#[derive(Drop)]
+pub enum Input {
+    Standard(Stdin),
+    File(File),
+}
 
 // How many pages are left, where that is known.
-#[derive(Drop)]
+#[derive(Clone, Copy)]
 pub enum Known {
     Pages(u64),
     Unknown,
 }
 
-// Opens a file for reading: its descriptor, below 0 where an error was printed. A dash is standard input.
-pub fn input(out: &mut [u8; 32768], path: &[u8]) -> i32 {
-    if is_dash(path) {
-        return STDIN_FILENO;
-    }
-    let fd = os::open_read(path);
-    if fd < 0 {
-        say::bad_file(out, path);
-    }
-    fd
+// Opens a file for reading.
+pub fn open_read<R: System>(rt: &R, path: &[u8]) -> io::Result<File> {
+    fs::open(rt, text_of(path)?)
 }
 
-pub fn close_input(fd: i32) {
-    if 0 < fd {
-        libc::close(fd);
+// Opens a file for reading: none where an error was printed. A dash is standard input.
+pub fn input<R: System>(rt: &R, out: &mut [u8; 32768], path: &[u8]) -> Option<Input> {
+    if is_dash(path) {
+        return Some(Input::Standard(rt.input()));
     }
+    match open_read(rt, path) {
+        Ok(file) => Some(Input::File(file)),
+        Err(error) => {
+            say::bad_file(rt, out, path, error);
+            None
+        }
+    }
+}
+
+// What is read of it.
+pub fn source(input: &Input) -> Source<'_> {
+    match input {
+        Input::Standard(input) => Source::Input(*input),
+        Input::File(file) => Source::File(file),
+    }
+}
+
+pub fn close_input(input: Input) {
+    drop(input);
 }
 
 // The number of pages of `size` bytes in so many bytes, the last one cut short or not.
@@ -39,43 +62,102 @@ fn pages_in(bytes: u64, size: u16) -> u64 {
     text::plus((bytes - 1) / size as u64, 1)
 }
 
-// How many pages a file has from its position on. A pipe has no position.
-pub fn pages_left(fd: i32, size: u16) -> Known {
-    let here = libc::lseek(fd, 0, SEEK_CUR);
-    if here < 0 {
-        return Known::Unknown;
-    }
-    let last = libc::lseek(fd, 0, SEEK_END);
-    libc::lseek(fd, here, SEEK_SET);
-    let a = text::natural(here);
-    let b = text::natural(last);
-    if b < a {
+// How many pages stand between two positions of a file.
+fn pages_between(here: u64, last: u64, size: u16) -> Known {
+    if last < here {
         return Known::Pages(0);
     }
-    Known::Pages(pages_in(b - a, size))
+    Known::Pages(pages_in(last - here, size))
 }
 
-// What came of passing over pages: there are so many and more, there are not, or reading failed, and errno says why.
+// The position and the end of a file. A pipe has no position.
+fn positions(file: &File) -> io::Result<(u64, u64)> {
+    let mut file = file;
+    let here = file.seek(SeekFrom::Current(0))?;
+    let last = file.seek(SeekFrom::End(0)).unwrap_or(0);
+    let _ = file.seek(SeekFrom::Start(here));
+    Ok((here, last))
+}
+
+// The number that the first of these bytes after the blanks say in decimal digits.
+fn leading(bytes: &[u8]) -> u64 {
+    let mut v: u64 = 0;
+    let mut begun = false;
+    for b in bytes {
+        if b'0' <= *b && *b <= b'9' {
+            v = text::plus(text::times(v, 10), (*b - b'0') as u64);
+            begun = true;
+        } else if begun {
+            break;
+        }
+    }
+    v
+}
+
+// The position and the end of standard input, where it is a file. The system says the position in its lines about what is open, the
+// first of which begins with `pos:`.
+fn input_positions<R: System>(rt: &R) -> io::Result<(u64, u64)> {
+    let metadata = fs::metadata(rt, "/proc/self/fd/0")?;
+    if !metadata.is_file() {
+        return Err(Error::from(io::ErrorKind::NotSeekable));
+    }
+    let lines = fs::open(rt, "/proc/self/fdinfo/0")?;
+    let mut bytes = [0u8; 64];
+    match streams::fill(Source::File(&lines), &mut bytes, 0) {
+        Filled::Bytes(_) => Ok((leading(&bytes), metadata.len())),
+        Filled::Failed(error) => Err(error),
+    }
+}
+
+fn positions_of<R: System>(rt: &R, source: Source<'_>) -> io::Result<(u64, u64)> {
+    match source {
+        Source::Nothing => Ok((0, 0)),
+        Source::Input(_) => input_positions(rt),
+        Source::File(file) => positions(file),
+    }
+}
+
+// How many pages a file has from its position on. A pipe has no position.
+pub fn pages_left<R: System>(rt: &R, source: Source<'_>, size: u16) -> Known {
+    match positions_of(rt, source) {
+        Ok((here, last)) => pages_between(here, last, size),
+        Err(_) => Known::Unknown,
+    }
+}
+
+// What came of passing over pages: there are so many and more, there are not, or reading failed.
 #[derive(Clone, Copy)]
 pub enum Passed {
     All,
     Short,
-    Failed,
+    Failed(Error),
+}
+
+// Passes over a page of a file by its position, where it has one.
+fn is_passed(source: Source<'_>, size: u16) -> bool {
+    match source {
+        Source::Nothing => false,
+        Source::Input(_) => false,
+        Source::File(file) => {
+            let mut file = file;
+            file.seek(SeekFrom::Current(i64::from(size))).is_ok()
+        }
+    }
 }
 
 // Passes over a page of a file, by its position where it has one, else by reading.
-fn pass_one(fd: i32, page: &mut [u8], size: u16) -> Passed {
-    if libc::lseek(fd, size as i64, SEEK_CUR) >= 0 {
+fn pass_one(source: Source<'_>, page: &mut [u8], size: u16) -> Passed {
+    if is_passed(source, size) {
         return Passed::All;
     }
-    match streams::fill(fd, page, 0) {
+    match streams::fill(source, page, 0) {
         Filled::Bytes(n) => {
             if n == size as usize {
                 return Passed::All;
             }
             Passed::Short
         }
-        Filled::Failed => Passed::Failed,
+        Filled::Failed(error) => Passed::Failed(error),
     }
 }
 
@@ -90,20 +172,27 @@ fn is_all(passed: Passed) -> bool {
     match passed {
         Passed::All => true,
         Passed::Short => false,
-        Passed::Failed => false,
+        Passed::Failed(_) => false,
     }
 }
 
 // Passes over so many pages, each as long as the buffer.
-pub fn pass(fd: i32, page: &mut [u8], size: u16, count: u64) -> Passed {
-    if !enough(pages_left(fd, size), count) {
+pub fn pass<R: System>(
+    rt: &R,
+    source: Source<'_>,
+    page: &mut [u8],
+    size: u16,
+    count: u64,
+) -> Passed {
+    if !enough(pages_left(rt, source, size), count) {
         return Passed::Short;
     }
     let mut passed = Passed::All;
-    let mut left = count;
-    while 0 < left {
-        passed = pass_one(fd, page, size);
-        left = streams::left(left, is_all(passed));
+    for _ in 0..count {
+        passed = pass_one(source, page, size);
+        if !is_all(passed) {
+            break;
+        }
     }
     passed
 }

@@ -1,10 +1,21 @@
 // Files that are written.
 use crate::is_dash;
-use libc::{ENOENT, STDOUT_FILENO};
+use crate::names::{beside, text_of};
+use std::fs::{File, OpenOptions};
+use std::io::{Error, ErrorKind, Stdout};
+use std::{fs, io};
+use streams::{Sink, System};
+
+// A file that is written.
+#[derive(Drop)]
+pub enum Output {
+    Standard(Stdout),
+    File(File),
+}
 
 // Whether a file is written as it is, and not by a new one: what lies below /dev/.
 pub fn is_direct(path: &[u8]) -> bool {
-    check::same(text::front(path, 5), b"/dev/")
+    text::same(text::front(path, 5), b"/dev/")
 }
 
 // Whether nothing is to be put in place for this output: standard output, one that is not wanted or one that is direct.
@@ -15,93 +26,97 @@ fn needs_no_place(path: &[u8]) -> bool {
     is_direct(path)
 }
 
-// The name PATH.N and an ending. A name that is too long for a path is made too long, and refused by the system.
-fn beside(path: &[u8], n: u64, ending: &[u8], name: &mut [u8]) -> usize {
-    let mut digits = [0u8; 20];
-    let k = io::decimal(n, &mut digits);
-    let a = text::put_all(name, 0, path);
-    let b = text::put_all(name, a, b".");
-    let c = text::put_all(name, b, &digits[..k]);
-    text::put_all(name, c, ending)
+// Creates a file, where no file has its name.
+fn create_new<R: System>(rt: &R, path: &[u8]) -> io::Result<File> {
+    OpenOptions::new()
+        .write(true)
+        .create_new(true)
+        .open(rt, text_of(path)?)
 }
 
-fn create(path: &[u8], n: u64) -> i32 {
-    let mut name = io::buffer();
+fn rename<R: System>(rt: &R, from: &[u8], to: &[u8]) -> io::Result<()> {
+    fs::rename(rt, text_of(from)?, text_of(to)?)
+}
+
+fn remove<R: System>(rt: &R, path: &[u8]) -> io::Result<()> {
+    fs::remove_file(rt, text_of(path)?)
+}
+
+fn create<R: System>(rt: &R, path: &[u8], n: u64) -> io::Result<File> {
+    let mut name = text::buffer();
     let end = beside(path, n, b".part", &mut name);
-    os::create(text::front(&name, end))
+    create_new(rt, text::front(&name, end))
 }
 
-fn opened(path: &[u8], n: u64) -> i32 {
+fn opened<R: System>(rt: &R, path: &[u8], n: u64) -> io::Result<File> {
     if is_direct(path) {
-        return os::open_overwrite(path);
+        return fs::create(rt, text_of(path)?);
     }
-    create(path, n)
+    create(rt, path, n)
 }
 
-// Begins an output: its descriptor, below 0 where an error was printed. A dash is standard output.
-pub fn begin(out: &mut [u8; 32768], path: &[u8], n: u64) -> i32 {
+// Begins an output: none where an error was printed. A dash is standard output.
+pub fn begin<R: System>(rt: &R, out: &mut [u8; 32768], path: &[u8], n: u64) -> Option<Output> {
     if is_dash(path) {
-        return STDOUT_FILENO;
+        return Some(Output::Standard(rt.output()));
     }
-    let fd = opened(path, n);
-    if fd < 0 {
-        say::bad_output(out, path);
+    match opened(rt, path, n) {
+        Ok(file) => Some(Output::File(file)),
+        Err(error) => {
+            say::bad_output(rt, out, path, error);
+            None
+        }
     }
-    fd
 }
 
-// What was written has reached its device, where it is a file of its own.
-fn synced(fd: i32, path: &[u8]) -> bool {
-    if needs_no_place(path) {
-        return true;
+// What is written of it.
+pub fn sink(output: &Output) -> Sink<'_> {
+    match output {
+        Output::Standard(output) => Sink::Output(*output),
+        Output::File(file) => Sink::File(file),
     }
-    libc::fsync(fd) == 0
 }
 
-// Ends an output that is whole, and says whether that is done. A descriptor below 0 is no output.
-pub fn end(out: &mut [u8; 32768], fd: i32, path: &[u8]) -> bool {
-    if fd < 0 {
-        return true;
+// Ends an output that is whole, and says whether that is done: what was written has reached its device, where it is a file.
+pub fn end<R: System>(rt: &R, out: &mut [u8; 32768], sink: Sink<'_>, path: &[u8]) -> bool {
+    match streams::settle(rt, sink) {
+        Ok(()) => true,
+        Err(error) => {
+            say::bad_output(rt, out, path, error);
+            false
+        }
     }
-    if !synced(fd, path) {
-        say::bad_output(out, path);
-        libc::close(fd);
-        return false;
-    }
-    if libc::close(fd) != 0 {
-        say::bad_output(out, path);
-        return false;
-    }
-    true
 }
 
 // Drops what was begun.
-pub fn drop_new(path: &[u8], n: u64) {
+pub fn drop_new<R: System>(rt: &R, path: &[u8], n: u64) {
     if needs_no_place(path) {
         return;
     }
-    let mut name = io::buffer();
+    let mut name = text::buffer();
     let end = beside(path, n, b".part", &mut name);
-    os::unlink(text::front(&name, end));
+    let _ = remove(rt, text::front(&name, end));
 }
 
-fn renamed(path: &[u8], n: u64) -> bool {
-    let mut name = io::buffer();
+fn renamed<R: System>(rt: &R, path: &[u8], n: u64) -> io::Result<()> {
+    let mut name = text::buffer();
     let end = beside(path, n, b".part", &mut name);
-    os::rename(text::front(&name, end), path) == 0
+    rename(rt, text::front(&name, end), path)
 }
 
 // Puts an output that was ended in its place, and says whether that is done.
-pub fn place(out: &mut [u8; 32768], path: &[u8], n: u64) -> bool {
+pub fn place<R: System>(rt: &R, out: &mut [u8; 32768], path: &[u8], n: u64) -> bool {
     if needs_no_place(path) {
         return true;
     }
-    if renamed(path, n) {
-        return true;
+    match renamed(rt, path, n) {
+        Ok(()) => true,
+        Err(error) => {
+            say::bad_output(rt, out, path, error);
+            drop_new(rt, path, n);
+            false
+        }
     }
-    say::bad_output(out, path);
-    drop_new(path, n);
-    false
 }
 
 // What came of keeping the file that has the place: it is kept as PATH.N.old, there was none, or it could not be renamed.
@@ -109,70 +124,69 @@ pub fn place(out: &mut [u8; 32768], path: &[u8], n: u64) -> bool {
 enum Kept {
     Old,
     Nothing,
-    Failed,
+    Failed(Error),
 }
 
 // Keeps a file under another name, which is taken already by an empty file.
-fn keep_as(path: &[u8], name: &[u8]) -> Kept {
-    if os::rename(path, name) == 0 {
-        return Kept::Old;
+fn keep_as<R: System>(rt: &R, path: &[u8], name: &[u8]) -> Kept {
+    match rename(rt, path, name) {
+        Ok(()) => Kept::Old,
+        Err(error) => {
+            let _ = remove(rt, name);
+            if error.kind() == ErrorKind::NotFound {
+                return Kept::Nothing;
+            }
+            Kept::Failed(error)
+        }
     }
-    let error = os::errno();
-    os::unlink(name);
-    if error == ENOENT {
-        return Kept::Nothing;
-    }
-    Kept::Failed
 }
 
 // Keeps the file that has the place, where no file has the name that it is kept by.
-fn keep_old(path: &[u8], n: u64) -> Kept {
-    let mut name = io::buffer();
+fn keep_old<R: System>(rt: &R, path: &[u8], n: u64) -> Kept {
+    let mut name = text::buffer();
     let end = beside(path, n, b".old", &mut name);
-    let fd = os::create(text::front(&name, end));
-    if fd < 0 {
-        return Kept::Failed;
+    match create_new(rt, text::front(&name, end)) {
+        Ok(_) => keep_as(rt, path, text::front(&name, end)),
+        Err(error) => Kept::Failed(error),
     }
-    libc::close(fd);
-    keep_as(path, text::front(&name, end))
 }
 
-fn put_back(path: &[u8], n: u64) {
-    let mut name = io::buffer();
+fn put_back<R: System>(rt: &R, path: &[u8], n: u64) {
+    let mut name = text::buffer();
     let end = beside(path, n, b".old", &mut name);
-    os::rename(text::front(&name, end), path);
+    let _ = rename(rt, text::front(&name, end), path);
 }
 
-fn drop_old(path: &[u8], n: u64) {
-    let mut name = io::buffer();
+fn drop_old<R: System>(rt: &R, path: &[u8], n: u64) {
+    let mut name = text::buffer();
     let end = beside(path, n, b".old", &mut name);
-    os::unlink(text::front(&name, end));
+    let _ = remove(rt, text::front(&name, end));
 }
 
 // The end of placing several, of which the first has its place: the file that had it is dropped where the others have theirs too, and
 // put back where not.
-fn settle(first: &[u8], n: u64, kept: bool, all: bool) -> bool {
+fn settle<R: System>(rt: &R, first: &[u8], n: u64, kept: bool, all: bool) -> bool {
     if all {
         if kept {
-            drop_old(first, n);
+            drop_old(rt, first, n);
         }
         return true;
     }
     if kept {
-        put_back(first, n);
+        put_back(rt, first, n);
     } else {
-        os::unlink(first);
+        let _ = remove(rt, first);
     }
     false
 }
 
 // Puts an output in place where a file that has it was kept or there is none, and that file back where this fails.
-fn place_kept(out: &mut [u8; 32768], path: &[u8], n: u64, kept: bool) -> bool {
-    if place(out, path, n) {
+fn place_kept<R: System>(rt: &R, out: &mut [u8; 32768], path: &[u8], n: u64, kept: bool) -> bool {
+    if place(rt, out, path, n) {
         return true;
     }
     if kept {
-        put_back(path, n);
+        put_back(rt, path, n);
     }
     false
 }
@@ -184,51 +198,64 @@ enum Ready {
     Not,
 }
 
-fn make_ready(out: &mut [u8; 32768], path: &[u8], n: u64) -> Ready {
-    match keep_old(path, n) {
+fn make_ready<R: System>(rt: &R, out: &mut [u8; 32768], path: &[u8], n: u64) -> Ready {
+    match keep_old(rt, path, n) {
         Kept::Old => Ready::Kept(true),
         Kept::Nothing => Ready::Kept(false),
-        Kept::Failed => {
-            say::bad_output(out, path);
-            drop_new(path, n);
+        Kept::Failed(error) => {
+            say::bad_output(rt, out, path, error);
+            drop_new(rt, path, n);
             Ready::Not
         }
     }
 }
 
 // Puts two outputs in place, both or neither, and says whether that is done.
-pub fn place_both(out: &mut [u8; 32768], first: &[u8], second: &[u8], n: u64) -> bool {
+pub fn place_both<R: System>(
+    rt: &R,
+    out: &mut [u8; 32768],
+    first: &[u8],
+    second: &[u8],
+    n: u64,
+) -> bool {
     if needs_no_place(first) {
-        return place(out, second, n);
+        return place(rt, out, second, n);
     }
     if needs_no_place(second) {
-        return place(out, first, n);
+        return place(rt, out, first, n);
     }
-    let Ready::Kept(kept) = make_ready(out, first, n) else {
-        drop_new(second, n);
+    let Ready::Kept(kept) = make_ready(rt, out, first, n) else {
+        drop_new(rt, second, n);
         return false;
     };
-    if !place_kept(out, first, n, kept) {
-        drop_new(second, n);
+    if !place_kept(rt, out, first, n, kept) {
+        drop_new(rt, second, n);
         return false;
     }
-    settle(first, n, kept, place(out, second, n))
+    settle(rt, first, n, kept, place(rt, out, second, n))
 }
 
 // Puts three outputs in place, all or none, and says whether that is done.
-pub fn place_all(out: &mut [u8; 32768], first: &[u8], second: &[u8], third: &[u8], n: u64) -> bool {
+pub fn place_all<R: System>(
+    rt: &R,
+    out: &mut [u8; 32768],
+    first: &[u8],
+    second: &[u8],
+    third: &[u8],
+    n: u64,
+) -> bool {
     if needs_no_place(first) {
-        return place_both(out, second, third, n);
+        return place_both(rt, out, second, third, n);
     }
-    let Ready::Kept(kept) = make_ready(out, first, n) else {
-        drop_new(second, n);
-        drop_new(third, n);
+    let Ready::Kept(kept) = make_ready(rt, out, first, n) else {
+        drop_new(rt, second, n);
+        drop_new(rt, third, n);
         return false;
     };
-    if !place_kept(out, first, n, kept) {
-        drop_new(second, n);
-        drop_new(third, n);
+    if !place_kept(rt, out, first, n, kept) {
+        drop_new(rt, second, n);
+        drop_new(rt, third, n);
         return false;
     }
-    settle(first, n, kept, place_both(out, second, third, n))
+    settle(rt, first, n, kept, place_both(rt, out, second, third, n))
 }

@@ -3,7 +3,7 @@
 // An answer is gathered in a buffer that every function here is lent, and written by one call when it is whole:
 //   bytes 0 and 1   how many bytes of text it holds
 //   byte 2          the exit status so far: 0, the first other reply, or the number of an error
-//   byte 3          the descriptor that the text goes to; 0 where writing it failed
+//   byte 3          where the text goes: 1 to standard output, 2 to standard error; 0 where writing it failed
 //   from byte 8 on  the text
 //
 //   new, flush, forget, to_stderr   a buffer; its text written, dropped, or sent to standard error
@@ -14,7 +14,7 @@
 //   reply, meaning                  the start of an answer, and what a reply says
 //   length, page_refused, ruined    what is wrong with a page
 //   error, bad_argument, bad_file, bad_output   an error's line on standard error
-//   close                           standard output closed, which may fail as well
+//   close                           standard output settled, which may fail as well
 #![tactic(auto)]
 
 mod errors;
@@ -23,8 +23,9 @@ mod pages;
 ghost use Rattle.std.specs.Prelude.{◌≡◌, ◌≤◌, length as List·length};
 
 pub use errors::{bad_argument, bad_file, bad_output, error};
-use libc::{STDERR_FILENO, STDOUT_FILENO};
 pub use pages::{length, page_number, page_refused, ruined};
+use std::io::Error;
+use streams::{Sink, System};
 
 // The exit status of an error in the arguments, and that of a file that fails. Neither is a reply.
 pub const USAGE: u8 = 64;
@@ -76,16 +77,16 @@ pub fn fail(out: &mut [u8; 32768], status: u8) {
     out[2] = status;
 }
 
-fn broken(out: &mut [u8; 32768]) {
+fn broken<R: System>(rt: &R, out: &mut [u8; 32768], error: Error) {
     out[3] = 0;
-    bad_output(out, b"-");
+    bad_output(rt, out, b"-", error);
 }
 
-fn descriptor(b: u8) -> i32 {
+fn sink<R: System>(rt: &R, b: u8) -> Sink<'static> {
     if b == 1 {
-        return STDOUT_FILENO;
+        return Sink::Output(rt.output());
     }
-    STDERR_FILENO
+    Sink::Errors(rt.errors())
 }
 
 // What stands after the head.
@@ -103,23 +104,23 @@ pub fn text(out: &[u8; 32768]) -> &[u8] {
 }
 
 // Writes the text. Where that fails an error is printed, and nothing is written from then on.
-pub fn flush(out: &mut [u8; 32768]) {
+pub fn flush<R: System>(rt: &R, out: &mut [u8; 32768]) {
     let n = held(out);
-    let fd = out[3];
+    let place = out[3];
     hold(out, 0);
-    if fd == 0 {
+    if place == 0 {
         return;
     }
-    if !streams::put(descriptor(fd), text::front(body(out), n)) {
-        broken(out);
+    if let Err(error) = streams::put(sink(rt, place), text::front(body(out), n)) {
+        broken(rt, out, error);
     }
 }
 
-// Closes standard output, where the text goes to it.
-pub fn close(out: &mut [u8; 32768]) {
+// The end of standard output, where the text goes to it: what was written has reached the file that it is.
+pub fn close<R: System>(rt: &R, out: &mut [u8; 32768]) {
     if out[3] == 1 {
-        if libc::close(STDOUT_FILENO) != 0 {
-            broken(out);
+        if let Err(error) = streams::settle(rt, Sink::Output(rt.output())) {
+            broken(rt, out, error);
         }
     }
 }
@@ -134,7 +135,7 @@ pub fn put(out: &mut [u8; 32768], bytes: &[u8]) {
 
 pub fn number(out: &mut [u8; 32768], n: u64) {
     let mut digits = [0u8; 20];
-    let k = io::decimal(n, &mut digits);
+    let k = text::decimal(n, &mut digits);
     put(out, &digits[..k]);
 }
 
@@ -160,10 +161,8 @@ fn sign(out: &mut [u8; 32768], c: u8, numbers: &[u64], k: usize) -> usize {
 // A text with numbers in it: each `#` of the form stands for the next of them.
 pub fn facts(out: &mut [u8; 32768], form: &[u8], numbers: &[u64]) {
     let mut k = 0;
-    let mut i = 0;
-    while i < form.len() {
-        k = sign(out, form[i], numbers, k);
-        i += 1;
+    for c in form {
+        k = sign(out, *c, numbers, k);
     }
 }
 
@@ -181,10 +180,8 @@ fn part(out: &mut [u8; 32768], c: u8, at: u64, k: u64) -> u64 {
 // Text k of several, counted from 0, with `|` between one and the next.
 pub fn one_of(out: &mut [u8; 32768], texts: &[u8], k: u64) {
     let mut at = 0;
-    let mut i = 0;
-    while i < texts.len() {
-        at = part(out, texts[i], at, k);
-        i += 1;
+    for c in texts {
+        at = part(out, *c, at, k);
     }
 }
 
