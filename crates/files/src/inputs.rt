@@ -8,7 +8,7 @@ use streams::{Filled, Source, System};
 
 // A file that is read.
 #[derive(Drop)]
-pub enum Input {
+pub enum Reading {
     Standard(Stdin),
     File(File),
 }
@@ -26,12 +26,12 @@ pub fn open_read<R: System>(rt: &R, path: &[u8]) -> io::Result<File> {
 }
 
 // Opens a file for reading: none where an error was printed. A dash is standard input.
-pub fn input<R: System>(rt: &R, out: &mut [u8; 32768], path: &[u8]) -> Option<Input> {
+pub fn input<R: System>(rt: &R, out: &mut [u8; 32768], path: &[u8]) -> Option<Reading> {
     if is_dash(path) {
-        return Some(Input::Standard(rt.input()));
+        return Some(Reading::Standard(rt.input()));
     }
     match open_read(rt, path) {
-        Ok(file) => Some(Input::File(file)),
+        Ok(file) => Some(Reading::File(file)),
         Err(error) => {
             say::bad_file(rt, out, path, error);
             None
@@ -40,14 +40,14 @@ pub fn input<R: System>(rt: &R, out: &mut [u8; 32768], path: &[u8]) -> Option<In
 }
 
 // What is read of it.
-pub fn source(input: &Input) -> Source<'_> {
+pub fn source(input: &Reading) -> Source<'_> {
     match input {
-        Input::Standard(input) => Source::Input(*input),
-        Input::File(file) => Source::File(file),
+        Reading::Standard(input) => Source::Input(*input),
+        Reading::File(file) => Source::File(file),
     }
 }
 
-pub fn close_input(input: Input) {
+pub fn close_input(input: Reading) {
     drop(input);
 }
 

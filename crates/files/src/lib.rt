@@ -16,8 +16,8 @@ mod inputs;
 mod names;
 mod outputs;
 
-pub use inputs::{Input, Known, Passed, close_input, input, open_read, pages_left, pass, source};
-pub use outputs::{Output, begin, drop_new, end, is_direct, place, place_all, place_both, sink};
+pub use inputs::{Known, Passed, Reading, close_input, input, open_read, pages_left, pass, source};
+pub use outputs::{Writing, begin, drop_new, end, is_direct, place, place_all, place_both, sink};
 
 // Whether a name is a dash.
 pub fn is_dash(path: &[u8]) -> bool {

@@ -8,7 +8,7 @@ use streams::{Sink, System};
 
 // A file that is written.
 #[derive(Drop)]
-pub enum Output {
+pub enum Writing {
     Standard(Stdout),
     File(File),
 }
@@ -56,12 +56,12 @@ fn opened<R: System>(rt: &R, path: &[u8], n: u64) -> io::Result<File> {
 }
 
 // Begins an output: none where an error was printed. A dash is standard output.
-pub fn begin<R: System>(rt: &R, out: &mut [u8; 32768], path: &[u8], n: u64) -> Option<Output> {
+pub fn begin<R: System>(rt: &R, out: &mut [u8; 32768], path: &[u8], n: u64) -> Option<Writing> {
     if is_dash(path) {
-        return Some(Output::Standard(rt.output()));
+        return Some(Writing::Standard(rt.output()));
     }
     match opened(rt, path, n) {
-        Ok(file) => Some(Output::File(file)),
+        Ok(file) => Some(Writing::File(file)),
         Err(error) => {
             say::bad_output(rt, out, path, error);
             None
@@ -70,10 +70,10 @@ pub fn begin<R: System>(rt: &R, out: &mut [u8; 32768], path: &[u8], n: u64) -> O
 }
 
 // What is written of it.
-pub fn sink(output: &Output) -> Sink<'_> {
+pub fn sink(output: &Writing) -> Sink<'_> {
     match output {
-        Output::Standard(output) => Sink::Output(*output),
-        Output::File(file) => Sink::File(file),
+        Writing::Standard(output) => Sink::Output(*output),
+        Writing::File(file) => Sink::File(file),
     }
 }
 
