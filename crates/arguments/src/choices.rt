@@ -1,6 +1,7 @@
 // The options after a command.
 use crate::numbers::{WORD, at_most, low};
-use crate::{command, place};
+use crate::{argument, command, place};
+use streams::System;
 use text::Number;
 
 // Options that a command may take, as bits of a set: --from and --pages, --page, --quiet, --stdout, --raw, --mark, --edition, --map.
@@ -127,51 +128,64 @@ fn most(choice: u16) -> u64 {
     u64::MAX
 }
 
-fn taken(out: &mut [u8; 32768], options: Options, choice: u16, name: &[u8]) -> Options {
+fn taken<R: System>(
+    rt: &R,
+    out: &mut [u8; 32768],
+    options: Options,
+    choice: u16,
+    name: &[u8],
+) -> Options {
     if choice & NUMBERED == 0 {
         return moved(with(options, choice, 0), 1);
     }
-    match at_most(out, place(options.at, 1), name, most(choice)) {
+    match at_most(rt, out, place(options.at, 1), name, most(choice)) {
         Number::Is(v) => moved(with(options, choice, v), 2),
         Number::Bad => bad(options),
     }
 }
 
 // Whether an option is among those allowed and was not given before; an error is printed where not.
-fn may_follow(out: &mut [u8; 32768], choice: u16, given: u16, allowed: u16, name: &[u8]) -> bool {
+fn may_follow<R: System>(
+    rt: &R,
+    out: &mut [u8; 32768],
+    choice: u16,
+    given: u16,
+    allowed: u16,
+    name: &[u8],
+) -> bool {
     if choice & allowed == 0 {
-        say::bad_argument(out, b"option", name, b"is none of this command's");
+        say::bad_argument(rt, out, b"option", name, b"is none of this command's");
         return false;
     }
     if choice & given != 0 {
-        say::bad_argument(out, b"option", name, b"is given twice");
+        say::bad_argument(rt, out, b"option", name, b"is given twice");
         return false;
     }
     true
 }
 
 // Takes the option at the next place.
-fn next(out: &mut [u8; 32768], options: Options, allowed: u16) -> Options {
-    let mut name = io::buffer();
-    let n = os::arg(options.at, &mut name);
+fn next<R: System>(rt: &R, out: &mut [u8; 32768], options: Options, allowed: u16) -> Options {
+    let mut name = text::buffer();
+    let n = argument(rt, options.at, &mut name);
     let choice = bit_of(&name[..n]);
-    if !may_follow(out, choice, options.given, allowed, &name[..n]) {
+    if !may_follow(rt, out, choice, options.given, allowed, &name[..n]) {
         return bad(options);
     }
-    taken(out, options, choice, &name[..n])
+    taken(rt, out, options, choice, &name[..n])
 }
 
 // Whether argument i starts with two dashes.
-fn is_option(i: usize) -> bool {
-    let mut given = io::buffer();
-    os::arg(i, &mut given);
-    check::same(text::front(&given, 2), b"--")
+fn is_option<R: System>(rt: &R, i: usize) -> bool {
+    let mut given = text::buffer();
+    argument(rt, i, &mut given);
+    text::same(text::front(&given, 2), b"--")
 }
 
 // The options between the command and its arguments, of which only those allowed may be given.
-pub fn find_options(out: &mut [u8; 32768], allowed: u16) -> Options {
+pub fn find_options<R: System>(rt: &R, out: &mut [u8; 32768], allowed: u16) -> Options {
     let mut options = Options {
-        at: place(command(), 1),
+        at: place(command(rt), 1),
         ranged: false,
         from: 0,
         pages: u64::MAX,
@@ -186,16 +200,14 @@ pub fn find_options(out: &mut [u8; 32768], allowed: u16) -> Options {
         given: 0,
         good: true,
     };
-    let mut turns: u64 = 16;
-    while 0 < turns {
-        if !is_option(options.at) {
+    for _ in 0..16 {
+        if !is_option(rt, options.at) {
             break;
         }
-        options = next(out, options, allowed);
+        options = next(rt, out, options, allowed);
         if !options.good {
             break;
         }
-        turns -= 1;
     }
     options
 }
