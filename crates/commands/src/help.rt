@@ -1,7 +1,10 @@
 // The help.
 
-pub fn unknown(out: &mut [u8; 32768]) {
+use streams::System;
+
+pub fn unknown<R: System>(rt: &R, out: &mut [u8; 32768]) {
     say::error(
+        rt,
         out,
         b"the commands are layout, bits, write, read, look, salvage, compare, judge, explain, claim, locate and fragments; nandpage --help says more",
     );

@@ -7,6 +7,9 @@
 
 pub mod help;
 
+use std::fs::OpenOptions;
+use streams::{Sink, System};
+
 // What the first argument asks for.
 #[derive(Drop)]
 pub enum Command {
@@ -49,28 +52,30 @@ fn command_of(name: &[u8]) -> Command {
 }
 
 // What argument i asks for.
-fn command_at(i: usize) -> Command {
+fn command_at<R: System>(rt: &R, i: usize) -> Command {
     let mut name = [0u8; 16];
-    let n = os::arg(i, &mut name);
+    let n = arguments::argument(rt, i, &mut name);
     command_of(&name[..n])
 }
 
 // The command, or the help where it is asked for after the command.
-pub fn asked(i: usize) -> Command {
+pub fn asked<R: System>(rt: &R, i: usize) -> Command {
     let mut name = [0u8; 16];
-    let n = os::arg(arguments::place(i, 1), &mut name);
-    if check::same(&name[..n], b"--help") {
+    let n = arguments::argument(rt, arguments::place(i, 1), &mut name);
+    if text::same(&name[..n], b"--help") {
         return Command::Help;
     }
-    command_at(i)
+    command_at(rt, i)
 }
 
-// Tells the script the exit status.
-pub fn tell(status: u8) {
-    if !arguments::scripted() {
+// Tells the script the exit status, by the pipe that it has opened as descriptor 9.
+pub fn tell<R: System>(rt: &R, status: u8) {
+    if !arguments::scripted(rt) {
         return;
     }
     let mut digits = [0u8; 20];
-    let k = io::decimal(status as u64, &mut digits);
-    streams::put(9, &digits[..k]);
+    let k = text::decimal(status as u64, &mut digits);
+    if let Ok(script) = OpenOptions::new().write(true).open(rt, "/proc/self/fd/9") {
+        let _ = streams::put(Sink::File(&script), &digits[..k]);
+    }
 }

@@ -5,13 +5,16 @@
 //   summary                the last line of a comparison of dumps
 #![tactic(auto)]
 
-// The descriptors of the two files, the second below 0 where there is none; the edition; the number of the first page, how many pages to
+use std::io::Error;
+use streams::Source;
+
+// The two files, the second nothing where there is none; the edition; the number of the first page, how many pages to
 // compare at most, and how many there are, 0 where that is not known; when the run began; whether only refusals and the summary are
 // printed; and whether maps are printed.
-#[derive(Drop)]
-pub struct Run {
-    pub first: i32,
-    pub second: i32,
+#[derive(Clone, Copy)]
+pub struct Run<'a> {
+    pub first: Source<'a>,
+    pub second: Source<'a>,
     pub edition: u64,
     pub from: u64,
     pub most: u64,
@@ -21,12 +24,12 @@ pub struct Run {
     pub map: bool,
 }
 
-// Which file failed. errno says why.
-#[derive(Drop)]
+// Which file failed, and why.
+#[derive(Clone, Copy)]
 pub enum Failed {
     Nothing,
-    First,
-    Second,
+    First(Error),
+    Second(Error),
 }
 
 // Pages so far, and of them those that differ; blocks that are worse and better, and those that are ruined or erased in the second page only;
@@ -152,10 +155,8 @@ fn differing_page(totals: Totals) -> Totals {
 // The totals with one page more that differs, by the counts of its blocks.
 pub fn differing(totals: Totals, blocks: u16, first: &[u8; 256], second: &[u8; 256]) -> Totals {
     let mut t = differing_page(totals);
-    let mut b: usize = 0;
-    while b < 256 {
+    for b in 0..256 {
         t = counted_at(t, blocks, first, second, b);
-        b += 1;
     }
     t
 }

@@ -6,11 +6,14 @@
 #![tactic(auto)]
 
 use files::Known;
+use streams::System;
 
 // The time in seconds.
-pub fn seconds() -> u64 {
-    let mut now: i64 = 0;
-    text::natural(libc::time(&mut now))
+pub fn seconds<R: System>(rt: &R) -> u64 {
+    match rt.since_1970() {
+        Ok(now) => now.as_secs(),
+        Err(_) => 0,
+    }
 }
 
 // How many pages a run has: those of a file, of which so many are left, from page `from` on, and no more than `most`; 0 where that is not known.
@@ -53,7 +56,7 @@ fn since(now: u64, then: u64) -> u64 {
     now - then
 }
 
-fn show(pages: u64, known: u64, size: u16, elapsed: u64) {
+fn show<R: System>(rt: &R, pages: u64, known: u64, size: u16, elapsed: u64) {
     let mut line = say::new();
     say::to_stderr(&mut line);
     let speed = rate(text::times(pages, size as u32), elapsed);
@@ -66,16 +69,16 @@ fn show(pages: u64, known: u64, size: u16, elapsed: u64) {
     } else {
         say::facts(&mut line, b"nandpage: # pages, # MB/s\n", &[pages, speed]);
     }
-    say::flush(&mut line);
+    say::flush(rt, &mut line);
 }
 
 // Shows how many pages of `size` bytes are done, and of how many where that is known, where two seconds went by since that was last shown. Says
 // when it was.
-pub fn tell(pages: u64, known: u64, size: u16, began: u64, shown: u64) -> u64 {
-    let now = seconds();
+pub fn tell<R: System>(rt: &R, pages: u64, known: u64, size: u16, began: u64, shown: u64) -> u64 {
+    let now = seconds(rt);
     if since(now, shown) < 2 {
         return shown;
     }
-    show(pages, known, size, since(now, began));
+    show(rt, pages, known, size, since(now, began));
     now
 }

@@ -4,6 +4,7 @@
 use arguments::{LayoutWords, Options, Words};
 use layout::{Acceptance, Kind, Reason, Refusal, Rule};
 use layout_plan::{Fields, Plan};
+use streams::System;
 
 // What a rule is about, by its number among the texts of `reason`.
 fn number(kind: Kind) -> u64 {
@@ -95,15 +96,15 @@ pub fn refused(
 }
 
 // The words of a layout and the plan of a page under it, or none where an error or a refusal was printed.
-#[derive(Drop)]
+#[derive(Clone, Copy)]
 pub enum Planned {
     Under { words: LayoutWords, plan: Plan },
     Not,
 }
 
 // The plan of a page under the layout words of the arguments.
-pub fn plan_of_words(out: &mut [u8; 32768], options: Options) -> Planned {
-    let Words::Are(words) = arguments::layout_words(out, options) else {
+pub fn plan_of_words<R: System>(rt: &R, out: &mut [u8; 32768], options: Options) -> Planned {
+    let Words::Are(words) = arguments::layout_words(rt, out, options) else {
         return Planned::Not;
     };
     let record = arguments::record_of(words);

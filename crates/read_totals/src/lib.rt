@@ -1,7 +1,7 @@
 // What a run of the commands read, look and salvage has to do, and what it came to so far.
 //
 //   sums.rt                                          what the counts of a page come to
-//   Run, wants                                       what it has to do
+//   Run, wants, is_wanted                            what it has to do
 //   Totals, start                                    what it came to
 //   was_read, was_not_read, was_salvaged, carrying   one page more; a byte of the next one
 //   ended, broken, dropped, some                     its end
@@ -11,21 +11,23 @@
 mod sums;
 
 use layout_plan::Plan;
+use std::io::Error;
+use streams::{Sink, Source, System};
 pub use sums::{RUINED, Sums, is_erased, sums_of};
 
-// The edition, the layout record and its plan; the descriptors of input, metadata, data and the list of ruined blocks, the last three below
-// 0 where they are not wanted; whether the file is read as a dump however long it is; the number of the first page; how many pages to read at
+// The edition, the layout record and its plan; input, metadata, data and the list of ruined blocks, the last three nothing where they
+// are not wanted; whether the file is read as a dump however long it is; the number of the first page; how many pages to read at
 // most, and how many there are, 0 where that is not known; when the run began; whether only refused pages have a line; whether pages are
 // looked at only; and whether a ruined block that goes to the list is stored as it stands in the page.
-#[derive(Drop)]
-pub struct Run {
+#[derive(Clone, Copy)]
+pub struct Run<'a> {
     pub edition: u64,
     pub record: [u8; 12],
     pub plan: Plan,
-    pub input: i32,
-    pub metadata: i32,
-    pub data: i32,
-    pub list: i32,
+    pub input: Source<'a>,
+    pub metadata: Sink<'a>,
+    pub data: Sink<'a>,
+    pub list: Sink<'a>,
     pub dump: bool,
     pub first: u64,
     pub most: u64,
@@ -37,21 +39,31 @@ pub struct Run {
 }
 
 // Whether metadata or data is wanted.
-pub fn wants(run: Run) -> bool {
-    if run.metadata >= 0 {
+pub fn wants(run: Run<'_>) -> bool {
+    if is_wanted(run.metadata) {
         return true;
     }
-    run.data >= 0
+    is_wanted(run.data)
 }
 
-// Which file failed. errno says why.
-#[derive(Drop)]
+// Whether an output is wanted.
+pub fn is_wanted(sink: Sink<'_>) -> bool {
+    match sink {
+        Sink::Nothing => false,
+        Sink::Output(_) => true,
+        Sink::Errors(_) => true,
+        Sink::File(_) => true,
+    }
+}
+
+// Which file failed, and why.
+#[derive(Clone, Copy)]
 pub enum Failed {
     Nothing,
-    Page,
-    Metadata,
-    Data,
-    List,
+    Page(Error),
+    Metadata(Error),
+    Data(Error),
+    List(Error),
 }
 
 // Pages so far, of them those that were read, are erased and were salvaged, corrected bits, the most in a block, ruined blocks; bytes of the
@@ -170,12 +182,13 @@ pub fn some(totals: Totals) -> Totals {
 }
 
 // Shows how far a dump is read where it is time for that.
-pub fn progress(run: Run, totals: Totals) -> Totals {
+pub fn progress<R: System>(rt: &R, run: Run<'_>, totals: Totals) -> Totals {
     if run.quiet {
         return totals;
     }
     let mut t = totals;
     t.shown = dump_progress::tell(
+        rt,
         totals.pages,
         run.known,
         run.plan.size,
@@ -195,7 +208,7 @@ fn refused_pages(totals: Totals) -> u64 {
 }
 
 // The last line of a dump.
-pub fn summary(out: &mut [u8; 32768], run: Run, totals: Totals) {
+pub fn summary(out: &mut [u8; 32768], run: Run<'_>, totals: Totals) {
     say::facts(
         out,
         b"pages #, read #, erased #, refused #; corrected bits #, at most # in a block; ruined blocks #",
@@ -209,7 +222,7 @@ pub fn summary(out: &mut [u8; 32768], run: Run, totals: Totals) {
             totals.ruined,
         ],
     );
-    if run.list >= 0 {
+    if is_wanted(run.list) {
         say::fact(out, b"; salvaged pages ", totals.salvaged, b"");
     }
     say::put(out, b"\n");

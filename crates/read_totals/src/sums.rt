@@ -39,10 +39,8 @@ fn all(counts: &[u8]) -> Sums {
         zeros: 0,
         ruined: 0,
     };
-    let mut i = 0;
-    while i < counts.len() {
-        sums = with(sums, counts[i]);
-        i += 1;
+    for n in counts {
+        sums = with(sums, *n);
     }
     sums
 }
