@@ -4,8 +4,15 @@ use arguments::{Options, Words};
 use compare_totals::{Failed, Run};
 use layout::Acceptance;
 use layout_plan::Plan;
+use streams::{Source, System};
 
-fn run_of(options: Options, plan: Plan, first: i32, second: i32) -> Run {
+fn run_of<'a, R: System>(
+    rt: &R,
+    options: Options,
+    plan: Plan,
+    first: Source<'a>,
+    second: Source<'a>,
+) -> Run<'a> {
     Run {
         first: first,
         second: second,
@@ -13,11 +20,11 @@ fn run_of(options: Options, plan: Plan, first: i32, second: i32) -> Run {
         from: options.from,
         most: options.pages,
         known: dump_progress::known(
-            files::pages_left(first, plan.size),
+            files::pages_left(rt, first, plan.size),
             options.from,
             options.pages,
         ),
-        began: dump_progress::seconds(),
+        began: dump_progress::seconds(rt),
         quiet: options.quiet,
         map: options.map,
     }
@@ -31,31 +38,33 @@ fn is_dump(options: Options) -> bool {
     options.ranged
 }
 
-fn failed(out: &mut [u8; 32768], failed: Failed, first: &[u8], second: &[u8]) {
+fn failed<R: System>(rt: &R, out: &mut [u8; 32768], failed: Failed, first: &[u8], second: &[u8]) {
     match failed {
         Failed::Nothing => (),
-        Failed::First => say::bad_file(out, first),
-        Failed::Second => say::bad_file(out, second),
+        Failed::First(error) => say::bad_file(rt, out, first, error),
+        Failed::Second(error) => say::bad_file(rt, out, second, error),
     }
 }
 
-fn compare_opened(
+fn compare_opened<R: System>(
+    rt: &R,
     out: &mut [u8; 32768],
     options: Options,
     record: &[u8],
     plan: Plan,
     first: &[u8],
     second: &[u8],
-    a: i32,
-    b: i32,
+    a: Source<'_>,
+    b: Source<'_>,
 ) {
-    let run = run_of(options, plan, a, b);
-    let totals = running::compare_files(out, run, record, plan, is_dump(options));
+    let run = run_of(rt, options, plan, a, b);
+    let totals = running::compare_files(rt, out, run, record, plan, is_dump(options));
     let what = totals.failed;
-    failed(out, what, first, second);
+    failed(rt, out, what, first, second);
 }
 
-fn compare_paths(
+fn compare_paths<R: System>(
+    rt: &R,
     out: &mut [u8; 32768],
     options: Options,
     record: &[u8],
@@ -63,74 +72,106 @@ fn compare_paths(
     first: &[u8],
     second: &[u8],
 ) {
-    let a = files::input(out, first);
-    if a < 0 {
+    let Some(a) = files::input(rt, out, first) else {
         return;
-    }
-    let b = files::input(out, second);
-    if b < 0 {
-        files::close_input(a);
+    };
+    let Some(b) = files::input(rt, out, second) else {
         return;
-    }
-    compare_opened(out, options, record, plan, first, second, a, b);
+    };
+    let (x, y) = (files::source(&a), files::source(&b));
+    compare_opened(rt, out, options, record, plan, first, second, x, y);
     files::close_input(a);
     files::close_input(b);
 }
 
-fn compare_two(out: &mut [u8; 32768], options: Options, record: &[u8], plan: Plan, first: &[u8]) {
-    let mut second = io::buffer();
-    let n = os::arg(arguments::place(options.at, 3), &mut second);
-    if !arguments::whole(out, b"SECOND") {
+fn compare_two<R: System>(
+    rt: &R,
+    out: &mut [u8; 32768],
+    options: Options,
+    record: &[u8],
+    plan: Plan,
+    first: &[u8],
+) {
+    let mut buffer = text::buffer();
+    let given = rt.arg(arguments::place(options.at, 3), &mut buffer);
+    if !arguments::whole(rt, out, given, b"SECOND") {
         return;
     }
+    let second = text::front(&buffer, given.unwrap_or(0));
     if files::is_dash(first) {
-        if files::is_dash(&second[..n]) {
-            say::error(out, b"only one of FIRST and SECOND is a dash");
+        if files::is_dash(second) {
+            say::error(rt, out, b"only one of FIRST and SECOND is a dash");
             return;
         }
     }
-    compare_paths(out, options, record, plan, first, &second[..n]);
+    compare_paths(rt, out, options, record, plan, first, second);
 }
 
 // The map of one dump.
-fn map_one(out: &mut [u8; 32768], options: Options, record: &[u8], plan: Plan, first: &[u8]) {
-    let a = files::input(out, first);
-    if a < 0 {
+fn map_one<R: System>(
+    rt: &R,
+    out: &mut [u8; 32768],
+    options: Options,
+    record: &[u8],
+    plan: Plan,
+    first: &[u8],
+) {
+    let Some(a) = files::input(rt, out, first) else {
         return;
-    }
-    compare_opened(out, options, record, plan, first, b"", a, -1);
+    };
+    let x = files::source(&a);
+    compare_opened(
+        rt,
+        out,
+        options,
+        record,
+        plan,
+        first,
+        b"",
+        x,
+        Source::Nothing,
+    );
     files::close_input(a);
 }
 
-fn compare_under(out: &mut [u8; 32768], options: Options, record: &[u8], plan: Plan, one: bool) {
-    let mut first = io::buffer();
-    let n = os::arg(arguments::place(options.at, 2), &mut first);
-    if !arguments::whole(out, b"FIRST") {
+fn compare_under<R: System>(
+    rt: &R,
+    out: &mut [u8; 32768],
+    options: Options,
+    record: &[u8],
+    plan: Plan,
+    one: bool,
+) {
+    let mut buffer = text::buffer();
+    let given = rt.arg(arguments::place(options.at, 2), &mut buffer);
+    if !arguments::whole(rt, out, given, b"FIRST") {
         return;
     }
+    let first = text::front(&buffer, given.unwrap_or(0));
     if one {
-        map_one(out, options, record, plan, &first[..n]);
+        map_one(rt, out, options, record, plan, first);
     } else {
-        compare_two(out, options, record, plan, &first[..n]);
+        compare_two(rt, out, options, record, plan, first);
     }
 }
 
 // Whether the map of one dump is asked for.
-fn is_one(options: Options) -> bool {
+fn is_one<R: System>(rt: &R, options: Options) -> bool {
     if !options.map {
         return false;
     }
-    os::arg_count() == arguments::place(options.at, 3)
+    arguments::count(rt) == arguments::place(options.at, 3)
 }
 
 // Compares under the layout words of the arguments.
-fn compare_by_words(out: &mut [u8; 32768], options: Options, one: bool) {
-    let Words::Are(words) = arguments::layout_words(out, options) else {
+fn compare_by_words<R: System>(rt: &R, out: &mut [u8; 32768], options: Options, one: bool) {
+    let Words::Are(words) = arguments::layout_words(rt, out, options) else {
         return;
     };
     let record = arguments::record_of(words);
     match layout::check_layout(words.edition, &record) {
         Acceptance::Accepted(l) => compare_under(
+            rt,
             out,
             options,
             &record,
@@ -143,17 +184,19 @@ fn compare_by_words(out: &mut [u8; 32768], options: Options, one: bool) {
 
 // nandpage compare [--edition N] [--mark WORD2] [--from N] [--pages M] [--quiet] WORD0 WORD1 FIRST SECOND
 // nandpage compare --map [--edition N] [--mark WORD2] [--from N] [--pages M] WORD0 WORD1 FIRST [SECOND]
-pub fn compare(out: &mut [u8; 32768]) {
+pub fn compare<R: System>(rt: &R, out: &mut [u8; 32768]) {
     let options = arguments::find_options(
+        rt,
         out,
         arguments::MARK + arguments::EDITION + arguments::RANGE + arguments::QUIET + arguments::MAP,
     );
     if !options.good {
         return;
     }
-    let one = is_one(options);
+    let one = is_one(rt, options);
     if !one {
         if !arguments::are(
+            rt,
             out,
             options.at,
             4,
@@ -162,5 +205,5 @@ pub fn compare(out: &mut [u8; 32768]) {
             return;
         }
     }
-    compare_by_words(out, options, one);
+    compare_by_words(rt, out, options, one);
 }

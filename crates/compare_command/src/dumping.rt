@@ -2,29 +2,34 @@
 use crate::paging;
 use compare_totals::{Failed, Run, Totals};
 use layout_plan::Plan;
-use streams::Filled;
+use streams::{Filled, Source, System};
 
 // Fills the first bytes of a buffer; none where there is no file.
-pub fn fill(fd: i32, buffer: &mut [u8], size: usize) -> Filled {
-    if fd < 0 {
-        return Filled::Bytes(0);
-    }
-    streams::fill(fd, text::front_mut(buffer, size), 0)
+pub fn fill(source: Source<'_>, buffer: &mut [u8], size: usize) -> Filled {
+    streams::fill(source, text::front_mut(buffer, size), 0)
 }
 
-fn progress(plan: Plan, run: Run, totals: Totals) -> Totals {
+fn progress<R: System>(rt: &R, plan: Plan, run: Run<'_>, totals: Totals) -> Totals {
     if run.quiet {
         return totals;
     }
     let mut t = totals;
-    t.shown = dump_progress::tell(totals.pages, run.known, plan.size, run.began, totals.shown);
+    t.shown = dump_progress::tell(
+        rt,
+        totals.pages,
+        run.known,
+        plan.size,
+        run.began,
+        totals.shown,
+    );
     t
 }
 
 // The next page of both, of which so many bytes are there.
-fn filled(
+fn filled<R: System>(
+    rt: &R,
     out: &mut [u8; 32768],
-    run: Run,
+    run: Run<'_>,
     record: &[u8],
     plan: Plan,
     totals: Totals,
@@ -39,6 +44,7 @@ fn filled(
         }
     }
     paging::page(
+        rt,
         out,
         run,
         record,
@@ -49,9 +55,10 @@ fn filled(
     )
 }
 
-fn next(
+fn next<R: System>(
+    rt: &R,
     out: &mut [u8; 32768],
-    run: Run,
+    run: Run<'_>,
     record: &[u8],
     plan: Plan,
     totals: Totals,
@@ -61,19 +68,22 @@ fn next(
     if run.most <= totals.pages {
         return compare_totals::ended(totals);
     }
-    let Filled::Bytes(n) = fill(run.first, first, plan.size as usize) else {
-        return compare_totals::broken(totals, Failed::First);
+    let n = match fill(run.first, first, plan.size as usize) {
+        Filled::Bytes(n) => n,
+        Filled::Failed(error) => return compare_totals::broken(totals, Failed::First(error)),
     };
-    let Filled::Bytes(m) = fill(run.second, second, plan.size as usize) else {
-        return compare_totals::broken(totals, Failed::Second);
+    let m = match fill(run.second, second, plan.size as usize) {
+        Filled::Bytes(m) => m,
+        Filled::Failed(error) => return compare_totals::broken(totals, Failed::Second(error)),
     };
-    filled(out, run, record, plan, totals, first, second, n, m)
+    filled(rt, out, run, record, plan, totals, first, second, n, m)
 }
 
 // The pages of the dumps that are left.
-pub fn pages(
+pub fn pages<R: System>(
+    rt: &R,
     out: &mut [u8; 32768],
-    run: Run,
+    run: Run<'_>,
     record: &[u8],
     plan: Plan,
     begun: Totals,
@@ -81,11 +91,12 @@ pub fn pages(
     second: &mut [u8; 65536],
 ) -> Totals {
     let mut totals = begun;
-    let mut turns = streams::left(u64::MAX, begun.more);
-    while 0 < turns {
-        totals = progress(plan, run, totals);
-        totals = next(out, run, record, plan, totals, first, second);
-        turns = streams::left(turns, totals.more);
+    for _ in 0..u64::MAX {
+        if !totals.more {
+            break;
+        }
+        totals = progress(rt, plan, run, totals);
+        totals = next(rt, out, run, record, plan, totals, first, second);
     }
     totals
 }

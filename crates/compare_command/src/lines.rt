@@ -7,6 +7,7 @@ use crate::reporting;
 use compare::CompareAnswer;
 use layout_plan::Plan;
 use replies::refusal_number;
+use streams::System;
 
 // The line of a refusal, which is noted for the exit status.
 pub fn refused(out: &mut [u8; 32768], number: u8) {
@@ -38,7 +39,8 @@ pub fn counts_of(
 }
 
 // Two pages as they are: the report, or a refusal.
-pub fn pages(
+pub fn pages<R: System>(
+    rt: &R,
     out: &mut [u8; 32768],
     edition: u64,
     record: &[u8],
@@ -49,7 +51,9 @@ pub fn pages(
     let mut a = [0u8; 256];
     let mut b = [0u8; 256];
     match counts_of(edition, record, plan, first, second, &mut a, &mut b) {
-        CompareAnswer::Done => reporting::report(out, edition, record, plan, first, second, &a, &b),
+        CompareAnswer::Done => reporting::report(
+            rt, out, edition, record, plan, first, second, &a, &b,
+        ),
         CompareAnswer::Refused(refusal) => refused(out, refusal_number(refusal)),
     }
 }

@@ -48,9 +48,7 @@ fn map_at(out: &mut [u8; 32768], plan: Plan, counts: &[u8; 256], b: usize) {
 
 // The characters of the blocks of a page, by their counts. The line is not ended.
 pub fn map(out: &mut [u8; 32768], plan: Plan, counts: &[u8; 256]) {
-    let mut b: usize = 0;
-    while b < 256 {
+    for b in 0..256 {
         map_at(out, plan, counts, b);
-        b += 1;
     }
 }

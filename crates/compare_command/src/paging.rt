@@ -5,6 +5,7 @@ use compare_totals::{Run, Totals};
 use layout_plan::Plan;
 use page_look::LookAnswer;
 use replies::{Refusal, refusal_number};
+use streams::{Source, System};
 
 // A page that is refused ends the run.
 fn refused(out: &mut [u8; 32768], totals: Totals, refusal: Refusal) -> Totals {
@@ -13,14 +14,15 @@ fn refused(out: &mut [u8; 32768], totals: Totals, refusal: Refusal) -> Totals {
 }
 
 // The number of a page in the dumps.
-fn page_number(out: &mut [u8; 32768], run: Run, totals: Totals) {
+fn page_number(out: &mut [u8; 32768], run: Run<'_>, totals: Totals) {
     say::fact(out, b"page ", text::plus(run.from, totals.pages), b"\n");
 }
 
 // A page of two dumps that differs, with the counts of its blocks.
-fn reported(
+fn reported<R: System>(
+    rt: &R,
     out: &mut [u8; 32768],
-    run: Run,
+    run: Run<'_>,
     record: &[u8],
     plan: Plan,
     totals: Totals,
@@ -31,15 +33,16 @@ fn reported(
 ) -> Totals {
     if !run.quiet {
         page_number(out, run, totals);
-        reporting::report(out, run.edition, record, plan, first, second, a, b);
+        reporting::report(rt, out, run.edition, record, plan, first, second, a, b);
     }
     compare_totals::differing(totals, plan.blocks, a, b)
 }
 
 // A page of two dumps that differs.
-fn differs(
+fn differs<R: System>(
+    rt: &R,
     out: &mut [u8; 32768],
-    run: Run,
+    run: Run<'_>,
     record: &[u8],
     plan: Plan,
     totals: Totals,
@@ -49,15 +52,18 @@ fn differs(
     let mut a = [0u8; 256];
     let mut b = [0u8; 256];
     match lines::counts_of(run.edition, record, plan, first, second, &mut a, &mut b) {
-        CompareAnswer::Done => { reported(out, run, record, plan, totals, first, second, &a, &b) }
+        CompareAnswer::Done => {
+            reported(rt, out, run, record, plan, totals, first, second, &a, &b)
+        }
         CompareAnswer::Refused(refusal) => refused(out, totals, refusal),
     }
 }
 
 // A page of two dumps. Only one that differs has its blocks decided.
-fn compared(
+fn compared<R: System>(
+    rt: &R,
     out: &mut [u8; 32768],
-    run: Run,
+    run: Run<'_>,
     record: &[u8],
     plan: Plan,
     totals: Totals,
@@ -65,7 +71,7 @@ fn compared(
     second: &[u8],
 ) -> Totals {
     match compare::next_difference(run.edition, record, first, second, 0) {
-        DifferenceAnswer::At(_) => differs(out, run, record, plan, totals, first, second),
+        DifferenceAnswer::At(_) => differs(rt, out, run, record, plan, totals, first, second),
         DifferenceAnswer::Alike => compare_totals::passed(totals),
         DifferenceAnswer::Refused(refusal) => {
             page_number(out, run, totals);
@@ -74,17 +80,24 @@ fn compared(
     }
 }
 
-fn mapped(out: &mut [u8; 32768], plan: Plan, totals: Totals, counts: &[u8; 256]) -> Totals {
+fn mapped<R: System>(
+    rt: &R,
+    out: &mut [u8; 32768],
+    plan: Plan,
+    totals: Totals,
+    counts: &[u8; 256],
+) -> Totals {
     mapping::map(out, plan, counts);
     say::put(out, b"\n");
-    say::flush(out);
+    say::flush(rt, out);
     compare_totals::passed(totals)
 }
 
 // The map of a page of one dump, which is not too large.
-fn map_page(
+fn map_page<R: System>(
+    rt: &R,
     out: &mut [u8; 32768],
-    run: Run,
+    run: Run<'_>,
     record: &[u8],
     plan: Plan,
     totals: Totals,
@@ -97,20 +110,21 @@ fn map_page(
         page,
         text::front_mut(&mut counts, plan.blocks as usize),
     ) {
-        LookAnswer::Done => mapped(out, plan, totals, &counts),
+        LookAnswer::Done => mapped(rt, out, plan, totals, &counts),
         LookAnswer::Refused(refusal) => {
             let Refusal::Uncorrectable(_) = refusal else {
                 return refused(out, totals, refusal);
             };
-            mapped(out, plan, totals, &counts)
+            mapped(rt, out, plan, totals, &counts)
         }
     }
 }
 
 // The map of a page of one dump, with the replies of a comparison.
-fn map_one(
+fn map_one<R: System>(
+    rt: &R,
     out: &mut [u8; 32768],
-    run: Run,
+    run: Run<'_>,
     record: &[u8],
     plan: Plan,
     totals: Totals,
@@ -121,13 +135,14 @@ fn map_one(
             return refused(out, totals, Refusal::BufferLength);
         }
     }
-    map_page(out, run, record, plan, totals, page)
+    map_page(rt, out, run, record, plan, totals, page)
 }
 
 // The maps of a page of two dumps, beside each other.
-fn map_two(
+fn map_two<R: System>(
+    rt: &R,
     out: &mut [u8; 32768],
-    run: Run,
+    run: Run<'_>,
     record: &[u8],
     plan: Plan,
     totals: Totals,
@@ -140,16 +155,17 @@ fn map_two(
         CompareAnswer::Done => {
             mapping::map(out, plan, &a);
             say::put(out, b" ");
-            mapped(out, plan, totals, &b)
+            mapped(rt, out, plan, totals, &b)
         }
         CompareAnswer::Refused(refusal) => refused(out, totals, refusal),
     }
 }
 
 // The next page of the dumps.
-pub fn page(
+pub fn page<R: System>(
+    rt: &R,
     out: &mut [u8; 32768],
-    run: Run,
+    run: Run<'_>,
     record: &[u8],
     plan: Plan,
     totals: Totals,
@@ -157,10 +173,10 @@ pub fn page(
     second: &[u8],
 ) -> Totals {
     if !run.map {
-        return compared(out, run, record, plan, totals, first, second);
+        return compared(rt, out, run, record, plan, totals, first, second);
     }
-    if run.second < 0 {
-        return map_one(out, run, record, plan, totals, first);
+    if let Source::Nothing = run.second {
+        return map_one(rt, out, run, record, plan, totals, first);
     }
-    map_two(out, run, record, plan, totals, first, second)
+    map_two(rt, out, run, record, plan, totals, first, second)
 }

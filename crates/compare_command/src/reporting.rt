@@ -2,6 +2,7 @@
 use changes::{Change, Flips};
 use compare::DifferenceAnswer;
 use layout_plan::Plan;
+use streams::System;
 
 fn flips(out: &mut [u8; 32768], flips: Flips) {
     match flips {
@@ -49,10 +50,8 @@ fn line_at(out: &mut [u8; 32768], n: usize, first: &[u8; 256], second: &[u8; 256
 }
 
 fn blocks(out: &mut [u8; 32768], n: usize, first: &[u8; 256], second: &[u8; 256]) {
-    let mut b: usize = 0;
-    while b < 256 {
+    for b in 0..256 {
         line_at(out, n, first, second, b);
-        b += 1;
     }
 }
 
@@ -71,10 +70,10 @@ struct Walk {
     more: bool,
 }
 
-fn position(out: &mut [u8; 32768], p: usize) -> Walk {
+fn position<R: System>(rt: &R, out: &mut [u8; 32768], p: usize) -> Walk {
     say::fact(out, b"", p as u64, b"\n");
     if p % 64 == 0 {
-        say::flush(out);
+        say::flush(rt, out);
     }
     Walk {
         from: after(p),
@@ -82,7 +81,8 @@ fn position(out: &mut [u8; 32768], p: usize) -> Walk {
     }
 }
 
-fn next(
+fn next<R: System>(
+    rt: &R,
     out: &mut [u8; 32768],
     edition: u64,
     record: &[u8],
@@ -91,7 +91,7 @@ fn next(
     from: usize,
 ) -> Walk {
     match compare::next_difference(edition, record, first, second, from) {
-        DifferenceAnswer::At(p) => position(out, p),
+        DifferenceAnswer::At(p) => position(rt, out, p),
         DifferenceAnswer::Alike => Walk {
             from: from,
             more: false,
@@ -103,20 +103,29 @@ fn next(
     }
 }
 
-fn positions(out: &mut [u8; 32768], edition: u64, record: &[u8], first: &[u8], second: &[u8]) {
+fn positions<R: System>(
+    rt: &R,
+    out: &mut [u8; 32768],
+    edition: u64,
+    record: &[u8],
+    first: &[u8],
+    second: &[u8],
+) {
     let mut walk = Walk {
         from: 0,
         more: true,
     };
-    let mut turns: u64 = 262144;
-    while 0 < turns {
-        walk = next(out, edition, record, first, second, walk.from);
-        turns = streams::left(turns, walk.more);
+    for _ in 0..262144 {
+        walk = next(rt, out, edition, record, first, second, walk.from);
+        if !walk.more {
+            break;
+        }
     }
 }
 
 // The report: a line a block by the counts of both pages, and then each position at which the pages differ.
-pub fn report(
+pub fn report<R: System>(
+    rt: &R,
     out: &mut [u8; 32768],
     edition: u64,
     record: &[u8],
@@ -128,7 +137,7 @@ pub fn report(
 ) {
     say::put(out, b"block first second change\n");
     blocks(out, plan.blocks as usize, firsts, seconds);
-    say::flush(out);
-    positions(out, edition, record, first, second);
-    say::flush(out);
+    say::flush(rt, out);
+    positions(rt, out, edition, record, first, second);
+    say::flush(rt, out);
 }

@@ -25,7 +25,7 @@ use replies::Refusal;
 
 // What a refusal is about: the edition, the record's length; a rule of the layout that block 0, a later block or the page breaks; the
 // length of the lent page or of the lent list; a block number; a page position.
-#[derive(Drop)]
+#[derive(Clone, Copy)]
 pub enum About {
     Edition,
     Record,
@@ -39,7 +39,7 @@ pub enum About {
 }
 
 // Why a call is refused: the case of document 01's table, what it is about, and the two numbers that were compared.
-#[derive(Drop)]
+#[derive(Clone, Copy)]
 pub struct Why {
     pub refusal: Refusal,
     pub about: About,
@@ -48,14 +48,14 @@ pub struct Why {
 }
 
 // The answer to a layout record.
-#[derive(Drop)]
+#[derive(Clone, Copy)]
 pub enum LayoutAnswer {
     Accepted,
     Refused(Why),
 }
 
 // The parts of a page.
-#[derive(Drop)]
+#[derive(Clone, Copy)]
 pub enum Part {
     Metadata,
     Data,
@@ -66,7 +66,7 @@ pub enum Part {
 
 // A bit of a page: its part, its block where it has one, byte and bit of the page, and which byte of metadata or
 // data it belongs to.
-#[derive(Drop)]
+#[derive(Clone, Copy)]
 pub struct Place {
     pub part: Part,
     pub block: u16,
@@ -76,7 +76,7 @@ pub struct Place {
 }
 
 // The answer to a page position.
-#[derive(Drop)]
+#[derive(Clone, Copy)]
 pub enum PlaceAnswer {
     At(Place),
     Refused(Why),

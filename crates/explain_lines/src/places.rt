@@ -35,9 +35,7 @@ fn flip(out: &mut [u8; 32768], edition: u64, record: &[u8; 12], position: u32) {
 
 // A line for each of these page positions.
 pub fn flips(out: &mut [u8; 32768], edition: u64, record: &[u8; 12], list: &[u32]) {
-    let mut i = 0;
-    while i < list.len() {
-        flip(out, edition, record, list[i]);
-        i += 1;
+    for position in list {
+        flip(out, edition, record, *position);
     }
 }

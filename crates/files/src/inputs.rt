@@ -6,9 +6,10 @@ use std::io::{Error, Seek, SeekFrom, Stdin};
 use std::{fs, io};
 use streams::{Filled, Source, System};
 
-// A file that is read.
+// A file that is read, or nothing.
 #[derive(Drop)]
 pub enum Reading {
+    Nothing,
     Standard(Stdin),
     File(File),
 }
@@ -42,6 +43,7 @@ pub fn input<R: System>(rt: &R, out: &mut [u8; 32768], path: &[u8]) -> Option<Re
 // What is read of it.
 pub fn source(input: &Reading) -> Source<'_> {
     match input {
+        Reading::Nothing => Source::Nothing,
         Reading::Standard(input) => Source::Input(*input),
         Reading::File(file) => Source::File(file),
     }

@@ -6,9 +6,10 @@ use std::io::{Error, ErrorKind, Stdout};
 use std::{fs, io};
 use streams::{Sink, System};
 
-// A file that is written.
+// A file that is written, or nothing.
 #[derive(Drop)]
 pub enum Writing {
+    Nothing,
     Standard(Stdout),
     File(File),
 }
@@ -72,6 +73,7 @@ pub fn begin<R: System>(rt: &R, out: &mut [u8; 32768], path: &[u8], n: u64) -> O
 // What is written of it.
 pub fn sink(output: &Writing) -> Sink<'_> {
     match output {
+        Writing::Nothing => Sink::Nothing,
         Writing::Standard(output) => Sink::Output(*output),
         Writing::File(file) => Sink::File(file),
     }

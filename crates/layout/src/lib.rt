@@ -21,7 +21,7 @@ use layout_record::{fields_in, record_length};
 use replies::offered;
 
 // The rules that a layout must keep, by their replies: 1, 2, 3, 11 and 4.
-#[derive(Drop)]
+#[derive(Clone, Copy)]
 pub enum Rule {
     Level,
     Message,
@@ -31,7 +31,7 @@ pub enum Rule {
 }
 
 // What breaks a rule: block 0, a later block, or the page.
-#[derive(Drop)]
+#[derive(Clone, Copy)]
 pub enum Kind {
     First,
     Later,
@@ -39,7 +39,7 @@ pub enum Kind {
 }
 
 // Why a layout is refused: the rule, what breaks it, and the two numbers that were compared.
-#[derive(Drop)]
+#[derive(Clone, Copy)]
 pub struct Reason {
     pub rule: Rule,
     pub kind: Kind,
@@ -48,14 +48,14 @@ pub struct Reason {
 }
 
 // What looking at a rule finds.
-#[derive(Drop)]
+#[derive(Clone, Copy)]
 pub enum Finding {
     Kept,
     Broken(Reason),
 }
 
 // Why a call answers nothing: the edition, the record's length, a broken rule, a number out of its range.
-#[derive(Drop)]
+#[derive(Clone, Copy)]
 pub enum Refusal {
     Edition,
     RecordLength,
@@ -64,14 +64,14 @@ pub enum Refusal {
 }
 
 // The answer to a layout record.
-#[derive(Drop)]
+#[derive(Clone, Copy)]
 pub enum Acceptance {
     Accepted(Layout),
     Refused(Refusal),
 }
 
 // The answer to a page bit.
-#[derive(Drop)]
+#[derive(Clone, Copy)]
 pub enum BitAnswer {
     InBlock { block: u64, exponent: u64 },
     Tail,
@@ -80,7 +80,7 @@ pub enum BitAnswer {
 }
 
 // The answer to a code bit.
-#[derive(Drop)]
+#[derive(Clone, Copy)]
 pub enum PositionAnswer {
     Position(u64),
     Refused(Refusal),

@@ -5,6 +5,7 @@ use field::Field;
 use layout_plan::{BlockFields, Fields, Plan, Shape};
 use mark::Mark;
 use plans::Planned;
+use streams::System;
 
 // The field GF of a layout word.
 fn gf(field: Field) -> u64 {
@@ -112,10 +113,8 @@ fn block(out: &mut [u8; 32768], plan: Plan, b: u16) {
 
 fn blocks(out: &mut [u8; 32768], plan: Plan) {
     let n = plan.blocks;
-    let mut b = 0;
-    while b < n {
+    for b in 0..n {
         block(out, plan, b);
-        b += 1;
     }
 }
 
@@ -162,12 +161,13 @@ fn accepted(out: &mut [u8; 32768], edition: u64, record: &[u8; 12], plan: Plan) 
 }
 
 // nandpage layout [--edition N] [--mark WORD2] WORD0 WORD1
-pub fn layout(out: &mut [u8; 32768]) {
-    let options = arguments::find_options(out, arguments::MARK + arguments::EDITION);
+pub fn layout<R: System>(rt: &R, out: &mut [u8; 32768]) {
+    let options = arguments::find_options(rt, out, arguments::MARK + arguments::EDITION);
     if !options.good {
         return;
     }
     if !arguments::are(
+        rt,
         out,
         options.at,
         2,
@@ -175,7 +175,7 @@ pub fn layout(out: &mut [u8; 32768]) {
     ) {
         return;
     }
-    let Planned::Under { words, plan } = plans::plan_of_words(out, options) else {
+    let Planned::Under { words, plan } = plans::plan_of_words(rt, out, options) else {
         return;
     };
     accepted(out, words.edition, &arguments::record_of(words), plan);

@@ -3,6 +3,7 @@ use arguments::Options;
 use layout::{BitAnswer, PositionAnswer};
 use layout_plan::Plan;
 use plans::Planned;
+use streams::System;
 use text::Number;
 
 // Which page of a dump is asked about, where one is.
@@ -82,27 +83,40 @@ fn position(
 }
 
 // nandpage bits WORD0 WORD1 POSITION
-fn bits_of_position(out: &mut [u8; 32768], options: Options, record: &[u8; 12]) {
-    let Number::Is(p) = arguments::number(out, arguments::place(options.at, 2), b"POSITION") else {
+fn bits_of_position<R: System>(rt: &R, out: &mut [u8; 32768], options: Options, record: &[u8; 12]) {
+    let Number::Is(p) = arguments::number(rt, out, arguments::place(options.at, 2), b"POSITION")
+    else {
         return;
     };
     locate(out, options, record, p);
 }
 
 // nandpage bits WORD0 WORD1 BLOCK EXPONENT
-fn bits_of_exponent(out: &mut [u8; 32768], options: Options, plan: Plan, record: &[u8; 12]) {
-    let Number::Is(block) = arguments::number(out, arguments::place(options.at, 2), b"BLOCK") else {
+fn bits_of_exponent<R: System>(
+    rt: &R,
+    out: &mut [u8; 32768],
+    options: Options,
+    plan: Plan,
+    record: &[u8; 12],
+) {
+    let Number::Is(block) = arguments::number(rt, out, arguments::place(options.at, 2), b"BLOCK")
+    else {
         return;
     };
-    let Number::Is(exponent) = arguments::number(out, arguments::place(options.at, 3), b"EXPONENT")
-    else {
+    let Number::Is(exponent) = arguments::number(
+        rt,
+        out,
+        arguments::place(options.at, 3),
+        b"EXPONENT",
+    ) else {
         return;
     };
     position(out, options, plan, record, block, exponent);
 }
 
-fn usage(out: &mut [u8; 32768]) {
+fn usage<R: System>(rt: &R, out: &mut [u8; 32768]) {
     say::error(
+        rt,
         out,
         b"usage: nandpage bits [--edition N] [--mark WORD2] [--page K] WORD0 WORD1 POSITION, or with BLOCK EXPONENT in place of POSITION",
     );
@@ -116,30 +130,31 @@ fn are_enough(at: usize, count: usize) -> bool {
     count <= arguments::place(at, 4)
 }
 
-fn bits_of(out: &mut [u8; 32768], options: Options) {
-    let Planned::Under { words, plan } = plans::plan_of_words(out, options) else {
+fn bits_of<R: System>(rt: &R, out: &mut [u8; 32768], options: Options) {
+    let Planned::Under { words, plan } = plans::plan_of_words(rt, out, options) else {
         return;
     };
     let record = arguments::record_of(words);
-    if os::arg_count() == arguments::place(options.at, 3) {
-        bits_of_position(out, options, &record);
+    if arguments::count(rt) == arguments::place(options.at, 3) {
+        bits_of_position(rt, out, options, &record);
         return;
     }
-    bits_of_exponent(out, options, plan, &record);
+    bits_of_exponent(rt, out, options, plan, &record);
 }
 
 // nandpage bits ..
-pub fn bits(out: &mut [u8; 32768]) {
+pub fn bits<R: System>(rt: &R, out: &mut [u8; 32768]) {
     let options = arguments::find_options(
+        rt,
         out,
         arguments::MARK + arguments::EDITION + arguments::PAGE,
     );
     if !options.good {
         return;
     }
-    if !are_enough(options.at, os::arg_count()) {
-        usage(out);
+    if !are_enough(options.at, arguments::count(rt)) {
+        usage(rt, out);
         return;
     }
-    bits_of(out, options);
+    bits_of(rt, out, options);
 }

@@ -2,6 +2,7 @@
 use crate::remainder_at;
 use fragments::FragmentsAnswer;
 use replies::{Refusal, refusal_number};
+use streams::System;
 use text::Number;
 
 fn hex_byte(out: &mut [u8; 32768], b: u8) {
@@ -25,20 +26,16 @@ fn fragment(out: &mut [u8; 32768], x: u32) {
 
 fn exported(out: &mut [u8; 32768], list: &[u32]) {
     say::put(out, b"reply 0: fragments");
-    let mut i = 0;
-    while i < list.len() {
-        fragment(out, list[i]);
-        i += 1;
+    for x in list {
+        fragment(out, *x);
     }
     say::put(out, b"\n");
 }
 
 fn imported(out: &mut [u8; 32768], remainder: &[u8]) {
     say::put(out, b"reply 0: remainder ");
-    let mut i = 0;
-    while i < remainder.len() {
-        hex_byte(out, remainder[i]);
-        i += 1;
+    for b in remainder {
+        hex_byte(out, *b);
     }
     say::put(out, b"\n");
 }
@@ -70,8 +67,9 @@ fn export_from(out: &mut [u8; 32768], level: u64, remainder: &[u8]) {
 }
 
 // nandpage fragments export LEVEL REMAINDER
-fn export(out: &mut [u8; 32768], at: usize) {
+fn export<R: System>(rt: &R, out: &mut [u8; 32768], at: usize) {
     if !arguments::are(
+        rt,
         out,
         at,
         2,
@@ -79,11 +77,11 @@ fn export(out: &mut [u8; 32768], at: usize) {
     ) {
         return;
     }
-    let Number::Is(level) = arguments::number(out, at, b"LEVEL") else {
+    let Number::Is(level) = arguments::number(rt, out, at, b"LEVEL") else {
         return;
     };
     let mut remainder = [0u8; 128];
-    match remainder_at(out, arguments::place(at, 1), &mut remainder) {
+    match remainder_at(rt, out, arguments::place(at, 1), &mut remainder) {
         Number::Is(count) => export_from(out, level, text::front(&remainder, count as usize)),
         Number::Bad => (),
     }
@@ -106,9 +104,9 @@ fn import_into(out: &mut [u8; 32768], level: u64, list: &[u32], remainder: &mut 
 }
 
 // The list is as long as the words that are given, and 16 stand for all that are more.
-fn import_of(out: &mut [u8; 32768], level: u64, first: usize, end: usize) {
+fn import_of<R: System>(rt: &R, out: &mut [u8; 32768], level: u64, first: usize, end: usize) {
     let mut list = [0u32; 16];
-    if !arguments::word_list(out, first, end, b"FRAGMENT", arguments::WORD, &mut list) {
+    if !arguments::word_list(rt, out, first, end, b"FRAGMENT", arguments::WORD, &mut list) {
         return;
     }
     let mut remainder = [0u8; 26];
@@ -123,38 +121,39 @@ fn import_of(out: &mut [u8; 32768], level: u64, first: usize, end: usize) {
 }
 
 // nandpage fragments import LEVEL FRAGMENT..
-fn import(out: &mut [u8; 32768], at: usize) {
-    let count = os::arg_count();
+fn import<R: System>(rt: &R, out: &mut [u8; 32768], at: usize) {
+    let count = arguments::count(rt);
     let first = arguments::place(at, 1);
     if count <= first {
-        usage(out);
+        usage(rt, out);
         return;
     }
-    let Number::Is(level) = arguments::number(out, at, b"LEVEL") else {
+    let Number::Is(level) = arguments::number(rt, out, at, b"LEVEL") else {
         return;
     };
-    import_of(out, level, first, count);
+    import_of(rt, out, level, first, count);
 }
 
-fn usage(out: &mut [u8; 32768]) {
+fn usage<R: System>(rt: &R, out: &mut [u8; 32768]) {
     say::error(
+        rt,
         out,
         b"usage: nandpage fragments export LEVEL REMAINDER, or nandpage fragments import LEVEL FRAGMENT..",
     );
 }
 
 // nandpage fragments export .. or import ..
-pub fn fragments(out: &mut [u8; 32768]) {
-    let options = arguments::find_options(out, 0);
+pub fn fragments<R: System>(rt: &R, out: &mut [u8; 32768]) {
+    let options = arguments::find_options(rt, out, 0);
     if !options.good {
         return;
     }
     let mut name = [0u8; 16];
-    let n = os::arg(options.at, &mut name);
+    let n = arguments::argument(rt, options.at, &mut name);
     let at = arguments::place(options.at, 1);
     match text::index_of(&name[..n], b"export|import") {
-        0 => export(out, at),
-        1 => import(out, at),
-        _ => usage(out),
+        0 => export(rt, out, at),
+        1 => import(rt, out, at),
+        _ => usage(rt, out),
     }
 }

@@ -2,6 +2,7 @@
 use crate::remainder_at;
 use bch::LocateAnswer;
 use replies::{Refusal, highest, offered, refusal_number};
+use streams::System;
 use text::Number;
 
 fn exponent(out: &mut [u8; 32768], e: u16) {
@@ -9,10 +10,8 @@ fn exponent(out: &mut [u8; 32768], e: u16) {
 }
 
 fn exponents(out: &mut [u8; 32768], list: &[u16]) {
-    let mut i = 0;
-    while i < list.len() {
-        exponent(out, list[i]);
-        i += 1;
+    for e in list {
+        exponent(out, *e);
     }
 }
 
@@ -84,9 +83,17 @@ fn locate_from(
 }
 
 // The remainder at place `at`, in hexadecimal digits.
-fn locate_in(out: &mut [u8; 32768], at: usize, edition: u64, level: u64, field: u64, n: u64) {
+fn locate_in<R: System>(
+    rt: &R,
+    out: &mut [u8; 32768],
+    at: usize,
+    edition: u64,
+    level: u64,
+    field: u64,
+    n: u64,
+) {
     let mut remainder = [0u8; 128];
-    match remainder_at(out, at, &mut remainder) {
+    match remainder_at(rt, out, at, &mut remainder) {
         Number::Is(count) => locate_from(
             out,
             edition,
@@ -100,31 +107,32 @@ fn locate_in(out: &mut [u8; 32768], at: usize, edition: u64, level: u64, field: 
 }
 
 // The arguments from place `at` on.
-fn locate_at(out: &mut [u8; 32768], at: usize, edition: u64) {
-    let Number::Is(level) = arguments::number(out, at, b"LEVEL") else {
+fn locate_at<R: System>(rt: &R, out: &mut [u8; 32768], at: usize, edition: u64) {
+    let Number::Is(level) = arguments::number(rt, out, at, b"LEVEL") else {
         return;
     };
-    let Number::Is(field) = arguments::number(out, arguments::place(at, 1), b"FIELD") else {
+    let Number::Is(field) = arguments::number(rt, out, arguments::place(at, 1), b"FIELD") else {
         return;
     };
-    let Number::Is(n) = arguments::number(out, arguments::place(at, 2), b"N") else {
+    let Number::Is(n) = arguments::number(rt, out, arguments::place(at, 2), b"N") else {
         return;
     };
-    locate_in(out, arguments::place(at, 3), edition, level, field, n);
+    locate_in(rt, out, arguments::place(at, 3), edition, level, field, n);
 }
 
 // nandpage locate [--edition N] LEVEL FIELD N REMAINDER
-pub fn locate(out: &mut [u8; 32768]) {
-    let options = arguments::find_options(out, arguments::EDITION);
+pub fn locate<R: System>(rt: &R, out: &mut [u8; 32768]) {
+    let options = arguments::find_options(rt, out, arguments::EDITION);
     if !options.good {
         return;
     }
     if arguments::are(
+        rt,
         out,
         options.at,
         4,
         b"usage: nandpage locate [--edition N] LEVEL FIELD N REMAINDER",
     ) {
-        locate_at(out, options.at, options.edition);
+        locate_at(rt, out, options.at, options.edition);
     }
 }

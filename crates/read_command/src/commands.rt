@@ -1,13 +1,15 @@
 // The commands: a page, or a dump of many.
 use crate::running;
 use arguments::{LayoutWords, Options};
+use files::Writing;
 use layout_plan::Plan;
 use plans::Planned;
 use read_totals::Run;
+use streams::{Sink, Source, System};
 use text::Number;
 
 // What is asked for.
-#[derive(Drop)]
+#[derive(Clone, Copy)]
 enum Command {
     Read,
     Look,
@@ -15,7 +17,7 @@ enum Command {
 }
 
 // A command with its options, its layout words and the plan of a page under them.
-#[derive(Drop)]
+#[derive(Clone, Copy)]
 struct Asked {
     command: Command,
     options: Options,
@@ -23,22 +25,15 @@ struct Asked {
     plan: Plan,
 }
 
-// The descriptor of an output, -1 where it is not wanted and -2 where an error was printed, about it or about the one before.
-fn output(out: &mut [u8; 32768], path: &[u8], stdout: bool, before: i32) -> i32 {
-    if before < -1 {
-        return before;
-    }
+// An output, which is nothing where it is not wanted: none where an error was printed.
+fn output<R: System>(rt: &R, out: &mut [u8; 32768], path: &[u8], stdout: bool) -> Option<Writing> {
     if files::is_dash(path) {
         if stdout {
-            return 1;
+            return Some(Writing::Standard(rt.output()));
         }
-        return -1;
+        return Some(Writing::Nothing);
     }
-    let fd = files::begin(out, path, arguments::run_number());
-    if fd < 0 {
-        return -2;
-    }
-    fd
+    files::begin(rt, out, path, arguments::run_number(rt))
 }
 
 fn is_look(command: Command) -> bool {
@@ -57,7 +52,14 @@ fn is_dump(command: Command, options: Options) -> bool {
     }
 }
 
-fn run_of(asked: Asked, input: i32, metadata: i32, data: i32, list: i32) -> Run {
+fn run_of<'a, R: System>(
+    rt: &R,
+    asked: Asked,
+    input: Source<'a>,
+    metadata: Sink<'a>,
+    data: Sink<'a>,
+    list: Sink<'a>,
+) -> Run<'a> {
     let command = asked.command;
     let options = asked.options;
     let words = asked.words;
@@ -74,40 +76,54 @@ fn run_of(asked: Asked, input: i32, metadata: i32, data: i32, list: i32) -> Run 
         first: options.from,
         most: options.pages,
         known: dump_progress::known(
-            files::pages_left(input, plan.size),
+            files::pages_left(rt, input, plan.size),
             options.from,
             options.pages,
         ),
-        began: dump_progress::seconds(),
+        began: dump_progress::seconds(rt),
         quiet: options.quiet,
         look: is_look(command),
         raw: options.raw,
     }
 }
 
-fn run_outputs(
+fn run_outputs<R: System>(
+    rt: &R,
     out: &mut [u8; 32768],
     asked: Asked,
-    input: i32,
+    input: Source<'_>,
     page: &[u8],
     metadata: &[u8],
     data: &[u8],
     list: &[u8],
 ) {
-    let m = output(out, metadata, false, 0);
-    let d = output(out, data, asked.options.stdout, m);
-    let l = output(out, list, false, d);
-    if l < -1 {
-        read_outputs::drop_all(metadata, data, list);
+    let Some(m) = output(rt, out, metadata, false) else {
+        read_outputs::drop_all(rt, metadata, data, list);
         return;
-    }
-    let run = run_of(asked, input, m, d, l);
-    let totals = running::read_file(out, run);
-    read_outputs::finish(out, run, totals, page, metadata, data, list);
+    };
+    let Some(d) = output(rt, out, data, asked.options.stdout) else {
+        read_outputs::drop_all(rt, metadata, data, list);
+        return;
+    };
+    let Some(l) = output(rt, out, list, false) else {
+        read_outputs::drop_all(rt, metadata, data, list);
+        return;
+    };
+    let run = run_of(
+        rt,
+        asked,
+        input,
+        files::sink(&m),
+        files::sink(&d),
+        files::sink(&l),
+    );
+    let totals = running::read_file(rt, out, run);
+    read_outputs::finish(rt, out, run, totals, page, metadata, data, list);
 }
 
 // Runs a command on files, of which those of the last three that are not wanted are dashes.
-fn run_paths(
+fn run_paths<R: System>(
+    rt: &R,
     out: &mut [u8; 32768],
     asked: Asked,
     page: &[u8],
@@ -115,20 +131,20 @@ fn run_paths(
     data: &[u8],
     list: &[u8],
 ) {
-    let input = files::input(out, page);
-    if input < 0 {
+    let Some(input) = files::input(rt, out, page) else {
         return;
-    }
-    run_outputs(out, asked, input, page, metadata, data, list);
+    };
+    let source = files::source(&input);
+    run_outputs(rt, out, asked, source, page, metadata, data, list);
     files::close_input(input);
 }
 
 // Whether the options and the name for the data go together; an error is printed where not. Where the data goes to standard output, the
 // answer goes to standard error.
-fn is_data(out: &mut [u8; 32768], options: Options, data: &[u8]) -> bool {
+fn is_data<R: System>(rt: &R, out: &mut [u8; 32768], options: Options, data: &[u8]) -> bool {
     if options.stdout {
         if !files::is_dash(data) {
-            say::error(out, b"with --stdout DATA is a dash");
+            say::error(rt, out, b"with --stdout DATA is a dash");
             return false;
         }
         say::to_stderr(out);
@@ -137,50 +153,72 @@ fn is_data(out: &mut [u8; 32768], options: Options, data: &[u8]) -> bool {
 }
 
 // Puts argument `k` places after the options into a buffer: its length, or none where an error was printed.
-fn path(out: &mut [u8; 32768], options: Options, k: usize, name: &[u8], to: &mut [u8]) -> Number {
-    let n = os::arg(arguments::place(options.at, k), to);
-    if !arguments::whole(out, name) {
+fn path<R: System>(
+    rt: &R,
+    out: &mut [u8; 32768],
+    options: Options,
+    k: usize,
+    name: &[u8],
+    to: &mut [u8],
+) -> Number {
+    let given = rt.arg(arguments::place(options.at, k), to);
+    if !arguments::whole(rt, out, given, name) {
         return Number::Bad;
     }
-    Number::Is(n as u64)
+    Number::Is(given.unwrap_or(0) as u64)
 }
 
 // The list that salvaging has.
-fn salvage_paths(out: &mut [u8; 32768], asked: Asked, page: &[u8], metadata: &[u8], data: &[u8]) {
-    let mut buffer = io::buffer();
-    let Number::Is(l) = path(out, asked.options, 5, b"LIST", &mut buffer) else {
+fn salvage_paths<R: System>(
+    rt: &R,
+    out: &mut [u8; 32768],
+    asked: Asked,
+    page: &[u8],
+    metadata: &[u8],
+    data: &[u8],
+) {
+    let mut buffer = text::buffer();
+    let Number::Is(l) = path(rt, out, asked.options, 5, b"LIST", &mut buffer) else {
         return;
     };
     let list = text::front(&buffer, l as usize);
     if files::is_dash(list) {
-        say::error(out, b"LIST is a file, and no dash");
+        say::error(rt, out, b"LIST is a file, and no dash");
         return;
     }
-    run_paths(out, asked, page, metadata, data, list);
+    run_paths(rt, out, asked, page, metadata, data, list);
 }
 
-fn output_paths(out: &mut [u8; 32768], asked: Asked, page: &[u8], metadata: &[u8], data: &[u8]) {
+fn output_paths<R: System>(
+    rt: &R,
+    out: &mut [u8; 32768],
+    asked: Asked,
+    page: &[u8],
+    metadata: &[u8],
+    data: &[u8],
+) {
     let command = asked.command;
     if let Command::Salvage = command {
-        salvage_paths(out, asked, page, metadata, data);
+        salvage_paths(rt, out, asked, page, metadata, data);
         return;
     }
-    if is_data(out, asked.options, data) {
-        run_paths(out, asked, page, metadata, data, b"-");
+    if is_data(rt, out, asked.options, data) {
+        run_paths(rt, out, asked, page, metadata, data, b"-");
     }
 }
 
 // The outputs that reading and salvaging have.
-fn outputs(out: &mut [u8; 32768], asked: Asked, page: &[u8]) {
-    let mut metadata = io::buffer();
-    let mut data = io::buffer();
-    let Number::Is(m) = path(out, asked.options, 3, b"METADATA", &mut metadata) else {
+fn outputs<R: System>(rt: &R, out: &mut [u8; 32768], asked: Asked, page: &[u8]) {
+    let mut metadata = text::buffer();
+    let mut data = text::buffer();
+    let Number::Is(m) = path(rt, out, asked.options, 3, b"METADATA", &mut metadata) else {
         return;
     };
-    let Number::Is(d) = path(out, asked.options, 4, b"DATA", &mut data) else {
+    let Number::Is(d) = path(rt, out, asked.options, 4, b"DATA", &mut data) else {
         return;
     };
     output_paths(
+        rt,
         out,
         asked,
         page,
@@ -189,18 +227,18 @@ fn outputs(out: &mut [u8; 32768], asked: Asked, page: &[u8]) {
     );
 }
 
-fn paths(out: &mut [u8; 32768], asked: Asked) {
-    let mut buffer = io::buffer();
-    let Number::Is(p) = path(out, asked.options, 2, b"PAGE", &mut buffer) else {
+fn paths<R: System>(rt: &R, out: &mut [u8; 32768], asked: Asked) {
+    let mut buffer = text::buffer();
+    let Number::Is(p) = path(rt, out, asked.options, 2, b"PAGE", &mut buffer) else {
         return;
     };
     let page = text::front(&buffer, p as usize);
     let command = asked.command;
     if is_look(command) {
-        run_paths(out, asked, page, b"-", b"-", b"-");
+        run_paths(rt, out, asked, page, b"-", b"-", b"-");
         return;
     }
-    outputs(out, asked, page);
+    outputs(rt, out, asked, page);
 }
 
 // The options that a command may have.
@@ -214,21 +252,24 @@ fn allowed(command: Command) -> u16 {
 }
 
 // Whether a command has as many arguments as it takes; an error is printed where not.
-fn are_enough(out: &mut [u8; 32768], command: Command, at: usize) -> bool {
+fn are_enough<R: System>(rt: &R, out: &mut [u8; 32768], command: Command, at: usize) -> bool {
     match command {
         Command::Read => arguments::are(
+            rt,
             out,
             at,
             5,
             b"usage: nandpage read [--edition N] [--mark WORD2] [--from N] [--pages M] [--quiet] [--stdout] WORD0 WORD1 PAGE METADATA DATA",
         ),
         Command::Look => arguments::are(
+            rt,
             out,
             at,
             3,
             b"usage: nandpage look [--edition N] [--mark WORD2] [--from N] [--pages M] [--quiet] WORD0 WORD1 PAGE",
         ),
         Command::Salvage => arguments::are(
+            rt,
             out,
             at,
             6,
@@ -237,18 +278,19 @@ fn are_enough(out: &mut [u8; 32768], command: Command, at: usize) -> bool {
     }
 }
 
-fn run(out: &mut [u8; 32768], command: Command) {
-    let options = arguments::find_options(out, allowed(command));
+fn run<R: System>(rt: &R, out: &mut [u8; 32768], command: Command) {
+    let options = arguments::find_options(rt, out, allowed(command));
     if !options.good {
         return;
     }
-    if !are_enough(out, command, options.at) {
+    if !are_enough(rt, out, command, options.at) {
         return;
     }
-    let Planned::Under { words, plan } = plans::plan_of_words(out, options) else {
+    let Planned::Under { words, plan } = plans::plan_of_words(rt, out, options) else {
         return;
     };
     paths(
+        rt,
         out,
         Asked {
             command: command,
@@ -260,16 +302,16 @@ fn run(out: &mut [u8; 32768], command: Command) {
 }
 
 // nandpage read [--edition N] [--mark WORD2] [--from N] [--pages M] [--quiet] [--stdout] WORD0 WORD1 PAGE METADATA DATA
-pub fn read(out: &mut [u8; 32768]) {
-    run(out, Command::Read);
+pub fn read<R: System>(rt: &R, out: &mut [u8; 32768]) {
+    run(rt, out, Command::Read);
 }
 
 // nandpage look [--edition N] [--mark WORD2] [--from N] [--pages M] [--quiet] WORD0 WORD1 PAGE
-pub fn look(out: &mut [u8; 32768]) {
-    run(out, Command::Look);
+pub fn look<R: System>(rt: &R, out: &mut [u8; 32768]) {
+    run(rt, out, Command::Look);
 }
 
 // nandpage salvage [--edition N] [--mark WORD2] [--raw] [--from N] [--pages M] [--quiet] WORD0 WORD1 PAGE METADATA DATA LIST
-pub fn salvage(out: &mut [u8; 32768]) {
-    run(out, Command::Salvage);
+pub fn salvage<R: System>(rt: &R, out: &mut [u8; 32768]) {
+    run(rt, out, Command::Salvage);
 }

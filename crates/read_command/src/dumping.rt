@@ -4,43 +4,35 @@ use crate::reading::Answer;
 use crate::{lines, reading, saving};
 use read_totals::{Failed, Run, Sums, Totals};
 use replies::Refusal;
-use streams::Filled;
-
-fn put(fd: i32, bytes: &[u8]) -> bool {
-    if fd < 0 {
-        return true;
-    }
-    streams::put(fd, bytes)
-}
+use streams::{Filled, Source, System};
 
 // Puts a page's metadata and data to the outputs: the totals as they are, or with the output that failed.
-pub fn put_page(run: Run, totals: Totals, metadata: &[u8; 256], data: &[u8; 65536]) -> Totals {
-    if !put(
-        run.metadata,
-        text::front(metadata, run.plan.metadata as usize),
-    ) {
-        return read_totals::broken(totals, Failed::Metadata);
+pub fn put_page(run: Run<'_>, totals: Totals, metadata: &[u8; 256], data: &[u8; 65536]) -> Totals {
+    let m = text::front(metadata, run.plan.metadata as usize);
+    if let Err(error) = streams::put(run.metadata, m) {
+        return read_totals::broken(totals, Failed::Metadata(error));
     }
-    if !put(run.data, text::front(data, run.plan.data as usize)) {
-        return read_totals::broken(totals, Failed::Data);
+    let d = text::front(data, run.plan.data as usize);
+    if let Err(error) = streams::put(run.data, d) {
+        return read_totals::broken(totals, Failed::Data(error));
     }
     totals
 }
 
-fn put_blank(run: Run, totals: Totals) -> Totals {
+fn put_blank(run: Run<'_>, totals: Totals) -> Totals {
     let metadata = [255u8; 256];
     let data = [255u8; 65536];
     put_page(run, totals, &metadata, &data)
 }
 
 // The number of a page in the dump.
-pub fn page_number(out: &mut [u8; 32768], run: Run, totals: Totals) {
+pub fn page_number(out: &mut [u8; 32768], run: Run<'_>, totals: Totals) {
     say::page_number(out, text::plus(run.first, totals.pages));
 }
 
 // Whether a page that was not refused has a line: bits were corrected, an erased block has zeros, or some blocks are erased and others
 // are not.
-fn has_line(run: Run, sums: Sums, erased: bool) -> bool {
+fn has_line(run: Run<'_>, sums: Sums, erased: bool) -> bool {
     if run.quiet {
         return false;
     }
@@ -57,7 +49,13 @@ fn has_line(run: Run, sums: Sums, erased: bool) -> bool {
 }
 
 // A page that the outputs took.
-fn done(out: &mut [u8; 32768], run: Run, totals: Totals, counts: &[u8; 256]) -> Totals {
+fn done<R: System>(
+    rt: &R,
+    out: &mut [u8; 32768],
+    run: Run<'_>,
+    totals: Totals,
+    counts: &[u8; 256],
+) -> Totals {
     if !totals.more {
         return totals;
     }
@@ -68,13 +66,13 @@ fn done(out: &mut [u8; 32768], run: Run, totals: Totals, counts: &[u8; 256]) -> 
         page_number(out, run, totals);
         say::reply(out, 0);
         lines::blocks(out, plan, sums, counts);
-        say::flush(out);
+        say::flush(rt, out);
     }
     read_totals::was_read(totals, sums, erased)
 }
 
 // A page with ruined blocks, whose place is filled.
-pub fn fill_place(run: Run, totals: Totals, counts: &[u8; 256]) -> Totals {
+pub fn fill_place(run: Run<'_>, totals: Totals, counts: &[u8; 256]) -> Totals {
     let t = put_blank(run, totals);
     if !t.more {
         return t;
@@ -84,9 +82,10 @@ pub fn fill_place(run: Run, totals: Totals, counts: &[u8; 256]) -> Totals {
 }
 
 // A page that was refused. One with ruined blocks has its place filled, or what can be saved of it put there.
-fn refused(
+fn refused<R: System>(
+    rt: &R,
     out: &mut [u8; 32768],
-    run: Run,
+    run: Run<'_>,
     totals: Totals,
     page: &[u8],
     refusal: Refusal,
@@ -94,20 +93,21 @@ fn refused(
 ) -> Totals {
     page_number(out, run, totals);
     lines::refused(out, run.plan, page.len(), refusal, counts);
-    say::flush(out);
+    say::flush(rt, out);
     let Refusal::Uncorrectable(_) = refusal else {
         return read_totals::was_not_read(totals, 0);
     };
-    if run.list < 0 {
+    if !read_totals::is_wanted(run.list) {
         return fill_place(run, totals, counts);
     }
-    saving::save(out, run, totals, page, counts)
+    saving::save(rt, out, run, totals, page, counts)
 }
 
 // Reads a page of a dump, its data by way of the buffer.
-pub fn read_next(
+pub fn read_next<R: System>(
+    rt: &R,
     out: &mut [u8; 32768],
-    run: Run,
+    run: Run<'_>,
     totals: Totals,
     page: &[u8],
     data: &mut [u8; 65536],
@@ -124,16 +124,17 @@ pub fn read_next(
     ) {
         Answer::Done => {
             let t = put_page(run, totals, &metadata, data);
-            done(out, run, t, &counts)
+            done(rt, out, run, t, &counts)
         }
-        Answer::Refused(refusal) => refused(out, run, totals, page, refusal, &counts),
+        Answer::Refused(refusal) => refused(rt, out, run, totals, page, refusal, &counts),
     }
 }
 
 // The next page of a dump, of which the buffer may have the first byte already.
-fn next(
+fn next<R: System>(
+    rt: &R,
     out: &mut [u8; 32768],
-    run: Run,
+    run: Run<'_>,
     totals: Totals,
     page: &mut [u8; 65536],
     data: &mut [u8; 65536],
@@ -141,34 +142,37 @@ fn next(
     if run.most <= totals.pages {
         return read_totals::ended(totals);
     }
-    let Filled::Bytes(n) = fill(run.input, page, run.plan.size as usize, totals.carried) else {
-        return read_totals::broken(totals, Failed::Page);
+    let n = match fill(run.input, page, run.plan.size as usize, totals.carried) {
+        Filled::Bytes(n) => n,
+        Filled::Failed(error) => return read_totals::broken(totals, Failed::Page(error)),
     };
     if n == 0 {
         return read_totals::ended(totals);
     }
-    read_next(out, run, totals, text::front(page, n), data)
+    read_next(rt, out, run, totals, text::front(page, n), data)
 }
 
 // Fills the first bytes of a buffer from place `from` on.
-pub fn fill(fd: i32, buffer: &mut [u8], size: usize, from: usize) -> Filled {
-    streams::fill(fd, text::front_mut(buffer, size), from)
+pub fn fill(source: Source<'_>, buffer: &mut [u8], size: usize, from: usize) -> Filled {
+    streams::fill(source, text::front_mut(buffer, size), from)
 }
 
 // Reads the pages of a dump that are left after the first ones.
-pub fn pages(
+pub fn pages<R: System>(
+    rt: &R,
     out: &mut [u8; 32768],
-    run: Run,
+    run: Run<'_>,
     first: Totals,
     page: &mut [u8; 65536],
     data: &mut [u8; 65536],
 ) -> Totals {
     let mut totals = first;
-    let mut turns = streams::left(u64::MAX, first.more);
-    while 0 < turns {
-        totals = read_totals::progress(run, totals);
-        totals = next(out, run, totals, page, data);
-        turns = streams::left(turns, totals.more);
+    for _ in 0..u64::MAX {
+        if !totals.more {
+            break;
+        }
+        totals = read_totals::progress(rt, run, totals);
+        totals = next(rt, out, run, totals, page, data);
     }
     totals
 }

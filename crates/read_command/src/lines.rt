@@ -19,10 +19,8 @@ fn count(out: &mut [u8; 32768], n: u8) {
 // The blocks of a page one after the other; the line is ended.
 fn by_block(out: &mut [u8; 32768], counts: &[u8]) {
     say::put(out, b"; by block");
-    let mut i = 0;
-    while i < counts.len() {
-        count(out, counts[i]);
-        i += 1;
+    for n in counts {
+        count(out, *n);
     }
     say::put(out, b"\n");
 }

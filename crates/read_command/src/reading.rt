@@ -19,7 +19,7 @@ fn take(edition: u64, record: &[u8], page: &[u8], metadata: &mut [u8], data: &mu
 }
 
 // Looks at a page: its counts, which a page with a ruined block has as well, go to the first bytes of the buffer.
-fn look(run: Run, page: &[u8], counts: &mut [u8]) -> Answer {
+fn look(run: Run<'_>, page: &[u8], counts: &mut [u8]) -> Answer {
     let record = run.record;
     match page_look::look_page(
         run.edition,
@@ -34,7 +34,7 @@ fn look(run: Run, page: &[u8], counts: &mut [u8]) -> Answer {
 
 // Reads a page into the first bytes of the buffers, as many as the plan says: its counts, and where they are wanted its metadata and data.
 pub fn read_into(
-    run: Run,
+    run: Run<'_>,
     wanted: bool,
     page: &[u8],
     metadata: &mut [u8],

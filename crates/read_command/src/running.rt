@@ -3,10 +3,10 @@ use crate::reading::Answer;
 use crate::{dumping, lines, reading};
 use files::Passed;
 use read_totals::{Failed, Run, Totals};
-use streams::Filled;
+use streams::{Filled, System};
 
 // A page that was read and that the outputs took.
-fn done(out: &mut [u8; 32768], run: Run, totals: Totals, counts: &[u8; 256]) -> Totals {
+fn done(out: &mut [u8; 32768], run: Run<'_>, totals: Totals, counts: &[u8; 256]) -> Totals {
     if !totals.more {
         return totals;
     }
@@ -20,7 +20,7 @@ fn done(out: &mut [u8; 32768], run: Run, totals: Totals, counts: &[u8; 256]) -> 
 }
 
 // A file of at most one page. A page that is refused leaves the files as they are.
-fn single(out: &mut [u8; 32768], run: Run, page: &[u8], data: &mut [u8; 65536]) -> Totals {
+fn single(out: &mut [u8; 32768], run: Run<'_>, page: &[u8], data: &mut [u8; 65536]) -> Totals {
     let start = read_totals::start(run.began);
     let mut metadata = [0u8; 256];
     let mut counts = [0u8; 256];
@@ -52,9 +52,10 @@ fn carry(page: &mut [u8; 65536], size: usize) {
 }
 
 // Passes over the pages before the first that is asked for.
-fn pass(run: Run, page: &mut [u8]) -> Passed {
+fn pass<R: System>(rt: &R, run: Run<'_>, page: &mut [u8]) -> Passed {
     let size = run.plan.size;
     files::pass(
+        rt,
         run.input,
         text::front_mut(page, size as usize),
         size,
@@ -63,52 +64,63 @@ fn pass(run: Run, page: &mut [u8]) -> Passed {
 }
 
 // The pages of a dump that the options ask for, after those before them were passed over.
-fn range(
+fn range<R: System>(
+    rt: &R,
     out: &mut [u8; 32768],
-    run: Run,
+    run: Run<'_>,
     page: &mut [u8; 65536],
     data: &mut [u8; 65536],
 ) -> Totals {
     let start = read_totals::start(run.began);
-    match pass(run, page) {
-        Passed::All => read_totals::some(dumping::pages(out, run, start, page, data)),
+    match pass(rt, run, page) {
+        Passed::All => read_totals::some(dumping::pages(rt, out, run, start, page, data)),
         Passed::Short => read_totals::dropped(start),
-        Passed::Failed => read_totals::broken(start, Failed::Page),
+        Passed::Failed(error) => read_totals::broken(start, Failed::Page(error)),
     }
 }
 
 // A file longer than a page, of which the first and one byte of the next are in the buffer.
-fn dump(out: &mut [u8; 32768], run: Run, page: &mut [u8; 65536], data: &mut [u8; 65536]) -> Totals {
-    let size = run.plan.size as usize;
-    let start = read_totals::start(run.began);
-    let first = dumping::read_next(out, run, start, text::front(page, size), data);
-    carry(page, size);
-    dumping::pages(out, run, read_totals::carrying(first), page, data)
-}
-
-// The whole file. One byte more than a page is read first, so that a longer file is known.
-fn whole(
+fn dump<R: System>(
+    rt: &R,
     out: &mut [u8; 32768],
-    run: Run,
+    run: Run<'_>,
     page: &mut [u8; 65536],
     data: &mut [u8; 65536],
 ) -> Totals {
     let size = run.plan.size as usize;
-    let Filled::Bytes(n) = dumping::fill(run.input, page, size + 1, 0) else {
-        return read_totals::broken(read_totals::start(run.began), Failed::Page);
+    let start = read_totals::start(run.began);
+    let first = dumping::read_next(rt, out, run, start, text::front(page, size), data);
+    carry(page, size);
+    dumping::pages(rt, out, run, read_totals::carrying(first), page, data)
+}
+
+// The whole file. One byte more than a page is read first, so that a longer file is known.
+fn whole<R: System>(
+    rt: &R,
+    out: &mut [u8; 32768],
+    run: Run<'_>,
+    page: &mut [u8; 65536],
+    data: &mut [u8; 65536],
+) -> Totals {
+    let size = run.plan.size as usize;
+    let n = match dumping::fill(run.input, page, size + 1, 0) {
+        Filled::Bytes(n) => n,
+        Filled::Failed(error) => {
+            return read_totals::broken(read_totals::start(run.began), Failed::Page(error));
+        }
     };
     if n <= size {
         return single(out, run, text::front(page, n), data);
     }
-    dump(out, run, page, data)
+    dump(rt, out, run, page, data)
 }
 
 // Reads the file of a run: all of it, or the pages that are asked for.
-pub fn read_file(out: &mut [u8; 32768], run: Run) -> Totals {
-    let mut page = io::large_buffer();
-    let mut data = io::large_buffer();
+pub fn read_file<R: System>(rt: &R, out: &mut [u8; 32768], run: Run<'_>) -> Totals {
+    let mut page = text::large_buffer();
+    let mut data = text::large_buffer();
     if run.dump {
-        return range(out, run, &mut page, &mut data);
+        return range(rt, out, run, &mut page, &mut data);
     }
-    whole(out, run, &mut page, &mut data)
+    whole(rt, out, run, &mut page, &mut data)
 }

@@ -10,7 +10,7 @@ use read_totals::Run;
 
 // Reads the page with ones in place of the ruined blocks: whether that gave the same counts of the others.
 fn read_others(
-    run: Run,
+    run: Run<'_>,
     page: &[u8],
     metadata: &mut [u8],
     data: &mut [u8],
@@ -25,21 +25,21 @@ fn read_others(
 
 // Puts the messages of the blocks that are not ruined to the front of metadata and data, and says whether that is done.
 fn put_others(
-    run: Run,
+    run: Run<'_>,
     page: &[u8],
     metadata: &mut [u8],
     data: &mut [u8],
     counts: &[u8; 256],
 ) -> bool {
     let n = page.len();
-    let mut work = io::large_buffer();
+    let mut work = text::large_buffer();
     salvage::covered(run.plan, page, text::front_mut(&mut work, n), counts);
     read_others(run, text::front(&work, n), metadata, data, counts)
 }
 
 // Puts what can be saved of a page with these counts to the front of metadata and data, and says whether that is done.
 pub fn salvage(
-    run: Run,
+    run: Run<'_>,
     page: &[u8],
     metadata: &mut [u8],
     data: &mut [u8],

@@ -1,9 +1,10 @@
 // A page with ruined blocks of which the others are saved. What stands in the place of a ruined block is listed.
 use crate::{dumping, salvaging};
 use read_totals::{Failed, Run, Totals};
+use streams::System;
 
 // The line of a page that was stored, of so many blocks.
-fn salvaged(out: &mut [u8; 32768], run: Run, totals: Totals, ruined: u64) {
+fn salvaged<R: System>(rt: &R, out: &mut [u8; 32768], run: Run<'_>, totals: Totals, ruined: u64) {
     let blocks = run.plan.blocks as u64;
     dumping::page_number(out, run, totals);
     say::facts(
@@ -11,26 +12,33 @@ fn salvaged(out: &mut [u8; 32768], run: Run, totals: Totals, ruined: u64) {
         b"salvaged # blocks of #\n",
         &[salvage::past(blocks, ruined), blocks],
     );
-    say::flush(out);
+    say::flush(rt, out);
 }
 
 // A page that was stored, and is listed: its line.
-fn stored(out: &mut [u8; 32768], run: Run, totals: Totals, counts: &[u8; 256]) -> Totals {
+fn stored<R: System>(
+    rt: &R,
+    out: &mut [u8; 32768],
+    run: Run<'_>,
+    totals: Totals,
+    counts: &[u8; 256],
+) -> Totals {
     if !totals.more {
         return totals;
     }
-    if !salvage::put_list(run, totals, counts) {
-        return read_totals::broken(totals, Failed::List);
+    if let Err(error) = salvage::put_list(run, totals, counts) {
+        return read_totals::broken(totals, Failed::List(error));
     }
     let sums = read_totals::sums_of(run.plan, counts);
-    salvaged(out, run, totals, sums.ruined);
+    salvaged(rt, out, run, totals, sums.ruined);
     read_totals::was_salvaged(totals, sums.ruined)
 }
 
 // Saves what can be saved of a page.
-pub fn save(
+pub fn save<R: System>(
+    rt: &R,
     out: &mut [u8; 32768],
-    run: Run,
+    run: Run<'_>,
     totals: Totals,
     page: &[u8],
     counts: &[u8; 256],
@@ -39,7 +47,7 @@ pub fn save(
     let mut data = [255u8; 65536];
     if salvaging::salvage(run, page, &mut metadata, &mut data, counts) {
         let t = dumping::put_page(run, totals, &metadata, &data);
-        return stored(out, run, t, counts);
+        return stored(rt, out, run, t, counts);
     }
     dumping::fill_place(run, totals, counts)
 }

@@ -2,9 +2,10 @@
 #![tactic(auto)]
 
 use read_totals::{Failed, Run, Totals};
+use streams::{Sink, System};
 
 // Whether a dump was read, and not one page.
-fn is_dump(run: Run, totals: Totals) -> bool {
+fn is_dump(run: Run<'_>, totals: Totals) -> bool {
     if run.dump {
         return true;
     }
@@ -12,37 +13,38 @@ fn is_dump(run: Run, totals: Totals) -> bool {
 }
 
 // How many pages are stored where a run failed: none that were to take a place.
-fn stored(totals: Totals, metadata: &[u8], data: &[u8], run: Run) -> u64 {
+fn stored(totals: Totals, metadata: &[u8], data: &[u8], run: Run<'_>) -> u64 {
     if files::is_direct(metadata) {
         return totals.pages;
     }
     if files::is_direct(data) {
         return totals.pages;
     }
-    if run.data == 1 {
+    if let Sink::Output(_) = run.data {
         return totals.pages;
     }
     0
 }
 
 // Drops the outputs that were begun.
-pub fn drop_all(metadata: &[u8], data: &[u8], list: &[u8]) {
-    let number = arguments::run_number();
-    files::drop_new(metadata, number);
-    files::drop_new(data, number);
-    files::drop_new(list, number);
+pub fn drop_all<R: System>(rt: &R, metadata: &[u8], data: &[u8], list: &[u8]) {
+    let number = arguments::run_number(rt);
+    files::drop_new(rt, metadata, number);
+    files::drop_new(rt, data, number);
+    files::drop_new(rt, list, number);
 }
 
 // The end of a run that failed, after its error's line.
-fn stopped(
+fn stopped<R: System>(
+    rt: &R,
     out: &mut [u8; 32768],
-    run: Run,
+    run: Run<'_>,
     totals: Totals,
     metadata: &[u8],
     data: &[u8],
     list: &[u8],
 ) {
-    drop_all(metadata, data, list);
+    drop_all(rt, metadata, data, list);
     say::forget(out);
     if is_dump(run, totals) {
         say::facts(
@@ -54,10 +56,17 @@ fn stopped(
 }
 
 // Ends the outputs and puts them in place. Says whether that is done.
-fn kept(out: &mut [u8; 32768], run: Run, metadata: &[u8], data: &[u8], list: &[u8]) -> bool {
-    let m = files::end(out, run.metadata, metadata);
-    let d = files::end(out, run.data, data);
-    let l = files::end(out, run.list, list);
+fn kept<R: System>(
+    rt: &R,
+    out: &mut [u8; 32768],
+    run: Run<'_>,
+    metadata: &[u8],
+    data: &[u8],
+    list: &[u8],
+) -> bool {
+    let m = files::end(rt, out, run.metadata, metadata);
+    let d = files::end(rt, out, run.data, data);
+    let l = files::end(rt, out, run.list, list);
     if !m {
         return false;
     }
@@ -67,11 +76,12 @@ fn kept(out: &mut [u8; 32768], run: Run, metadata: &[u8], data: &[u8], list: &[u
     if !l {
         return false;
     }
-    files::place_all(out, list, metadata, data, arguments::run_number())
+    files::place_all(rt, out, list, metadata, data, arguments::run_number(rt))
 }
 
-// The line of a file that failed, as errno says.
-fn complain(
+// The line of a file that failed, and why.
+fn complain<R: System>(
+    rt: &R,
     out: &mut [u8; 32768],
     failed: Failed,
     page: &[u8],
@@ -81,28 +91,29 @@ fn complain(
 ) {
     match failed {
         Failed::Nothing => (),
-        Failed::Page => say::bad_file(out, page),
-        Failed::Metadata => say::bad_output(out, metadata),
-        Failed::Data => say::bad_output(out, data),
-        Failed::List => say::bad_output(out, list),
+        Failed::Page(error) => say::bad_file(rt, out, page, error),
+        Failed::Metadata(error) => say::bad_output(rt, out, metadata, error),
+        Failed::Data(error) => say::bad_output(rt, out, data, error),
+        Failed::List(error) => say::bad_output(rt, out, list, error),
     }
 }
 
 fn is_nothing(failed: Failed) -> bool {
     match failed {
         Failed::Nothing => true,
-        Failed::Page => false,
-        Failed::Metadata => false,
-        Failed::Data => false,
-        Failed::List => false,
+        Failed::Page(_) => false,
+        Failed::Metadata(_) => false,
+        Failed::Data(_) => false,
+        Failed::List(_) => false,
     }
 }
 
 // The end of a run: the outputs take their place where all went well. Nothing is stored where the one page was refused or the dump has
 // not the pages that were asked for.
-pub fn finish(
+pub fn finish<R: System>(
+    rt: &R,
     out: &mut [u8; 32768],
-    run: Run,
+    run: Run<'_>,
     totals: Totals,
     page: &[u8],
     metadata: &[u8],
@@ -110,20 +121,20 @@ pub fn finish(
     list: &[u8],
 ) {
     let failed = totals.failed;
-    complain(out, failed, page, metadata, data, list);
+    complain(rt, out, failed, page, metadata, data, list);
     if !is_nothing(failed) {
-        stopped(out, run, totals, metadata, data, list);
+        stopped(rt, out, run, totals, metadata, data, list);
         return;
     }
     if !totals.good {
-        drop_all(metadata, data, list);
+        drop_all(rt, metadata, data, list);
         if run.dump {
-            say::bad_argument(out, b"PAGE", page, b"has no such page");
+            say::bad_argument(rt, out, b"PAGE", page, b"has no such page");
         }
         return;
     }
-    if !kept(out, run, metadata, data, list) {
-        stopped(out, run, totals, metadata, data, list);
+    if !kept(rt, out, run, metadata, data, list) {
+        stopped(rt, out, run, totals, metadata, data, list);
         return;
     }
     if is_dump(run, totals) {

@@ -81,10 +81,8 @@ fn cover(plan: Plan, page: &mut [u8], counts: &[u8; 256], b: u16) {
 
 // Writes ones over every ruined block.
 fn cover_all(plan: Plan, page: &mut [u8], counts: &[u8; 256]) {
-    let mut b: u16 = 0;
-    while b < 256 {
+    for b in 0..256 {
         cover(plan, page, counts, b);
-        b += 1;
     }
 }
 
@@ -154,10 +152,8 @@ pub fn put_all(
     data: &mut [u8],
     counts: &[u8; 256],
 ) {
-    let mut b: u16 = 0;
-    while b < 256 {
+    for b in 0..256 {
         put_ruined(plan, raw, page, metadata, data, counts, b);
-        b += 1;
     }
 }
 
@@ -171,12 +167,10 @@ fn is_same(count: u8, again: u8) -> bool {
 
 // Whether all blocks that are not ruined have the same counts twice.
 pub fn are_same(counts: &[u8; 256], again: &[u8; 256]) -> bool {
-    let mut i: usize = 0;
-    while i < 256 {
+    for i in 0..256 {
         if !is_same(counts[i], again[i]) {
             return false;
         }
-        i += 1;
     }
     true
 }

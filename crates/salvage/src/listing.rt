@@ -1,6 +1,7 @@
 // The list of the ruined blocks of a page that is salvaged: a line a block says where its message lies in the files, and what stands there.
 use layout_plan::Plan;
 use read_totals::{Run, Totals};
+use std::io;
 
 // How far a lies past b.
 pub fn past(a: u64, b: u64) -> u64 {
@@ -39,7 +40,7 @@ fn places(line: &mut [u8; 32768], plan: Plan, before: u64, b: u16) {
 }
 
 // The line of block b, where it is ruined.
-fn listed(line: &mut [u8; 32768], run: Run, totals: Totals, counts: &[u8; 256], b: u16) {
+fn listed(line: &mut [u8; 32768], run: Run<'_>, totals: Totals, counts: &[u8; 256], b: u16) {
     let plan = run.plan;
     if !crate::is_ruined(plan, counts, b) {
         return;
@@ -58,16 +59,14 @@ fn listed(line: &mut [u8; 32768], run: Run, totals: Totals, counts: &[u8; 256], 
 }
 
 // The lines of all ruined blocks of a page.
-fn list(line: &mut [u8; 32768], run: Run, totals: Totals, counts: &[u8; 256]) {
-    let mut b: u16 = 0;
-    while b < 256 {
+fn list(line: &mut [u8; 32768], run: Run<'_>, totals: Totals, counts: &[u8; 256]) {
+    for b in 0..256 {
         listed(line, run, totals, counts, b);
-        b += 1;
     }
 }
 
-// Puts the lines of a page to the list, and says whether that is done.
-pub fn put_list(run: Run, totals: Totals, counts: &[u8; 256]) -> bool {
+// Puts the lines of a page to the list.
+pub fn put_list(run: Run<'_>, totals: Totals, counts: &[u8; 256]) -> io::Result<()> {
     let mut line = say::new();
     list(&mut line, run, totals, counts);
     streams::put(run.list, say::text(&line))
