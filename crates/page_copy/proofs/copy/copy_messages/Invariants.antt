@@ -1,0 +1,16 @@
+use Prim.Native.Nat.{◌-◌, ◌≤◌}
+use mathlib.Core.Path.{◌≡◌, refl, ◌∙◌}
+use mathlib.Core.List.{◌++◌}
+use native.Mathlib.Omega.{arith}
+use borrow.Author.Rules.{rules}
+use Rattle.bits.specs.Bits.{placed}
+use Rattle.payload.specs.Payload.{Joined}
+use Rattle.page_copy.specs.Copying.{texts}
+use Rattle.page_copy.proofs.Messages.{joined-start, joined-texts}
+use Rattle.page_copy.proofs.copy.copy_messages.Given as goal
+
+abbrev pub invariant-loop-b : goal.invariant-loop-b
+invariant-loop-b l = (l.b ≤ l.blocks) × Joined l.initial.metadata l.initial.data l.metadata l.data (placed (l.initial.metadata ++ l.initial.data) 0 (texts l.plan l.page l.b))
+
+abbrev pub decreases-loop-b : goal.decreases-loop-b
+decreases-loop-b l = l.blocks - l.b
