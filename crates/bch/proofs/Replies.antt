@@ -12,7 +12,7 @@ use lib.Seq.{length-take-le, take-suc, drop-cons, append_snoc, set_at}
 use Rattle.field.specs.declared.Field.{Field}
 use Rattle.field.specs.Field.{degree, longest}
 use Rattle.code.specs.Code.{Fits}
-use Rattle.code.specs.Locations.{exponents, locate}
+use Rattle.code.specs.Locations.{locate}
 use Rattle.decoder.specs.declared.Found.{Found}
 use Rattle.replies.specs.declared.Refusal.{Refusal}
 use Rattle.replies.specs.declared.Refusal.TheVariants as refusal
