@@ -11,7 +11,7 @@ use std::fs::OpenOptions;
 use streams::{Sink, System};
 
 // What the first argument asks for.
-#[derive(Drop)]
+#[derive(Clone, Copy)]
 pub enum Command {
     Layout,
     Bits,

@@ -6,6 +6,7 @@ use layout_plan::Plan;
 use page_claim::ClaimAnswer;
 use plans::Planned;
 use replies::refusal_number;
+use streams::System;
 use text::Number;
 
 // An exponent of more than 16 bits is none of any block, and neither is the largest of 16.
@@ -19,10 +20,8 @@ fn exponent(word: u32) -> u16 {
 // The words as exponents.
 fn exponents(words: &[u32; 256]) -> [u16; 256] {
     let mut claims = [0u16; 256];
-    let mut i = 0;
-    while i < 256 {
+    for i in 0..256 {
         claims[i] = exponent(words[i]);
-        i += 1;
     }
     claims
 }
@@ -59,7 +58,8 @@ fn answer(
     }
 }
 
-fn claim_on(
+fn claim_on<R: System>(
+    rt: &R,
     out: &mut [u8; 32768],
     options: Options,
     record: &[u8],
@@ -67,8 +67,9 @@ fn claim_on(
     block: u64,
     claims: &[u16],
 ) {
-    let mut page = io::large_buffer();
+    let mut page = text::large_buffer();
     match loading::load(
+        rt,
         out,
         options,
         plan,
@@ -89,7 +90,8 @@ fn claim_on(
 }
 
 // A claim of more exponents than any level has is wrong, whatever they are: 256 stand for all that are more.
-fn claim_of(
+fn claim_of<R: System>(
+    rt: &R,
     out: &mut [u8; 32768],
     options: Options,
     record: &[u8],
@@ -99,12 +101,13 @@ fn claim_of(
 ) {
     let mut words = [0u32; 256];
     let first = arguments::place(options.at, 4);
-    if !arguments::word_list(out, first, end, b"EXPONENT", u64::MAX, &mut words) {
+    if !arguments::word_list(rt, out, first, end, b"EXPONENT", u64::MAX, &mut words) {
         return;
     }
     let claims = exponents(&words);
     if first <= end {
         claim_on(
+            rt,
             out,
             options,
             record,
@@ -116,14 +119,16 @@ fn claim_of(
 }
 
 // The claim of so many arguments.
-fn claim_under(out: &mut [u8; 32768], options: Options, count: usize) {
-    let Number::Is(block) = arguments::number(out, arguments::place(options.at, 3), b"BLOCK") else {
+fn claim_under<R: System>(rt: &R, out: &mut [u8; 32768], options: Options, count: usize) {
+    let Number::Is(block) = arguments::number(rt, out, arguments::place(options.at, 3), b"BLOCK")
+    else {
         return;
     };
-    let Planned::Under { words, plan } = plans::plan_of_words(out, options) else {
+    let Planned::Under { words, plan } = plans::plan_of_words(rt, out, options) else {
         return;
     };
     claim_of(
+        rt,
         out,
         options,
         &arguments::record_of(words),
@@ -134,21 +139,23 @@ fn claim_under(out: &mut [u8; 32768], options: Options, count: usize) {
 }
 
 // nandpage claim [--edition N] [--mark WORD2] [--page K] WORD0 WORD1 PAGE BLOCK EXPONENT..
-pub fn claim(out: &mut [u8; 32768]) {
+pub fn claim<R: System>(rt: &R, out: &mut [u8; 32768]) {
     let options = arguments::find_options(
+        rt,
         out,
         arguments::MARK + arguments::EDITION + arguments::PAGE,
     );
     if !options.good {
         return;
     }
-    let count = os::arg_count();
+    let count = arguments::count(rt);
     if count < arguments::place(options.at, 4) {
         say::error(
+            rt,
             out,
             b"usage: nandpage claim [--edition N] [--mark WORD2] [--page K] WORD0 WORD1 PAGE BLOCK EXPONENT..",
         );
         return;
     }
-    claim_under(out, options, count);
+    claim_under(rt, out, options, count);
 }

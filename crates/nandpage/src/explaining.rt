@@ -9,6 +9,7 @@ use explain::LayoutAnswer;
 use layout::Acceptance;
 use layout_plan::Plan;
 use page_explain::BlockAnswer;
+use streams::System;
 use text::Number;
 
 // Explains a layout.
@@ -44,9 +45,17 @@ fn of_block(out: &mut [u8; 32768], edition: u64, record: &[u8; 12], page: &[u8],
 }
 
 // A block of the page that the argument after the words names.
-fn of_file(out: &mut [u8; 32768], options: Options, record: &[u8; 12], plan: Plan, block: u64) {
-    let mut page = io::large_buffer();
+fn of_file<R: System>(
+    rt: &R,
+    out: &mut [u8; 32768],
+    options: Options,
+    record: &[u8; 12],
+    plan: Plan,
+    block: u64,
+) {
+    let mut page = text::large_buffer();
     match loading::load(
+        rt,
         out,
         options,
         plan,
@@ -59,57 +68,74 @@ fn of_file(out: &mut [u8; 32768], options: Options, record: &[u8; 12], plan: Pla
 }
 
 // A page is read where the layout is accepted: it says how many bytes a page has.
-fn of_page(out: &mut [u8; 32768], options: Options, words: LayoutWords, block: u64) {
+fn of_page<R: System>(
+    rt: &R,
+    out: &mut [u8; 32768],
+    options: Options,
+    words: LayoutWords,
+    block: u64,
+) {
     let record = arguments::record_of(words);
     match layout::check_layout(options.edition, &record) {
-        Acceptance::Accepted(l) => of_file(out, options, &record, layout_plan::plan_of(l), block),
+        Acceptance::Accepted(l) => of_file(
+            rt,
+            out,
+            options,
+            &record,
+            layout_plan::plan_of(l),
+            block,
+        ),
         Acceptance::Refused(_) => of_layout(out, options.edition, &record),
     }
 }
 
-fn asked_block(out: &mut [u8; 32768], options: Options) {
-    let Number::Is(block) = arguments::number(out, arguments::place(options.at, 3), b"BLOCK") else {
+fn asked_block<R: System>(rt: &R, out: &mut [u8; 32768], options: Options) {
+    let Number::Is(block) = arguments::number(rt, out, arguments::place(options.at, 3), b"BLOCK")
+    else {
         return;
     };
-    let Words::Are(words) = arguments::layout_words(out, options) else {
+    let Words::Are(words) = arguments::layout_words(rt, out, options) else {
         return;
     };
-    of_page(out, options, words, block);
+    of_page(rt, out, options, words, block);
 }
 
-fn asked_layout(out: &mut [u8; 32768], options: Options) {
+fn asked_layout<R: System>(rt: &R, out: &mut [u8; 32768], options: Options) {
     if options.paged {
         say::error(
+            rt,
             out,
             b"--page asks about a block: PAGE and BLOCK are missing",
         );
         return;
     }
-    let Words::Are(words) = arguments::layout_words(out, options) else {
+    let Words::Are(words) = arguments::layout_words(rt, out, options) else {
         return;
     };
     of_layout(out, options.edition, &arguments::record_of(words));
 }
 
 // nandpage explain [--edition N] [--mark WORD2] [--page K] WORD0 WORD1 [PAGE BLOCK]
-pub fn explain(out: &mut [u8; 32768]) {
+pub fn explain<R: System>(rt: &R, out: &mut [u8; 32768]) {
     let options = arguments::find_options(
+        rt,
         out,
         arguments::MARK + arguments::EDITION + arguments::PAGE,
     );
     if !options.good {
         return;
     }
-    let count = os::arg_count();
+    let count = arguments::count(rt);
     if count == arguments::place(options.at, 4) {
-        asked_block(out, options);
+        asked_block(rt, out, options);
         return;
     }
     if count == arguments::place(options.at, 2) {
-        asked_layout(out, options);
+        asked_layout(rt, out, options);
         return;
     }
     say::error(
+        rt,
         out,
         b"usage: nandpage explain [--edition N] [--mark WORD2] [--page K] WORD0 WORD1 [PAGE BLOCK]",
     );

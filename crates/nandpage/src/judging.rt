@@ -6,6 +6,7 @@ use layout_plan::Plan;
 use page_judge::JudgeAnswer;
 use plans::Planned;
 use replies::{Refusal, refusal_number};
+use streams::System;
 use text::Number;
 
 // The count of a block: its corrected bits, or 128 plus its zeros where it is erased.
@@ -41,9 +42,17 @@ fn answer(out: &mut [u8; 32768], edition: u64, record: &[u8], plan: Plan, page: 
     }
 }
 
-fn judge_in(out: &mut [u8; 32768], options: Options, record: &[u8], plan: Plan, block: u64) {
-    let mut page = io::large_buffer();
+fn judge_in<R: System>(
+    rt: &R,
+    out: &mut [u8; 32768],
+    options: Options,
+    record: &[u8],
+    plan: Plan,
+    block: u64,
+) {
+    let mut page = text::large_buffer();
     match loading::load(
+        rt,
         out,
         options,
         plan,
@@ -62,19 +71,21 @@ fn judge_in(out: &mut [u8; 32768], options: Options, record: &[u8], plan: Plan, 
     }
 }
 
-fn judge_under(out: &mut [u8; 32768], options: Options) {
-    let Number::Is(block) = arguments::number(out, arguments::place(options.at, 3), b"BLOCK") else {
+fn judge_under<R: System>(rt: &R, out: &mut [u8; 32768], options: Options) {
+    let Number::Is(block) = arguments::number(rt, out, arguments::place(options.at, 3), b"BLOCK")
+    else {
         return;
     };
-    let Planned::Under { words, plan } = plans::plan_of_words(out, options) else {
+    let Planned::Under { words, plan } = plans::plan_of_words(rt, out, options) else {
         return;
     };
-    judge_in(out, options, &arguments::record_of(words), plan, block);
+    judge_in(rt, out, options, &arguments::record_of(words), plan, block);
 }
 
 // nandpage judge [--edition N] [--mark WORD2] [--page K] WORD0 WORD1 PAGE BLOCK
-pub fn judge(out: &mut [u8; 32768]) {
+pub fn judge<R: System>(rt: &R, out: &mut [u8; 32768]) {
     let options = arguments::find_options(
+        rt,
         out,
         arguments::MARK + arguments::EDITION + arguments::PAGE,
     );
@@ -82,6 +93,7 @@ pub fn judge(out: &mut [u8; 32768]) {
         return;
     }
     if !arguments::are(
+        rt,
         out,
         options.at,
         4,
@@ -89,5 +101,5 @@ pub fn judge(out: &mut [u8; 32768]) {
     ) {
         return;
     }
-    judge_under(out, options);
+    judge_under(rt, out, options);
 }

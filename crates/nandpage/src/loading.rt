@@ -2,107 +2,120 @@
 use arguments::Options;
 use files::Passed;
 use layout_plan::Plan;
-use streams::Filled;
+use streams::{Filled, Source, System};
 
 // What came of loading: so many bytes of the page are in the buffer, or an error was printed.
-#[derive(Drop)]
+#[derive(Clone, Copy)]
 pub enum Loaded {
     Bytes(usize),
     Failed,
 }
 
-fn got(out: &mut [u8; 32768], path: &[u8], filled: Filled) -> Loaded {
+fn got<R: System>(rt: &R, out: &mut [u8; 32768], path: &[u8], filled: Filled) -> Loaded {
     match filled {
         Filled::Bytes(n) => Loaded::Bytes(n),
-        Filled::Failed => {
-            say::bad_file(out, path);
+        Filled::Failed(error) => {
+            say::bad_file(rt, out, path, error);
             Loaded::Failed
         }
     }
 }
 
-fn no_page(out: &mut [u8; 32768], path: &[u8]) -> Loaded {
-    say::bad_argument(out, b"PAGE", path, b"has no such page");
+fn no_page<R: System>(rt: &R, out: &mut [u8; 32768], path: &[u8]) -> Loaded {
+    say::bad_argument(rt, out, b"PAGE", path, b"has no such page");
     Loaded::Failed
 }
 
 // A page of a dump, which has at least a byte.
-fn some(out: &mut [u8; 32768], path: &[u8], filled: Filled) -> Loaded {
+fn some<R: System>(rt: &R, out: &mut [u8; 32768], path: &[u8], filled: Filled) -> Loaded {
     match filled {
         Filled::Bytes(n) => {
             if n == 0 {
-                return no_page(out, path);
+                return no_page(rt, out, path);
             }
             Loaded::Bytes(n)
         }
-        Filled::Failed => got(out, path, filled),
+        Filled::Failed(_) => got(rt, out, path, filled),
     }
 }
 
 // The page of a dump that the options ask for.
-fn from_dump(
+fn from_dump<R: System>(
+    rt: &R,
     out: &mut [u8; 32768],
     options: Options,
     plan: Plan,
     path: &[u8],
-    fd: i32,
+    source: Source<'_>,
     page: &mut [u8],
 ) -> Loaded {
-    match files::pass(fd, page, plan.size, options.page) {
-        Passed::All => some(out, path, streams::fill(fd, page, 0)),
-        Passed::Short => no_page(out, path),
-        Passed::Failed => got(out, path, Filled::Failed),
+    match files::pass(rt, source, page, plan.size, options.page) {
+        Passed::All => some(rt, out, path, streams::fill(source, page, 0)),
+        Passed::Short => no_page(rt, out, path),
+        Passed::Failed(error) => got(rt, out, path, Filled::Failed(error)),
     }
 }
 
 // A file as a page: one byte more than a page is read, so that a longer file is known.
-fn from_file(
+fn from_file<R: System>(
+    rt: &R,
     out: &mut [u8; 32768],
     options: Options,
     plan: Plan,
     path: &[u8],
-    fd: i32,
+    source: Source<'_>,
     page: &mut [u8],
 ) -> Loaded {
     let size = plan.size as usize;
     if options.paged {
-        return from_dump(out, options, plan, path, fd, text::front_mut(page, size));
+        return from_dump(
+            rt,
+            out,
+            options,
+            plan,
+            path,
+            source,
+            text::front_mut(page, size),
+        );
     }
     got(
+        rt,
         out,
         path,
-        streams::fill(fd, text::front_mut(page, size + 1), 0),
+        streams::fill(source, text::front_mut(page, size + 1), 0),
     )
 }
 
-fn from_path(
+fn from_path<R: System>(
+    rt: &R,
     out: &mut [u8; 32768],
     options: Options,
     plan: Plan,
     path: &[u8],
     page: &mut [u8],
 ) -> Loaded {
-    let fd = files::input(out, path);
-    if fd < 0 {
+    let Some(input) = files::input(rt, out, path) else {
         return Loaded::Failed;
-    }
-    let loaded = from_file(out, options, plan, path, fd, page);
-    files::close_input(fd);
+    };
+    let loaded = from_file(rt, out, options, plan, path, files::source(&input), page);
+    files::close_input(input);
     loaded
 }
 
 // The page that argument i names. A dash is standard input.
-pub fn load(
+pub fn load<R: System>(
+    rt: &R,
     out: &mut [u8; 32768],
     options: Options,
     plan: Plan,
     i: usize,
     page: &mut [u8],
 ) -> Loaded {
-    let mut path = io::buffer();
-    let n = os::arg(i, &mut path);
-    if !arguments::whole(out, b"PAGE") {
+    let mut buffer = text::buffer();
+    let given = rt.arg(i, &mut buffer);
+    if !arguments::whole(rt, out, given, b"PAGE") {
         return Loaded::Failed;
     }
-    from_path(out, options, plan, &path[..n], page)
+    let path = text::front(&buffer, given.unwrap_or(0));
+    from_path(rt, out, options, plan, path, page)
 }

@@ -22,44 +22,45 @@ mod loading;
 mod writing;
 
 use commands::{Command, help};
+use streams::System;
 
 // The commands on a page or a dump of many.
-fn run_on_dumps(out: &mut [u8; 32768], command: Command) {
+fn run_on_dumps<R: System>(rt: &R, out: &mut [u8; 32768], command: Command) {
     match command {
-        Command::Write => writing::write(out),
-        Command::Read => read_command::read(out),
-        Command::Look => read_command::look(out),
-        Command::Salvage => read_command::salvage(out),
-        _ => compare_command::compare(out),
+        Command::Write => writing::write(rt, out),
+        Command::Read => read_command::read(rt, out),
+        Command::Look => read_command::look(rt, out),
+        Command::Salvage => read_command::salvage(rt, out),
+        _ => compare_command::compare(rt, out),
     }
 }
 
 // The commands on one page, and what is said of a command that there is not.
-fn run_on_pages(out: &mut [u8; 32768], command: Command) {
+fn run_on_pages<R: System>(rt: &R, out: &mut [u8; 32768], command: Command) {
     match command {
-        Command::Judge => judging::judge(out),
-        Command::Explain => explaining::explain(out),
-        Command::Claim => claiming::claim(out),
-        Command::Unknown => help::unknown(out),
-        _ => run_on_dumps(out, command),
+        Command::Judge => judging::judge(rt, out),
+        Command::Explain => explaining::explain(rt, out),
+        Command::Claim => claiming::claim(rt, out),
+        Command::Unknown => help::unknown(rt, out),
+        _ => run_on_dumps(rt, out, command),
     }
 }
 
-fn run(out: &mut [u8; 32768], command: Command) {
+fn run<R: System>(rt: &R, out: &mut [u8; 32768], command: Command) {
     match command {
-        Command::Layout => layout_commands::layout(out),
-        Command::Bits => layout_commands::bits(out),
-        Command::Locate => locator_commands::locate(out),
-        Command::Fragments => locator_commands::fragments(out),
+        Command::Layout => layout_commands::layout(rt, out),
+        Command::Bits => layout_commands::bits(rt, out),
+        Command::Locate => locator_commands::locate(rt, out),
+        Command::Fragments => locator_commands::fragments(rt, out),
         Command::Help => help::all(out),
-        _ => run_on_pages(out, command),
+        _ => run_on_pages(rt, out, command),
     }
 }
 
-fn main() {
+fn main(rt: HostRuntime) {
     let mut out = say::new();
-    run(&mut out, commands::asked(arguments::command()));
-    say::flush(&mut out);
-    say::close(&mut out);
-    commands::tell(say::status(&out));
+    run(&rt, &mut out, commands::asked(&rt, arguments::command(&rt)));
+    say::flush(&rt, &mut out);
+    say::close(&rt, &mut out);
+    commands::tell(&rt, say::status(&out));
 }

@@ -1,28 +1,29 @@
 // The command write of the tool: a page, or an image of many, from files that hold the metadata and the data of all pages, one after
 // the other.
 use arguments::{LayoutWords, Options};
+use files::Reading;
 use layout_plan::Plan;
-use libc::ENOENT;
 use page_write::WriteAnswer;
 use plans::Planned;
 use replies::refusal_number;
-use streams::Filled;
+use std::io;
+use std::io::{Error, ErrorKind};
+use streams::{Filled, Sink, Source, System};
 
-// The edition, the layout record and its plan; the descriptors of metadata, data, the page that is written and the file that stands in its
-// place. One below 0 is an empty file.
-#[derive(Drop)]
-struct Run {
+// The edition, the layout record and its plan; metadata, data, the page that is written and the file that stands in its place.
+#[derive(Clone, Copy)]
+struct Run<'a> {
     edition: u64,
     record: [u8; 12],
     plan: Plan,
-    metadata: i32,
-    data: i32,
-    page: i32,
-    before: i32,
+    metadata: Source<'a>,
+    data: Source<'a>,
+    page: Sink<'a>,
+    before: Source<'a>,
 }
 
-// What an image came to so far: its pages, whether to go on, whether all is right, and the file that failed, of which errno says why.
-#[derive(Drop)]
+// What an image came to so far: its pages, whether to go on, whether all is right, and the file that failed.
+#[derive(Clone, Copy)]
 struct Image {
     pages: u64,
     more: bool,
@@ -30,12 +31,12 @@ struct Image {
     failed: Failed,
 }
 
-#[derive(Drop)]
+#[derive(Clone, Copy)]
 enum Failed {
     Nothing,
-    Metadata,
-    Data,
-    Page,
+    Metadata(Error),
+    Data(Error),
+    Page(Error),
 }
 
 fn stopped(image: Image, failed: Failed) -> Image {
@@ -65,13 +66,6 @@ fn next(image: Image) -> Image {
     }
 }
 
-fn fill(fd: i32, buffer: &mut [u8]) -> Filled {
-    if fd < 0 {
-        return Filled::Bytes(0);
-    }
-    streams::fill(fd, buffer, 0)
-}
-
 // A page of an image has its number shown; a file of one page has none.
 fn number(out: &mut [u8; 32768], image: Image) {
     if 0 < image.pages {
@@ -99,11 +93,11 @@ fn refused(
     ended(image, false)
 }
 
-fn put(run: Run, image: Image, page: &[u8]) -> Image {
-    if streams::put(run.page, page) {
-        return next(image);
+fn put(run: Run<'_>, image: Image, page: &[u8]) -> Image {
+    match streams::put(run.page, page) {
+        Ok(()) => next(image),
+        Err(error) => stopped(image, Failed::Page(error)),
     }
-    stopped(image, Failed::Page)
 }
 
 fn erase(page: &mut [u8]) {
@@ -112,31 +106,33 @@ fn erase(page: &mut [u8]) {
 }
 
 // Puts to the buffer what the next page is written over, since it keeps the mark of that: the page that stands in its place or, where none
-// does, ones, as erased flash has. Says whether that is done.
-fn lay(run: Run, page: &mut [u8]) -> bool {
+// does, ones, as erased flash has.
+fn lay(run: Run<'_>, page: &mut [u8]) -> io::Result<()> {
     let plan = run.plan;
     if plan.mark.length == 0 {
-        return true;
+        return Ok(());
     }
-    let Filled::Bytes(n) = fill(run.before, page) else {
-        return false;
-    };
-    if n < page.len() {
-        erase(page);
+    match streams::fill(run.before, page, 0) {
+        Filled::Bytes(n) => {
+            if n < page.len() {
+                erase(page);
+            }
+            Ok(())
+        }
+        Filled::Failed(error) => Err(error),
     }
-    true
 }
 
 fn write_from(
     out: &mut [u8; 32768],
-    run: Run,
+    run: Run<'_>,
     image: Image,
     metadata: &[u8],
     data: &[u8],
     page: &mut [u8],
 ) -> Image {
-    if !lay(run, page) {
-        return stopped(image, Failed::Page);
+    if let Err(error) = lay(run, page) {
+        return stopped(image, Failed::Page(error));
     }
     let record = run.record;
     match page_write::write_page(run.edition, &record, metadata, data, page) {
@@ -153,18 +149,20 @@ fn write_from(
 }
 
 // Whether a file goes on: it has a byte more.
-fn one_more(fd: i32) -> Filled {
+fn one_more(source: Source<'_>) -> Filled {
     let mut byte = [0u8; 1];
-    fill(fd, &mut byte)
+    streams::fill(source, &mut byte, 0)
 }
 
 // The end of both files, which is that of the image. A file of which a page takes nothing has to be empty.
-fn last(out: &mut [u8; 32768], run: Run, image: Image) -> Image {
-    let Filled::Bytes(m) = one_more(run.metadata) else {
-        return stopped(image, Failed::Metadata);
+fn last(out: &mut [u8; 32768], run: Run<'_>, image: Image) -> Image {
+    let m = match one_more(run.metadata) {
+        Filled::Bytes(m) => m,
+        Filled::Failed(error) => return stopped(image, Failed::Metadata(error)),
     };
-    let Filled::Bytes(d) = one_more(run.data) else {
-        return stopped(image, Failed::Data);
+    let d = match one_more(run.data) {
+        Filled::Bytes(d) => d,
+        Filled::Failed(error) => return stopped(image, Failed::Data(error)),
     };
     if m == 0 {
         if d == 0 {
@@ -188,7 +186,7 @@ fn is_end(image: Image, m: usize, d: usize) -> bool {
 // The next page, of which m bytes of metadata and d of data were read, or the end.
 fn write_read(
     out: &mut [u8; 32768],
-    run: Run,
+    run: Run<'_>,
     image: Image,
     metadata: &[u8],
     m: usize,
@@ -212,17 +210,19 @@ fn write_read(
 // The next page, from buffers that are as long as the metadata and the data of a page.
 fn one(
     out: &mut [u8; 32768],
-    run: Run,
+    run: Run<'_>,
     image: Image,
     metadata: &mut [u8],
     data: &mut [u8],
     page: &mut [u8],
 ) -> Image {
-    let Filled::Bytes(m) = fill(run.metadata, metadata) else {
-        return stopped(image, Failed::Metadata);
+    let m = match streams::fill(run.metadata, metadata, 0) {
+        Filled::Bytes(m) => m,
+        Filled::Failed(error) => return stopped(image, Failed::Metadata(error)),
     };
-    let Filled::Bytes(d) = fill(run.data, data) else {
-        return stopped(image, Failed::Data);
+    let d = match streams::fill(run.data, data, 0) {
+        Filled::Bytes(d) => d,
+        Filled::Failed(error) => return stopped(image, Failed::Data(error)),
     };
     write_read(out, run, image, metadata, m, data, d, page)
 }
@@ -230,7 +230,7 @@ fn one(
 // Writes page after page, as far as the files go.
 fn pages(
     out: &mut [u8; 32768],
-    run: Run,
+    run: Run<'_>,
     metadata: &mut [u8],
     data: &mut [u8],
     page: &mut [u8],
@@ -241,10 +241,11 @@ fn pages(
         good: true,
         failed: Failed::Nothing,
     };
-    let mut turns = u64::MAX;
-    while 0 < turns {
+    for _ in 0..u64::MAX {
         image = one(out, run, image, metadata, data, page);
-        turns = streams::left(turns, image.more);
+        if !image.more {
+            break;
+        }
     }
     image
 }
@@ -252,8 +253,8 @@ fn pages(
 fn all(out: &mut [u8; 32768], run: Run) -> Image {
     let plan = run.plan;
     let mut metadata = [0u8; 256];
-    let mut data = io::large_buffer();
-    let mut page = io::large_buffer();
+    let mut data = text::large_buffer();
+    let mut page = text::large_buffer();
     pages(
         out,
         run,
@@ -263,13 +264,20 @@ fn all(out: &mut [u8; 32768], run: Run) -> Image {
     )
 }
 
-// The line of a file that failed, as errno says.
-fn complain(out: &mut [u8; 32768], failed: Failed, metadata: &[u8], data: &[u8], page: &[u8]) {
+// The line of a file that failed, and why.
+fn complain<R: System>(
+    rt: &R,
+    out: &mut [u8; 32768],
+    failed: Failed,
+    metadata: &[u8],
+    data: &[u8],
+    page: &[u8],
+) {
     match failed {
         Failed::Nothing => (),
-        Failed::Metadata => say::bad_file(out, metadata),
-        Failed::Data => say::bad_file(out, data),
-        Failed::Page => say::bad_output(out, page),
+        Failed::Metadata(error) => say::bad_file(rt, out, metadata, error),
+        Failed::Data(error) => say::bad_file(rt, out, data, error),
+        Failed::Page(error) => say::bad_output(rt, out, page, error),
     }
 }
 
@@ -288,67 +296,69 @@ fn written(out: &mut [u8; 32768], plan: Plan, image: Image) {
 }
 
 // Puts a page or an image that is whole in its place.
-fn finish(out: &mut [u8; 32768], run: Run, image: Image, page: &[u8]) {
-    let n = arguments::run_number();
+fn finish<R: System>(rt: &R, out: &mut [u8; 32768], run: Run<'_>, image: Image, page: &[u8]) {
+    let n = arguments::run_number(rt);
     if image.good {
-        if files::end(out, run.page, page) {
-            if files::place(out, page, n) {
+        if files::end(rt, out, run.page, page) {
+            if files::place(rt, out, page, n) {
                 written(out, run.plan, image);
                 return;
             }
         }
     }
-    files::drop_new(page, n);
+    files::drop_new(rt, page, n);
 }
 
-// A file that is read. A dash is an empty one: -1 then, and -2 where an error was printed.
-fn input(out: &mut [u8; 32768], path: &[u8]) -> i32 {
+// A file that is read, where a dash is an empty one: none where an error was printed.
+fn input<R: System>(rt: &R, out: &mut [u8; 32768], path: &[u8]) -> Option<Reading> {
     if files::is_dash(path) {
-        return -1;
+        return Some(Reading::Nothing);
     }
-    let fd = files::input(out, path);
-    if fd < 0 {
-        return -2;
-    }
-    fd
+    files::input(rt, out, path)
 }
 
-// The file that stands in the place of a page with a mark: -1 where there is none, and -2 where an error was printed.
-fn standing(out: &mut [u8; 32768], plan: Plan, path: &[u8]) -> i32 {
+// The file that stands in the place of a page with a mark, where there is one: none where an error was printed.
+fn standing<R: System>(rt: &R, out: &mut [u8; 32768], plan: Plan, path: &[u8]) -> Option<Reading> {
     if plan.mark.length == 0 {
-        return -1;
+        return Some(Reading::Nothing);
     }
     if files::is_dash(path) {
-        return -1;
+        return Some(Reading::Nothing);
     }
     if files::is_direct(path) {
-        return -1;
+        return Some(Reading::Nothing);
     }
-    let fd = os::open_read(path);
-    if fd >= 0 {
-        return fd;
+    match files::open_read(rt, path) {
+        Ok(file) => Some(Reading::File(file)),
+        Err(error) => {
+            if error.kind() == ErrorKind::NotFound {
+                return Some(Reading::Nothing);
+            }
+            say::bad_output(rt, out, path, error);
+            None
+        }
     }
-    if os::errno() == ENOENT {
-        return -1;
-    }
-    say::bad_output(out, path);
-    -2
 }
 
-fn write_run(out: &mut [u8; 32768], run: Run, metadata: &[u8], data: &[u8], page: &[u8]) {
+fn write_run<R: System>(
+    rt: &R,
+    out: &mut [u8; 32768],
+    run: Run<'_>,
+    metadata: &[u8],
+    data: &[u8],
+    page: &[u8],
+) {
     if files::is_dash(page) {
         say::to_stderr(out);
     }
     let image = all(out, run);
     let failed = image.failed;
-    complain(out, failed, metadata, data, page);
-    files::close_input(run.metadata);
-    files::close_input(run.data);
-    files::close_input(run.before);
-    finish(out, run, image, page);
+    complain(rt, out, failed, metadata, data, page);
+    finish(rt, out, run, image, page);
 }
 
-fn write_paths(
+fn write_paths<R: System>(
+    rt: &R,
     out: &mut [u8; 32768],
     words: LayoutWords,
     plan: Plan,
@@ -356,36 +366,36 @@ fn write_paths(
     data: &[u8],
     page: &[u8],
 ) {
-    let m = input(out, metadata);
-    if m < -1 {
+    let Some(m) = input(rt, out, metadata) else {
         return;
-    }
-    let d = input(out, data);
-    if d < -1 {
+    };
+    let Some(d) = input(rt, out, data) else {
         return;
-    }
-    let b = standing(out, plan, page);
-    if b < -1 {
+    };
+    let Some(b) = standing(rt, out, plan, page) else {
         return;
-    }
-    let p = files::begin(out, page, arguments::run_number());
-    if p < 0 {
+    };
+    let Some(p) = files::begin(rt, out, page, arguments::run_number(rt)) else {
         return;
-    }
+    };
     let run = Run {
         edition: words.edition,
         record: arguments::record_of(words),
         plan: plan,
-        metadata: m,
-        data: d,
-        page: p,
-        before: b,
+        metadata: files::source(&m),
+        data: files::source(&d),
+        page: files::sink(&p),
+        before: files::source(&b),
     };
-    write_run(out, run, metadata, data, page);
+    write_run(rt, out, run, metadata, data, page);
+    files::close_input(m);
+    files::close_input(d);
+    files::close_input(b);
 }
 
 // The page that the argument after those of metadata and data names.
-fn write_to(
+fn write_to<R: System>(
+    rt: &R,
     out: &mut [u8; 32768],
     options: Options,
     words: LayoutWords,
@@ -393,35 +403,51 @@ fn write_to(
     metadata: &[u8],
     data: &[u8],
 ) {
-    let mut page = io::buffer();
-    let p = os::arg(arguments::place(options.at, 4), &mut page);
-    if !arguments::whole(out, b"PAGE") {
+    let mut buffer = text::buffer();
+    let given = rt.arg(arguments::place(options.at, 4), &mut buffer);
+    if !arguments::whole(rt, out, given, b"PAGE") {
         return;
     }
-    write_paths(out, words, plan, metadata, data, &page[..p]);
+    let page = text::front(&buffer, given.unwrap_or(0));
+    write_paths(rt, out, words, plan, metadata, data, page);
 }
 
-fn write_under(out: &mut [u8; 32768], options: Options, words: LayoutWords, plan: Plan) {
-    let mut metadata = io::buffer();
-    let m = os::arg(arguments::place(options.at, 2), &mut metadata);
-    if !arguments::whole(out, b"METADATA") {
+fn write_under<R: System>(
+    rt: &R,
+    out: &mut [u8; 32768],
+    options: Options,
+    words: LayoutWords,
+    plan: Plan,
+) {
+    let mut metadata = text::buffer();
+    let m = rt.arg(arguments::place(options.at, 2), &mut metadata);
+    if !arguments::whole(rt, out, m, b"METADATA") {
         return;
     }
-    let mut data = io::buffer();
-    let d = os::arg(arguments::place(options.at, 3), &mut data);
-    if !arguments::whole(out, b"DATA") {
+    let mut data = text::buffer();
+    let d = rt.arg(arguments::place(options.at, 3), &mut data);
+    if !arguments::whole(rt, out, d, b"DATA") {
         return;
     }
-    write_to(out, options, words, plan, &metadata[..m], &data[..d]);
+    write_to(
+        rt,
+        out,
+        options,
+        words,
+        plan,
+        text::front(&metadata, m.unwrap_or(0)),
+        text::front(&data, d.unwrap_or(0)),
+    );
 }
 
 // nandpage write [--edition N] [--mark WORD2] WORD0 WORD1 METADATA DATA PAGE
-pub fn write(out: &mut [u8; 32768]) {
-    let options = arguments::find_options(out, arguments::MARK + arguments::EDITION);
+pub fn write<R: System>(rt: &R, out: &mut [u8; 32768]) {
+    let options = arguments::find_options(rt, out, arguments::MARK + arguments::EDITION);
     if !options.good {
         return;
     }
     if !arguments::are(
+        rt,
         out,
         options.at,
         5,
@@ -429,8 +455,8 @@ pub fn write(out: &mut [u8; 32768]) {
     ) {
         return;
     }
-    let Planned::Under { words, plan } = plans::plan_of_words(out, options) else {
+    let Planned::Under { words, plan } = plans::plan_of_words(rt, out, options) else {
         return;
     };
-    write_under(out, options, words, plan);
+    write_under(rt, out, options, words, plan);
 }
