@@ -25,7 +25,7 @@ use decoder::Found;
 use remainder::Register;
 
 // A block that was looked at, with its remainder and, if `known`, that of the next one; the number of blocks where there is none.
-#[derive(Drop)]
+#[derive(Clone, Copy)]
 pub struct Scan {
     pub block: u16,
     pub remainder: Register,
@@ -35,7 +35,7 @@ pub struct Scan {
 
 // A block that was decided, if `known`: whether it is one of the first, which share a shape, its remainder, what was found for it, and its
 // count.
-#[derive(Drop)]
+#[derive(Clone, Copy)]
 pub struct Decided {
     pub known: bool,
     pub first: bool,
