@@ -21,7 +21,7 @@ use Rattle.layout_plan.specs.declared.Shape.{Shape}
 use Rattle.layout_plan.specs.declared.Plan.{Plan}
 use Rattle.layout.specs.declared.Acceptance.TheVariants.{Accepted}
 use Rattle.layout_plan.specs.Record.{Words, fields_in}
-use Rattle.layout_plan.specs.Plan.{shape_with, shape_of, later_shape, plan_for, plan_of, shape, field, level, covered, start, room, from, payload, Summed, Valid}
+use Rattle.layout_plan.specs.Plan.{shape_with, shape_of, later_shape, plan_for, plan_of, shape, field, level, start, room, from, payload, Summed, Valid}
 use Rattle.layout.specs.Acceptance.{acceptance}
 use Rattle.layout_plan.proofs.Plans.{pitch, later-none, shape-first, shape-later, start-next, start-order, start_up, start-product}
 use Rattle.layout.proofs.Accepting.{Keeps, keeps, plan-sums, accepted-plan, accepted-kept}
