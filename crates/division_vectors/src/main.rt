@@ -43,19 +43,24 @@ fn by_bits(f: Field, t: usize, bytes: &[u8], at: usize, n: usize) -> Register
 
 fn put_words(line: &mut [u8], at: usize, words: [u64; 14]) -> usize {
     let mut p = at;
-    let mut i = 0;
-    while i < 14 {
+    for i in 0..14 {
         p = vector_io::put_number(line, p, words[i]);
-        i += 1;
     }
     p
 }
 
 // Reads the bytes that follow a head, and answers: false where the input ends before.
-fn next_run(f: Field, ecc: usize, at: usize, n: usize, bytes: &mut [u8]) -> bool
+fn next_run<R: Input + Print>(
+    rt: &R,
+    f: Field,
+    ecc: usize,
+    at: usize,
+    n: usize,
+    bytes: &mut [u8],
+) -> bool
     requires { (ecc ≤ 31) × (at < 256) × (n < 65536) }
 {
-    if !vector_io::fill(bytes) {
+    if !vector_io::fill(rt, bytes) {
         return false;
     }
     let t = 2 * ecc;
@@ -64,14 +69,14 @@ fn next_run(f: Field, ecc: usize, at: usize, n: usize, bytes: &mut [u8]) -> bool
     let mut line = [0u8; 640];
     let middle = put_words(&mut line, 0, remainder);
     let end = put_words(&mut line, middle, parity);
-    vector_io::write_line(&line, end);
+    vector_io::write_line(rt, &line, end);
     true
 }
 
 // Answers the next vector: false where there is none.
-fn next_vector() -> bool {
+fn next_vector<R: Input + Print>(rt: &R) -> bool {
     let mut head = [0u8; 8];
-    if !vector_io::fill(&mut head) {
+    if !vector_io::fill(rt, &mut head) {
         return false;
     }
     let f = field_of(vector_io::byte(&head, 1, 0));
@@ -86,15 +91,13 @@ fn next_vector() -> bool {
     if 2048 < length {
         return false;
     }
-    next_run(f, ecc, at, n, &mut bytes[..length])
+    next_run(rt, f, ecc, at, n, &mut bytes[..length])
 }
 
-fn main() {
-    let mut turns: usize = 1000000;
-    while 0 < turns {
-        if !next_vector() {
+fn main(rt: HostRuntime) {
+    for _ in 0..1000000 {
+        if !next_vector(&rt) {
             return;
         }
-        turns -= 1;
     }
 }

@@ -1,7 +1,7 @@
 // Vectors that locate the errors behind a remainder.
 
 // Locates the errors behind a remainder, with so many places.
-fn locate(head: &[u8], n: u64, remainder: &[u8], count: usize) {
+fn locate<R: Input + Print>(rt: &R, head: &[u8], n: u64, remainder: &[u8], count: usize) {
     let mut places = [42405u16; 70];
     let found = bch::locate_errors(
         vector_io::number(head, 8, 8),
@@ -12,6 +12,7 @@ fn locate(head: &[u8], n: u64, remainder: &[u8], count: usize) {
         crate::front_places(&mut places, count),
     );
     crate::show_located(
+        rt,
         bch::answers::locate_reply(found),
         0,
         found,
@@ -20,19 +21,25 @@ fn locate(head: &[u8], n: u64, remainder: &[u8], count: usize) {
 }
 
 // Reads the remainder that follows a head, and answers: false where the input ends before.
-fn next_remainder(head: &[u8], n: u64, length: usize, count: usize) -> bool {
+fn next_remainder<R: Input + Print>(
+    rt: &R,
+    head: &[u8],
+    n: u64,
+    length: usize,
+    count: usize,
+) -> bool {
     let mut remainder = [0u8; 112];
-    if !vector_io::fill(text::front_mut(&mut remainder, length)) {
+    if !vector_io::fill(rt, text::front_mut(&mut remainder, length)) {
         return false;
     }
-    locate(head, n, text::front(&remainder, length), count);
+    locate(rt, head, n, text::front(&remainder, length), count);
     true
 }
 
 // Answers the vector of a head whose last eight bytes, n, are not read yet: false where the input ends before it.
-pub fn next(head: &[u8]) -> bool {
+pub fn next<R: Input + Print>(rt: &R, head: &[u8]) -> bool {
     let mut last = [0u8; 8];
-    if !vector_io::fill(&mut last) {
+    if !vector_io::fill(rt, &mut last) {
         return false;
     }
     let length = vector_io::byte(head, 1, 0);
@@ -44,6 +51,7 @@ pub fn next(head: &[u8]) -> bool {
         return false;
     }
     next_remainder(
+        rt,
         head,
         vector_io::number(&last, 0, 8),
         length as usize,

@@ -20,12 +20,9 @@ use fragments::FragmentsAnswer;
 use fragments::answers::fragments_reply;
 
 fn put_bytes(line: &mut [u8], at: usize, bytes: &[u8]) -> usize {
-    let n = bytes.len();
     let mut p = at;
-    let mut i = 0;
-    while i < n {
-        p = put_byte(line, p, bytes[i]);
-        i += 1;
+    for x in bytes {
+        p = put_byte(line, p, *x);
     }
     p
 }
@@ -35,20 +32,17 @@ fn put_byte(line: &mut [u8], at: usize, x: u8) -> usize {
 }
 
 // A line of a reply and of bytes.
-fn show_bytes(reply: u8, bytes: &[u8]) {
+fn show_bytes<R: Input + Print>(rt: &R, reply: u8, bytes: &[u8]) {
     let mut line = [0u8; 512];
     let at = put_byte(&mut line, 0, reply);
     let end = put_bytes(&mut line, at, bytes);
-    vector_io::write_line(&line, end);
+    vector_io::write_line(rt, &line, end);
 }
 
 fn put_fragments(line: &mut [u8], at: usize, fragments: &[u32]) -> usize {
-    let n = fragments.len();
     let mut p = at;
-    let mut i = 0;
-    while i < n {
-        p = put_fragment(line, p, fragments[i]);
-        i += 1;
+    for x in fragments {
+        p = put_fragment(line, p, *x);
     }
     p
 }
@@ -58,12 +52,9 @@ fn put_fragment(line: &mut [u8], at: usize, x: u32) -> usize {
 }
 
 fn put_places(line: &mut [u8], at: usize, places: &[u16]) -> usize {
-    let n = places.len();
     let mut p = at;
-    let mut i = 0;
-    while i < n {
-        p = put_place(line, p, places[i]);
-        i += 1;
+    for x in places {
+        p = put_place(line, p, *x);
     }
     p
 }
@@ -73,21 +64,28 @@ fn put_place(line: &mut [u8], at: usize, x: u16) -> usize {
 }
 
 // A line of numbers and of the places of a list.
-fn show_places(numbers: &[u64], places: &[u16]) {
+fn show_places<R: Input + Print>(rt: &R, numbers: &[u64], places: &[u16]) {
     let mut line = [0u8; 512];
     let at = vector_io::put_numbers(&mut line, 0, numbers);
     let end = put_places(&mut line, at, places);
-    vector_io::write_line(&line, end);
+    vector_io::write_line(rt, &line, end);
 }
 
 // A line of two numbers, the size of the set that was located, where there is one, and the places of a list.
-fn show_located(first: u8, second: u8, answer: LocateAnswer, places: &[u16]) {
+fn show_located<R: Input + Print>(
+    rt: &R,
+    first: u8,
+    second: u8,
+    answer: LocateAnswer,
+    places: &[u16],
+) {
     match answer {
         LocateAnswer::Located(size) => show_places(
+            rt,
             &[first as u64, second as u64, size as u64],
             places,
         ),
-        LocateAnswer::Refused(_) => show_places(&[first as u64, second as u64], places),
+        LocateAnswer::Refused(_) => show_places(rt, &[first as u64, second as u64], places),
     }
 }
 
@@ -119,7 +117,7 @@ struct Vector {
     size: usize,
 }
 
-fn export(v: Vector) {
+fn export<R: Input + Print>(rt: &R, v: Vector) {
     let remainder = v.remainder;
     let mut fragments = v.fragments;
     let answer = fragments::export_fragments(
@@ -130,7 +128,7 @@ fn export(v: Vector) {
     let mut line = [0u8; 512];
     let at = vector_io::put_number(&mut line, 0, fragments_reply(answer) as u64);
     let end = put_fragments(&mut line, at, text::front_words(&fragments, v.count));
-    vector_io::write_line(&line, end);
+    vector_io::write_line(rt, &line, end);
 }
 
 // Imports the fragments of a vector into a remainder: the reply.
@@ -144,19 +142,19 @@ fn imported(v: Vector, remainder: &mut [u8]) -> u8 {
     fragments_reply(answer)
 }
 
-fn import(v: Vector) {
+fn import<R: Input + Print>(rt: &R, v: Vector) {
     let mut remainder = v.remainder;
     let reply = imported(v, text::front_mut(&mut remainder, v.length));
-    show_bytes(reply, text::front(&remainder, v.length));
+    show_bytes(rt, reply, text::front(&remainder, v.length));
 }
 
-fn locate(v: Vector) {
+fn locate<R: Input + Print>(rt: &R, v: Vector) {
     let mut remainder = v.remainder;
     let reply = imported(v, text::front_mut(&mut remainder, v.length));
-    locate_in(v, reply, text::front(&remainder, v.length));
+    locate_in(rt, v, reply, text::front(&remainder, v.length));
 }
 
-fn locate_in(v: Vector, reply: u8, remainder: &[u8]) {
+fn locate_in<R: Input + Print>(rt: &R, v: Vector, reply: u8, remainder: &[u8]) {
     let mut places = [42405u16; 16];
     let located = bch::locate_errors(
         1,
@@ -167,6 +165,7 @@ fn locate_in(v: Vector, reply: u8, remainder: &[u8]) {
         front_places(&mut places, v.size),
     );
     show_located(
+        rt,
         reply,
         bch::answers::locate_reply(located),
         located,
@@ -175,22 +174,20 @@ fn locate_in(v: Vector, reply: u8, remainder: &[u8]) {
 }
 
 // Answers a vector by its kind.
-fn answer(kind: u8, v: Vector) {
+fn answer<R: Input + Print>(rt: &R, kind: u8, v: Vector) {
     match kind {
-        b'X' => export(v),
-        b'M' => import(v),
-        b'L' => locate(v),
-        _ => vector_io::write_line(b"", 0),
+        b'X' => export(rt, v),
+        b'M' => import(rt, v),
+        b'L' => locate(rt, v),
+        _ => vector_io::write_line(rt, b"", 0),
     }
 }
 
 // Sixteen fragments, or as many as the bytes hold and then zeros.
 fn fragments_in(bytes: &[u8]) -> [u32; 16] {
     let mut fragments = [0u32; 16];
-    let mut i = 0;
-    while i < 16 {
+    for i in 0..16 {
         fragments[i] = fragment_in(bytes, 4 * i);
-        i += 1;
     }
     fragments
 }
@@ -200,16 +197,17 @@ fn fragment_in(bytes: &[u8], at: usize) -> u32 {
 }
 
 // Reads the remainder and the fragments that follow a head, and answers: false where the input ends before.
-fn next_body(head: &[u8], length: u8, count: u8, size: u8) -> bool {
+fn next_body<R: Input + Print>(rt: &R, head: &[u8], length: u8, count: u8, size: u8) -> bool {
     let mut remainder = [0u8; 40];
     let mut bytes = [0u8; 64];
-    if !vector_io::fill(text::front_mut(&mut remainder, length as usize)) {
+    if !vector_io::fill(rt, text::front_mut(&mut remainder, length as usize)) {
         return false;
     }
-    if !vector_io::fill(text::front_mut(&mut bytes, 4 * count as usize)) {
+    if !vector_io::fill(rt, text::front_mut(&mut bytes, 4 * count as usize)) {
         return false;
     }
     answer(
+        rt,
         vector_io::byte(head, 0, 0),
         Vector {
             level_field: vector_io::number(head, 8, 8),
@@ -225,7 +223,7 @@ fn next_body(head: &[u8], length: u8, count: u8, size: u8) -> bool {
 }
 
 // Answers the vector of a head that is none of `E`, with the lengths that it gives: false where the input ends before it.
-fn next(head: &[u8]) -> bool {
+fn next<R: Input + Print>(rt: &R, head: &[u8]) -> bool {
     let length = vector_io::byte(head, 1, 0);
     let count = vector_io::byte(head, 2, 0);
     let size = vector_io::byte(head, 3, 0);
@@ -238,27 +236,25 @@ fn next(head: &[u8]) -> bool {
     if 16 < size {
         return false;
     }
-    next_body(head, length, count, size)
+    next_body(rt, head, length, count, size)
 }
 
 // Answers the next vector: false where there is none.
-fn next_vector() -> bool {
+fn next_vector<R: Input + Print>(rt: &R) -> bool {
     let mut head = [0u8; 32];
-    if !vector_io::fill(&mut head) {
+    if !vector_io::fill(rt, &mut head) {
         return false;
     }
     if head[0] == b'E' {
-        return locates::next(&head);
+        return locates::next(rt, &head);
     }
-    next(&head)
+    next(rt, &head)
 }
 
-fn main() {
-    let mut turns: usize = 1000000;
-    while 0 < turns {
-        if !next_vector() {
+fn main(rt: HostRuntime) {
+    for _ in 0..1000000 {
+        if !next_vector(&rt) {
             return;
         }
-        turns -= 1;
     }
 }

@@ -17,29 +17,32 @@ fn choice(fields: BlockFields) -> u64 {
 }
 
 // The line of an accepted layout.
-fn show_accepted(reply: u64, stored: Fields, plan: Plan) {
+fn show_accepted<R: Input + Print>(rt: &R, reply: u64, stored: Fields, plan: Plan) {
     let first = stored.first;
     let later = stored.later;
     let mark = plan.mark;
-    vector_io::show(&[
-        reply,
-        0,
-        stored.nblocks as u64,
-        stored.metadata as u64,
-        first.ecc as u64,
-        choice(first),
-        first.units as u64,
-        stored.page as u64,
-        later.ecc as u64,
-        choice(later),
-        later.units as u64,
-        plan.first.covered as u64,
-        plan.later.covered as u64,
-        plan.used as u64,
-        plan.data as u64,
-        mark.offset as u64,
-        mark.length as u64,
-    ]);
+    vector_io::show(
+        rt,
+        &[
+            reply,
+            0,
+            stored.nblocks as u64,
+            stored.metadata as u64,
+            first.ecc as u64,
+            choice(first),
+            first.units as u64,
+            stored.page as u64,
+            later.ecc as u64,
+            choice(later),
+            later.units as u64,
+            plan.first.covered as u64,
+            plan.later.covered as u64,
+            plan.used as u64,
+            plan.data as u64,
+            mark.offset as u64,
+            mark.length as u64,
+        ],
+    );
 }
 
 // An accepted record in twelve bytes: a third word that is not there is 0.
@@ -58,88 +61,93 @@ fn kind_number(kind: Kind) -> u64 {
 }
 
 // The line of a refused layout.
-fn show_refused(reply: u64, refusal: Refusal) {
+fn show_refused<R: Input + Print>(rt: &R, reply: u64, refusal: Refusal) {
     match refusal {
         Refusal::Rule(reason) => {
             let kind = reason.kind;
-            vector_io::show(&[reply, 0, kind_number(kind), reason.found, reason.limit])
+            vector_io::show(
+                rt,
+                &[reply, 0, kind_number(kind), reason.found, reason.limit],
+            )
         }
-        _ => vector_io::show(&[reply, 0]),
+        _ => vector_io::show(rt, &[reply, 0]),
     }
 }
 
-fn layout_line(edition: u64, words: &[u8]) {
+fn layout_line<R: Input + Print>(rt: &R, edition: u64, words: &[u8]) {
     let answer = layout::check_layout(edition, words);
     let reply = layout::acceptance_reply(answer) as u64;
     match answer {
         Acceptance::Accepted(l) => show_accepted(
+            rt,
             reply,
             fields_of(edition, words),
             layout_plan::plan_of(l),
         ),
-        Acceptance::Refused(refusal) => show_refused(reply, refusal),
+        Acceptance::Refused(refusal) => show_refused(rt, reply, refusal),
     }
 }
 
 // A page bit in a block shows 1, its block and its exponent; one in the tail shows 0, one in the mark 2.
-fn bit_line(edition: u64, words: &[u8], position: u64) {
+fn bit_line<R: Input + Print>(rt: &R, edition: u64, words: &[u8], position: u64) {
     let answer = page_bits::locate_bit(edition, words, position);
     let reply = page_bits::bit_reply(answer) as u64;
     match answer {
-        BitAnswer::InBlock { block, exponent } => vector_io::show(&[reply, 0, 1, block, exponent]),
-        BitAnswer::Tail => vector_io::show(&[reply, 0, 0]),
-        BitAnswer::Mark => vector_io::show(&[reply, 0, 2]),
-        BitAnswer::Refused(_) => vector_io::show(&[reply, 0]),
+        BitAnswer::InBlock { block, exponent } => vector_io::show(
+            rt,
+            &[reply, 0, 1, block, exponent],
+        ),
+        BitAnswer::Tail => vector_io::show(rt, &[reply, 0, 0]),
+        BitAnswer::Mark => vector_io::show(rt, &[reply, 0, 2]),
+        BitAnswer::Refused(_) => vector_io::show(rt, &[reply, 0]),
     }
 }
 
-fn position_line(edition: u64, words: &[u8], block: u64, exponent: u64) {
+fn position_line<R: Input + Print>(rt: &R, edition: u64, words: &[u8], block: u64, exponent: u64) {
     let answer = page_bits::bit_position(edition, words, block, exponent);
     let reply = page_bits::position_reply(answer) as u64;
     match answer {
-        PositionAnswer::Position(position) => vector_io::show(&[reply, 0, position]),
-        PositionAnswer::Refused(_) => vector_io::show(&[reply, 0]),
+        PositionAnswer::Position(position) => vector_io::show(rt, &[reply, 0, position]),
+        PositionAnswer::Refused(_) => vector_io::show(rt, &[reply, 0]),
     }
 }
 
 // Answers a call by its kind.
-fn call(head: &[u8], words: &[u8]) {
+fn call<R: Input + Print>(rt: &R, head: &[u8], words: &[u8]) {
     let edition = vector_io::number(head, 2, 8);
     let first = vector_io::number(head, 24, 8);
     let second = vector_io::number(head, 32, 8);
     match vector_io::byte(head, 0, 0) {
-        b'L' => layout_line(edition, words),
-        b'P' => bit_line(edition, words, first),
-        _ => position_line(edition, words, first, second),
+        b'L' => layout_line(rt, edition, words),
+        b'P' => bit_line(rt, edition, words, first),
+        _ => position_line(rt, edition, words, first, second),
     }
 }
 
 // Answers a vector.
-fn answer(head: &[u8]) {
+fn answer<R: Input + Print>(rt: &R, head: &[u8]) {
     let length = vector_io::byte(head, 1, 0) as usize % 13;
     let end = 10 + length;
     if head.len() < end {
         return;
     }
-    call(head, &head[10..end]);
+    call(rt, head, &head[10..end]);
 }
 
 // Answers the next vector: false where there is none.
-fn next_vector() -> bool {
+fn next_vector<R: Input + Print>(rt: &R) -> bool {
     let mut head = [0u8; 40];
-    if !vector_io::fill(&mut head) {
+    if !vector_io::fill(rt, &mut head) {
         return false;
     }
-    answer(&head);
+    answer(rt, &head);
     true
 }
 
-fn main() {
-    let mut turns: usize = 1000000;
-    while 0 < turns {
-        if !next_vector() {
+fn main(rt: HostRuntime) {
+    for _ in 0..1000000 {
+        if !next_vector(&rt) {
             return;
         }
-        turns -= 1;
     }
 }

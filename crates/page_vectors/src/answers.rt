@@ -8,6 +8,7 @@ use page_look::LookAnswer;
 use page_take::TakeAnswer;
 use page_write::WriteAnswer;
 use replies::{Refusal, refusal_block, refusal_number};
+use streams::System;
 
 // A reply and its block.
 #[derive(Drop)]
@@ -52,21 +53,21 @@ pub fn of_take(answer: TakeAnswer) -> Reply {
     }
 }
 
-fn show_reply(reply: Reply) {
-    vector_io::show(&[reply.number as u64, reply.block]);
+fn show_reply<R: System + Input + Print>(rt: &R, reply: Reply) {
+    vector_io::show(rt, &[reply.number as u64, reply.block]);
 }
 
 // The line of a judgement: the reply, and the flip count where there is one.
-pub fn show_judge(answer: JudgeAnswer) {
+pub fn show_judge<R: System + Input + Print>(rt: &R, answer: JudgeAnswer) {
     match answer {
-        JudgeAnswer::Flips(flips) => vector_io::show(&[0, 0, flips as u64]),
-        JudgeAnswer::Refused(refusal) => show_reply(refused(refusal)),
+        JudgeAnswer::Flips(flips) => vector_io::show(rt, &[0, 0, flips as u64]),
+        JudgeAnswer::Refused(refusal) => show_reply(rt, refused(refusal)),
     }
 }
 
 // The line of a claim.
-pub fn show_claim(answer: ClaimAnswer) {
-    show_reply(plain(page_claim::claim_number(answer)));
+pub fn show_claim<R: System + Input + Print>(rt: &R, answer: ClaimAnswer) {
+    show_reply(rt, plain(page_claim::claim_number(answer)));
 }
 
 fn empty() -> [u8; 131200]
@@ -76,18 +77,18 @@ fn empty() -> [u8; 131200]
 }
 
 // A line of a reply and a buffer.
-pub fn show_buffer(reply: Reply, bytes: &[u8]) {
+pub fn show_buffer<R: System + Input + Print>(rt: &R, reply: Reply, bytes: &[u8]) {
     let mut line = empty();
     let at = vector_io::put_numbers(&mut line, 0, &[reply.number as u64, reply.block]);
     let end = put_buffer(&mut line, at, bytes);
-    vector_io::write_line(&line, end);
+    vector_io::write_line(rt, &line, end);
 }
 
 // A line of a reply and two buffers.
-pub fn show_buffers(reply: Reply, first: &[u8], second: &[u8]) {
+pub fn show_buffers<R: System + Input + Print>(rt: &R, reply: Reply, first: &[u8], second: &[u8]) {
     let mut line = empty();
     let at = vector_io::put_numbers(&mut line, 0, &[reply.number as u64, reply.block]);
     let middle = put_buffer(&mut line, at, first);
     let end = put_buffer(&mut line, middle, second);
-    vector_io::write_line(&line, end);
+    vector_io::write_line(rt, &line, end);
 }

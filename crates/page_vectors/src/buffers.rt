@@ -9,10 +9,8 @@ fn exponent(bytes: &[u8], i: usize) -> u16 {
 // The exponents of two bytes each.
 pub fn exponents(bytes: &[u8]) -> [u16; 256] {
     let mut claims = [0u16; 256];
-    let mut i = 0;
-    while i < 256 {
+    for i in 0..256 {
         claims[i] = exponent(bytes, 2 * i);
-        i += 1;
     }
     claims
 }
@@ -32,12 +30,9 @@ fn put_byte(line: &mut [u8], at: usize, byte: u8) -> usize {
 }
 
 fn put_digits(line: &mut [u8], at: usize, bytes: &[u8]) -> usize {
-    let n = bytes.len();
     let mut p = at;
-    let mut i = 0;
-    while i < n {
-        p = put_byte(line, p, bytes[i]);
-        i += 1;
+    for x in bytes {
+        p = put_byte(line, p, *x);
     }
     p
 }

@@ -1,7 +1,8 @@
 // Vectors that check claimed error locations.
 use crate::{answers, heads};
+use streams::System;
 
-fn claim_of(head: &[u8], page: &[u8], claims: &[u16]) {
+fn claim_of<R: System + Input + Print>(rt: &R, head: &[u8], page: &[u8], claims: &[u16]) {
     let block = vector_io::number(head, 32, 8);
     let answer = page_claim::check_claim(
         heads::edition(head),
@@ -10,18 +11,19 @@ fn claim_of(head: &[u8], page: &[u8], claims: &[u16]) {
         block,
         claims,
     );
-    answers::show_claim(answer);
+    answers::show_claim(rt, answer);
 }
 
 // Checks a claim, whose exponents follow the page: false where the input ends before them.
-pub fn claim(head: &[u8], page: &[u8]) -> bool {
+pub fn claim<R: System + Input + Print>(rt: &R, head: &[u8], page: &[u8]) -> bool {
     let mut bytes = [0u8; 512];
     let count = heads::length(head, 28) % 65536;
-    if !vector_io::fill(text::front_mut(&mut bytes, 2 * count)) {
+    if !vector_io::fill(rt, text::front_mut(&mut bytes, 2 * count)) {
         return false;
     }
     let claims = crate::buffers::exponents(&bytes);
     claim_of(
+        rt,
         head,
         page,
         text::front_exponents(&claims, heads::length(head, 28)),

@@ -31,51 +31,51 @@ mod versions;
 mod writes;
 
 // Makes a call on the page of a vector: false where the input ends before the body does.
-fn call(head: &[u8], page: &[u8]) -> bool {
+use streams::System;
+
+fn call<R: System + Input + Print>(rt: &R, head: &[u8], page: &[u8]) -> bool {
     match vector_io::byte(head, 0, 0) {
-        b'L' => looks::look(head, page),
-        b'T' => takes::take(head, page),
-        b'J' => judges::judge(head, page),
-        _ => claims::claim(head, page),
+        b'L' => looks::look(rt, head, page),
+        b'T' => takes::take(rt, head, page),
+        b'J' => judges::judge(rt, head, page),
+        _ => claims::claim(rt, head, page),
     }
 }
 
 // Reads the page of a vector, and makes the call.
-fn call_on_page(head: &[u8]) -> bool {
-    let mut page = io::large_buffer();
+fn call_on_page<R: System + Input + Print>(rt: &R, head: &[u8]) -> bool {
+    let mut page = text::large_buffer();
     let size = heads::length(head, 24);
-    if !vector_io::fill(text::front_mut(&mut page, size)) {
+    if !vector_io::fill(rt, text::front_mut(&mut page, size)) {
         return false;
     }
-    call(head, text::front(&page, size))
+    call(rt, head, text::front(&page, size))
 }
 
 // Answers the vector of a head: false where the input ends before it, and where it has the other vectors.
-fn answer(head: &[u8]) -> bool {
+fn answer<R: System + Input + Print>(rt: &R, head: &[u8]) -> bool {
     match vector_io::byte(head, 0, 0) {
-        b'W' => writes::write(head),
-        b'R' => compares::answer(head),
-        b'V' => versions::run(),
-        b'K' => sector_lines::run(),
-        _ => call_on_page(head),
+        b'W' => writes::write(rt, head),
+        b'R' => compares::answer(rt, head),
+        b'V' => versions::run(rt),
+        b'K' => sector_lines::run(rt),
+        _ => call_on_page(rt, head),
     }
 }
 
 // Answers the next vector: false where there is none.
-fn next_vector() -> bool {
+fn next_vector<R: System + Input + Print>(rt: &R) -> bool {
     let mut head = [0u8; 40];
-    if !vector_io::fill(&mut head) {
+    if !vector_io::fill(rt, &mut head) {
         return false;
     }
-    answer(&head)
+    answer(rt, &head)
 }
 
-fn main() {
-    let mut turns: usize = 1000000;
-    while 0 < turns {
-        if !next_vector() {
+fn main(rt: HostRuntime) {
+    for _ in 0..1000000 {
+        if !next_vector(&rt) {
             return;
         }
-        turns -= 1;
     }
 }

@@ -31,67 +31,66 @@ mod heads;
 mod pages;
 mod places;
 
-use libc::STDIN_FILENO;
+use std::io::Read;
+use streams::System;
 
 // Answers a line of the input.
-fn answer_line(words: &[u8]) {
-    if !calls::answer(words) {
-        vector_io::write_line(b"?", 1);
+fn answer_line<R: System + Input + Print>(rt: &R, words: &[u8]) {
+    if !calls::answer(rt, words) {
+        vector_io::write_line(rt, b"?", 1);
     }
 }
 
 // Answers the line whose first `at` characters are in the buffer; one that fills it may be cut short, and is no call.
-fn end_line(input: &[u8], at: usize) {
+fn end_line<R: System + Input + Print>(rt: &R, input: &[u8], at: usize) {
     if at < input.len() {
-        return answer_line(text::front(input, at));
+        return answer_line(rt, text::front(input, at));
     }
-    answer_line(b"");
+    answer_line(rt, b"");
 }
 
 // One character of the input: how much of the line there is then.
-fn feed(input: &mut [u8], at: usize, c: u8) -> usize {
+fn feed<R: System + Input + Print>(rt: &R, input: &mut [u8], at: usize, c: u8) -> usize {
     if c == b'\n' {
-        end_line(input, at);
+        end_line(rt, input, at);
         return 0;
     }
     vector_io::put(input, at, c)
 }
 
-fn feed_all(input: &mut [u8], at: usize, chunk: &[u8]) -> usize {
-    let n = chunk.len();
+fn feed_all<R: System + Input + Print>(rt: &R, input: &mut [u8], at: usize, chunk: &[u8]) -> usize {
     let mut p = at;
-    let mut i = 0;
-    while i < n {
-        p = feed(input, p, chunk[i]);
-        i += 1;
+    for x in chunk {
+        p = feed(rt, input, p, *x);
     }
     p
 }
 
 // Reads some of standard input: how many bytes, 0 at its end.
-fn read_some(chunk: &mut [u8]) -> usize {
-    let got = libc::read(STDIN_FILENO, chunk);
-    io::count(got, chunk)
+fn read_some<R: System + Input + Print>(rt: &R, chunk: &mut [u8]) -> usize {
+    let mut input = rt.reader();
+    input.read(chunk).unwrap_or(0)
 }
 
 // Answers every line; the last need not be ended.
-fn run_lines(chunk: &mut [u8], input: &mut [u8]) {
+fn run_lines<R: System + Input + Print>(rt: &R, chunk: &mut [u8], input: &mut [u8]) {
     let mut at = 0;
-    let mut turns = u64::MAX;
-    while 0 < turns {
-        let n = read_some(chunk);
-        at = feed_all(input, at, text::front(chunk, n));
-        turns = streams::left(turns, 0 < n);
+    for _ in 0..u64::MAX {
+        let n = read_some(rt, chunk);
+        at = feed_all(rt, input, at, text::front(chunk, n));
+        if n == 0 {
+            break;
+        }
     }
     if 0 < at {
-        end_line(input, at);
+        end_line(rt, input, at);
     }
 }
 
 // Answers the lines up to the end of the input.
-pub fn run() -> bool {
-    let mut chunk = io::large_buffer();
+pub fn run<R: System + Input + Print>(rt: &R) -> bool {
+    let mut chunk = text::large_buffer();
     let mut input = [0u8; 262400];
-    run_lines(&mut chunk, &mut input);
+    run_lines(rt, &mut chunk, &mut input);
     false
 }

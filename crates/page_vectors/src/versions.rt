@@ -36,54 +36,60 @@ mod pages;
 
 use crate::versions::lines::{bytes_in, number};
 use store::Store;
+use streams::System;
 
 // Makes a page call, which leaves the store as it is.
-fn page_call(kept: Store, line: &[u8], version: u64, block: u64, lengths: &[u8]) -> Store {
+fn page_call<R: System + Input + Print>(
+    rt: &R,
+    kept: Store,
+    line: &[u8],
+    version: u64,
+    block: u64,
+    lengths: &[u8],
+) -> Store {
     let kind = vector_io::byte(line, 0, 0);
-    pages::call(kept, kind, version, block, lengths);
+    pages::call(rt, kept, kind, version, block, lengths);
     kept
 }
 
 // The call of a line, with the bytes that it hands in.
-fn call(before: Store, line: &[u8], bytes: &mut [u8]) -> Store {
+fn call<R: System + Input + Print>(rt: &R, before: Store, line: &[u8], bytes: &mut [u8]) -> Store {
     let first = number(line, 2, 16);
     let second = number(line, 19, 16);
     match vector_io::byte(line, 0, 0) {
-        b'S' => calls::stored(before, first, bytes),
-        b'R' => calls::removed(before, first),
-        b'U' => calls::used(before, first, second),
-        b'V' => calls::told(before, first),
-        b'W' => calls::saved(before, bytes),
-        b'L' => calls::loaded(before, bytes),
-        b'C' => calls::cycles(before, first, second, bytes),
-        b'E' => calls::emptied(),
-        _ => page_call(before, line, first, second, bytes),
+        b'S' => calls::stored(rt, before, first, bytes),
+        b'R' => calls::removed(rt, before, first),
+        b'U' => calls::used(rt, before, first, second),
+        b'V' => calls::told(rt, before, first),
+        b'W' => calls::saved(rt, before, bytes),
+        b'L' => calls::loaded(rt, before, bytes),
+        b'C' => calls::cycles(rt, before, first, second, bytes),
+        b'E' => calls::emptied(rt),
+        _ => page_call(rt, before, line, first, second, bytes),
     }
 }
 
-fn answered(before: Store, line: &[u8]) -> Store {
+fn answered<R: System + Input + Print>(rt: &R, before: Store, line: &[u8]) -> Store {
     let mut bytes = bytes_in(line);
     let length = number(line, 36, 2) as usize;
     if 36 < length {
         return before;
     }
-    call(before, line, &mut bytes[..length])
+    call(rt, before, line, &mut bytes[..length])
 }
 
 // Answers the calls of the sequence: false where the input ends before the sequence does.
-pub fn run() -> bool {
+pub fn run<R: System + Input + Print>(rt: &R) -> bool {
     let mut kept = store::empty();
-    let mut turns: usize = 1000000;
-    while 0 < turns {
+    for _ in 0..1000000 {
         let mut line = [0u8; 112];
-        if !vector_io::fill(&mut line) {
+        if !vector_io::fill(rt, &mut line) {
             return false;
         }
         if line[0] == b'X' {
             return true;
         }
-        kept = answered(kept, &line);
-        turns -= 1;
+        kept = answered(rt, kept, &line);
     }
     false
 }

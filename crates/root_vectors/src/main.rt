@@ -34,11 +34,8 @@ fn locator(bytes: &[u8], len: usize) -> [u16; 128]
 {
     let mut c = [0u16; 128];
     c[0] = 1;
-    let mut i: usize = 0;
-    while i < len {
-        let x = coefficient(bytes, i);
-        i += 1;
-        c[i] = x;
+    for i in 0..len {
+        c[i + 1] = coefficient(bytes, i);
     }
     c
 }
@@ -59,33 +56,31 @@ fn put_places(line: &mut [u8], places: &[u16; 64], count: usize) -> usize
     requires { count ≤ 62 }
 {
     let mut p = 0;
-    let mut i = 0;
-    while i < count {
+    for i in 0..count {
         p = vector_io::put_number(line, p, wide(places[i]));
-        i += 1;
     }
     p
 }
 
 // Reads the coefficients that follow a head, and answers: false where the input ends before.
-fn next_locator(f: Field, bytes: &mut [u8], len: usize) -> bool
+fn next_locator<R: Input + Print>(rt: &R, f: Field, bytes: &mut [u8], len: usize) -> bool
     requires { len ≤ 62 }
 {
-    if !vector_io::fill(bytes) {
+    if !vector_io::fill(rt, bytes) {
         return false;
     }
     let c = locator(bytes, len);
     let places = proposed(f, &c, len);
     let mut line = [0u8; 512];
     let at = put_places(&mut line, &places, len);
-    vector_io::write_line(&line, at);
+    vector_io::write_line(rt, &line, at);
     true
 }
 
 // Answers the next vector: false where there is none.
-fn next_vector() -> bool {
+fn next_vector<R: Input + Print>(rt: &R) -> bool {
     let mut head = [0u8; 4];
-    if !vector_io::fill(&mut head) {
+    if !vector_io::fill(rt, &mut head) {
         return false;
     }
     let f = field_of(vector_io::byte(&head, 1, 0));
@@ -94,15 +89,13 @@ fn next_vector() -> bool {
         return false;
     }
     let mut bytes = [0u8; 124];
-    next_locator(f, &mut bytes[..len + len], len)
+    next_locator(rt, f, &mut bytes[..len + len], len)
 }
 
-fn main() {
-    let mut turns: usize = 1000000;
-    while 0 < turns {
-        if !next_vector() {
+fn main(rt: HostRuntime) {
+    for _ in 0..1000000 {
+        if !next_vector(&rt) {
             return;
         }
-        turns -= 1;
     }
 }

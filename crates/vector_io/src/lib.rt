@@ -15,13 +15,13 @@
 ghost use Rattle.std.specs.Prelude.{◌≡◌, ◌+◌, get_or};
 ghost use Rattle.vector_io.specs.Number.{number_at};
 
-use libc::{STDIN_FILENO, STDOUT_FILENO};
+use std::io::Read;
 pub use text::{put, put_all};
 
 // Fills the buffer from standard input: false where the input ends before it is full.
-pub fn fill(buf: &mut [u8]) -> bool {
-    let n = io::read_full(STDIN_FILENO, buf);
-    n == buf.len()
+pub fn fill<R: Input>(rt: &R, buf: &mut [u8]) -> bool {
+    let mut input = rt.reader();
+    input.read_exact(buf).is_ok()
 }
 
 // The byte at place `at + i`.
@@ -38,14 +38,13 @@ pub fn byte(bytes: &[u8], at: usize, i: usize) -> u8
 }
 
 // The number in `count` bytes from place `at` on; of more than eight bytes the last eight.
+#[tactic(auto, unfolding(crate::specs::Number::number_at))]
 pub fn number(bytes: &[u8], at: usize, count: usize) -> u64
     ensures { result ≡ number_at bytes.now at count }
 {
     let mut v: u64 = 0;
-    let mut i = 0;
-    while i < count {
+    for i in 0..count {
         v = v % 72057594037927936 * 256 + byte(bytes, at, i) as u64;
-        i += 1;
     }
     v
 }
@@ -62,33 +61,30 @@ fn put_gap(line: &mut [u8], at: usize) -> usize {
 pub fn put_number(line: &mut [u8], at: usize, n: u64) -> usize {
     let p = put_gap(line, at);
     let mut digits = [0u8; 20];
-    let k = io::decimal(n, &mut digits);
+    let k = text::decimal(n, &mut digits);
     put_all(line, p, &digits[..k])
 }
 
 // Numbers onto the line.
 pub fn put_numbers(line: &mut [u8], at: usize, numbers: &[u64]) -> usize {
-    let n = numbers.len();
     let mut p = at;
-    let mut i = 0;
-    while i < n {
-        p = put_number(line, p, numbers[i]);
-        i += 1;
+    for n in numbers {
+        p = put_number(line, p, *n);
     }
     p
 }
 
 // Writes the line, of which `at` is the next place, and ends it.
-pub fn write_line(line: &[u8], at: usize) {
+pub fn write_line<R: Print>(rt: &R, line: &[u8], at: usize) {
     if at <= line.len() {
-        io::write_all(STDOUT_FILENO, &line[..at]);
+        let _ = rt.write_all(&line[..at]);
     }
-    io::write_all(STDOUT_FILENO, b"\n");
+    let _ = rt.write_all(b"\n");
 }
 
 // Writes a line of numbers.
-pub fn show(numbers: &[u64]) {
+pub fn show<R: Print>(rt: &R, numbers: &[u64]) {
     let mut line = [0u8; 512];
     let at = put_numbers(&mut line, 0, numbers);
-    write_line(&line, at);
+    write_line(rt, &line, at);
 }

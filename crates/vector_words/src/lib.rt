@@ -10,6 +10,20 @@ ghost use Rattle.std.specs.Prelude.{◌≤◌, length};
 
 use text::Number;
 
+// Where the next space stands from place `at` on; the end of the line where there is none.
+fn space_from(line: &[u8], at: usize) -> usize
+    requires { at ≤ length line.now }
+    ensures low { at ≤ result }
+    ensures high { result ≤ length line.now }
+{
+    for i in at..line.len() {
+        if line[i] == b' ' {
+            return i;
+        }
+    }
+    line.len()
+}
+
 // Where the word after the one at place `at` starts; the end of the line where there is none.
 fn next(line: &[u8], at: usize) -> usize
     ensures { result ≤ length line.now }
@@ -18,7 +32,7 @@ fn next(line: &[u8], at: usize) -> usize
     if end <= at {
         return end;
     }
-    let space = bytes::scan::find(line, at, end, b' ');
+    let space = space_from(line, at);
     if space < end {
         return space + 1;
     }
@@ -30,10 +44,8 @@ fn start(line: &[u8], n: usize) -> usize
     ensures { result ≤ length line.now }
 {
     let mut at = 0;
-    let mut i = 0;
-    while i < n {
+    for _ in 0..n {
         at = next(line, at);
-        i += 1;
     }
     at
 }
@@ -41,7 +53,7 @@ fn start(line: &[u8], n: usize) -> usize
 // Word n; an empty one where the line has no more.
 fn word(line: &[u8], n: usize) -> &[u8] {
     let at = start(line, n);
-    let end = bytes::scan::find(line, at, line.len(), b' ');
+    let end = space_from(line, at);
     &line[at..end]
 }
 
@@ -61,7 +73,7 @@ pub fn buffer(line: &[u8], n: usize, out: &mut [u8]) -> Number {
     if digits.len() == 0 {
         return Number::Bad;
     }
-    if check::same(digits, b"-") {
+    if text::same(digits, b"-") {
         return Number::Is(0);
     }
     text::parse_bytes(digits, out)

@@ -1,6 +1,7 @@
 // Calls about a whole page: each reads one buffer and may write another.
 use crate::answers::Reply;
 use layout_plan::Sectors;
+use streams::System;
 use text::Number;
 
 // Makes the call with this number.
@@ -12,18 +13,31 @@ fn page_call(sectors: Sectors, call: u64, read: &[u8], written: &mut [u8]) -> Re
     }
 }
 
-fn page_answer(sectors: Sectors, call: u64, read: &[u8], written: &mut [u8]) {
+fn page_answer<R: System + Input + Print>(
+    rt: &R,
+    sectors: Sectors,
+    call: u64,
+    read: &[u8],
+    written: &mut [u8],
+) {
     let reply = page_call(sectors, call, read, written);
-    crate::answers::show_buffer(reply, written);
+    crate::answers::show_buffer(rt, reply, written);
 }
 
 // The buffer that is written, with the length it has in the line.
-fn page_body(sectors: Sectors, words: &[u8], call: u64, read: &[u8]) -> bool {
-    let mut written = io::large_buffer();
+fn page_body<R: System + Input + Print>(
+    rt: &R,
+    sectors: Sectors,
+    words: &[u8],
+    call: u64,
+    read: &[u8],
+) -> bool {
+    let mut written = text::large_buffer();
     let Number::Is(n) = vector_words::buffer(words, 9, &mut written) else {
         return false;
     };
     page_answer(
+        rt,
         sectors,
         call,
         read,
@@ -33,13 +47,13 @@ fn page_body(sectors: Sectors, words: &[u8], call: u64, read: &[u8]) -> bool {
 }
 
 // A write, a look or a take, which are the calls 5, 6 and 7. It prints its answer, and says whether the words are such a call.
-pub fn page(sectors: Sectors, words: &[u8], call: u64) -> bool {
+pub fn page<R: System + Input + Print>(rt: &R, sectors: Sectors, words: &[u8], call: u64) -> bool {
     if 7 < call {
         return false;
     }
-    let mut read = io::large_buffer();
+    let mut read = text::large_buffer();
     let Number::Is(n) = vector_words::buffer(words, 8, &mut read) else {
         return false;
     };
-    page_body(sectors, words, call, text::front(&read, n as usize))
+    page_body(rt, sectors, words, call, text::front(&read, n as usize))
 }

@@ -1,54 +1,60 @@
 // The calls of a store. Each prints its answer and hands back the store.
 use crate::versions::lines::{show_buffer, show_verdict, show_version};
 use store::{Changed, Store, Stored, Verdict, VersionAnswer};
+use streams::System;
 
 // An empty store.
-pub fn emptied() -> Store {
-    show_verdict(Verdict::Passed);
+pub fn emptied<R: System + Input + Print>(rt: &R) -> Store {
+    show_verdict(rt, Verdict::Passed);
     store::empty()
 }
 
 // Stores a layout.
-pub fn stored(before: Store, edition: u64, record: &[u8]) -> Store {
+pub fn stored<R: System + Input + Print>(
+    rt: &R,
+    before: Store,
+    edition: u64,
+    record: &[u8],
+) -> Store {
     let done = store::store_layout(before, edition, record);
     let answer = done.answer;
-    show_version(answer);
+    show_version(rt, answer);
     let after = done.store;
     after
 }
 
-fn changed(done: Changed) -> Store {
+fn changed<R: System + Input + Print>(rt: &R, done: Changed) -> Store {
     let verdict = done.verdict;
-    show_verdict(verdict);
+    show_verdict(rt, verdict);
     let after = done.store;
     after
 }
 
 // Removes a version.
-pub fn removed(before: Store, version: u64) -> Store {
-    changed(store::remove_version(before, version))
+pub fn removed<R: System + Input + Print>(rt: &R, before: Store, version: u64) -> Store {
+    changed(rt, store::remove_version(before, version))
 }
 
 // Puts a version to use at a chip select.
-pub fn used(before: Store, chip: u64, version: u64) -> Store {
-    changed(store::use_version(before, chip, version))
+pub fn used<R: System + Input + Print>(rt: &R, before: Store, chip: u64, version: u64) -> Store {
+    changed(rt, store::use_version(before, chip, version))
 }
 
 // Loads the versions in use.
-pub fn loaded(before: Store, buffer: &[u8]) -> Store {
-    changed(store::load_versions(before, buffer))
+pub fn loaded<R: System + Input + Print>(rt: &R, before: Store, buffer: &[u8]) -> Store {
+    changed(rt, store::load_versions(before, buffer))
 }
 
 // Writes the versions in use.
-pub fn saved(before: Store, buffer: &mut [u8]) -> Store {
+pub fn saved<R: System + Input + Print>(rt: &R, before: Store, buffer: &mut [u8]) -> Store {
     let verdict = store::save_versions(before, buffer);
-    show_buffer(verdict, buffer);
+    show_buffer(rt, verdict, buffer);
     before
 }
 
 // The version in use at a chip select.
-pub fn told(before: Store, chip: u64) -> Store {
-    show_version(store::version_in_use(before, chip));
+pub fn told<R: System + Input + Print>(rt: &R, before: Store, chip: u64) -> Store {
+    show_version(rt, store::version_in_use(before, chip));
     before
 }
 
@@ -77,19 +83,23 @@ fn turn(before: Store, edition: u64, record: &[u8]) -> Stored {
 }
 
 // Does so as many times as it is told.
-pub fn cycles(before: Store, edition: u64, times: u64, record: &[u8]) -> Store {
+pub fn cycles<R: System + Input + Print>(
+    rt: &R,
+    before: Store,
+    edition: u64,
+    times: u64,
+    record: &[u8],
+) -> Store {
     let mut last = Stored {
         answer: VersionAnswer::Version(0),
         store: before,
     };
-    let mut left = times;
-    while 0 < left {
+    for _ in 0..times {
         let kept = last.store;
         last = turn(kept, edition, record);
-        left -= 1;
     }
     let answer = last.answer;
-    show_version(answer);
+    show_version(rt, answer);
     let after = last.store;
     after
 }

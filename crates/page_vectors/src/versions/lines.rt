@@ -1,5 +1,6 @@
 // Numbers and bytes out of a line of the input, and lines of answers.
 use store::{Refusal, Verdict, VersionAnswer};
+use streams::System;
 
 fn digit(c: u8) -> u64 {
     if c < 48 {
@@ -20,10 +21,8 @@ fn digit(c: u8) -> u64 {
 // The number in `count` hexadecimal digits from place `at` on.
 pub fn number(line: &[u8], at: usize, count: usize) -> u64 {
     let mut v: u64 = 0;
-    let mut i = 0;
-    while i < count {
+    for i in 0..count {
         v = v % 1152921504606846976 * 16 + digit(vector_io::byte(line, at, i)) % 16;
-        i += 1;
     }
     v
 }
@@ -38,10 +37,8 @@ fn byte_in(line: &[u8], i: usize) -> u8 {
 // The bytes that are handed in, in their places.
 pub fn bytes_in(line: &[u8]) -> [u8; 36] {
     let mut bytes = [0u8; 36];
-    let mut i = 0;
-    while i < 36 {
+    for i in 0..36 {
         bytes[i] = byte_in(line, i);
-        i += 1;
     }
     bytes
 }
@@ -67,33 +64,30 @@ fn put_byte(line: &mut [u8], at: usize, x: u8) -> usize {
 }
 
 fn put_bytes(line: &mut [u8], at: usize, bytes: &[u8]) -> usize {
-    let n = bytes.len();
     let mut p = at;
-    let mut i = 0;
-    while i < n {
-        p = put_byte(line, p, bytes[i]);
-        i += 1;
+    for x in bytes {
+        p = put_byte(line, p, *x);
     }
     p
 }
 
 // Prints the answer of a call that names a version.
-pub fn show_version(answer: VersionAnswer) {
+pub fn show_version<R: System + Input + Print>(rt: &R, answer: VersionAnswer) {
     match answer {
-        VersionAnswer::Version(version) => vector_io::show(&[0, version as u64]),
-        VersionAnswer::Refused(refusal) => vector_io::show(&[refusal_number(refusal), 0]),
+        VersionAnswer::Version(version) => vector_io::show(rt, &[0, version as u64]),
+        VersionAnswer::Refused(refusal) => vector_io::show(rt, &[refusal_number(refusal), 0]),
     }
 }
 
 // Prints the answer of a call that names none.
-pub fn show_verdict(verdict: Verdict) {
-    vector_io::show(&[verdict_number(verdict)]);
+pub fn show_verdict<R: System + Input + Print>(rt: &R, verdict: Verdict) {
+    vector_io::show(rt, &[verdict_number(verdict)]);
 }
 
 // Prints such an answer, and a buffer.
-pub fn show_buffer(verdict: Verdict, buffer: &[u8]) {
+pub fn show_buffer<R: System + Input + Print>(rt: &R, verdict: Verdict, buffer: &[u8]) {
     let mut line = [0u8; 512];
     let at = vector_io::put_number(&mut line, 0, verdict_number(verdict));
     let end = put_bytes(&mut line, at, buffer);
-    vector_io::write_line(&line, end);
+    vector_io::write_line(rt, &line, end);
 }

@@ -2,9 +2,11 @@
 use crate::versions::buffers::{length, read_buffers};
 use crate::versions::page_calls;
 use store::Store;
+use streams::System;
 
 // Makes a call by its kind.
-fn make(
+fn make<R: System + Input + Print>(
+    rt: &R,
     store: Store,
     kind: u8,
     version: u64,
@@ -14,17 +16,18 @@ fn make(
     third: &mut [u8],
 ) {
     match kind {
-        b'w' => page_calls::write(store, version, first, second, third),
-        b'l' => page_calls::look(store, version, first, second),
-        b't' => page_calls::take(store, version, first, second, third),
-        b'j' => page_calls::judge(store, version, first, block),
-        b'c' => page_calls::claim(store, version, first, block, second),
-        _ => vector_io::write_line(b"", 0),
+        b'w' => page_calls::write(rt, store, version, first, second, third),
+        b'l' => page_calls::look(rt, store, version, first, second),
+        b't' => page_calls::take(rt, store, version, first, second, third),
+        b'j' => page_calls::judge(rt, store, version, first, block),
+        b'c' => page_calls::claim(rt, store, version, first, block, second),
+        _ => vector_io::write_line(rt, b"", 0),
     }
 }
 
 // Reads the buffers of a call, and makes it. The line is empty where there is no such call or the input ends before its buffers do.
-fn answer(
+fn answer<R: System + Input + Print>(
+    rt: &R,
     store: Store,
     kind: u8,
     version: u64,
@@ -33,14 +36,21 @@ fn answer(
     second: &mut [u8],
     third: &mut [u8],
 ) {
-    if !read_buffers(first, second, third) {
-        return vector_io::write_line(b"", 0);
+    if !read_buffers(rt, first, second, third) {
+        return vector_io::write_line(rt, b"", 0);
     }
-    make(store, kind, version, block, first, second, third);
+    make(rt, store, kind, version, block, first, second, third);
 }
 
 // Answers a page call whose buffers have these lengths.
-pub fn call(store: Store, kind: u8, version: u64, block: u64, lengths: &[u8]) {
+pub fn call<R: System + Input + Print>(
+    rt: &R,
+    store: Store,
+    kind: u8,
+    version: u64,
+    block: u64,
+    lengths: &[u8],
+) {
     let mut first = [0u8; 8192];
     let mut second = [0u8; 8192];
     let mut third = [0u8; 8192];
@@ -48,6 +58,7 @@ pub fn call(store: Store, kind: u8, version: u64, block: u64, lengths: &[u8]) {
     let b = length(lengths, 4);
     let c = length(lengths, 8);
     answer(
+        rt,
         store,
         kind,
         version,
