@@ -1,0 +1,15 @@
+use Prim.Native.Nat.{◌-◌, ◌≤◌}
+use mathlib.Core.Path.{◌≡◌}
+use native.Mathlib.Omega.{arith}
+use borrow.Author.Rules.{rules}
+use Rattle.bits.specs.Bits.{run}
+use Rattle.mark.specs.Mark.{stream_bit}
+use Rattle.code.specs.Word.{ones}
+use Rattle.roundtrip.proofs.Masks.{bit-low, ones_none, ones-next}
+use Rattle.roundtrip.proofs.mask.ones_at.Given as goal
+
+abbrev pub invariant-loop-i : goal.invariant-loop-i
+invariant-loop-i l = (l.i ≤ l.n) × (l.count ≤ l.i) × (l.count ≡ ones (run (stream_bit l.mark l.mask) l.position l.i))
+
+abbrev pub decreases-loop-i : goal.decreases-loop-i
+decreases-loop-i l = l.n - l.i

@@ -1,0 +1,11 @@
+use mathlib.Core.Path.{sym, ◌∙◌}
+use native.Mathlib.Omega.{arith}
+use borrow.Author.Rules.{rules}
+use Rattle.sector_pages.proofs.Planned.{sectors-sound}
+use Rattle.sector_pages.proofs.pages.judge_block.Goals as goal
+
+pub judge_for-requires : goal.judge_for-requires
+judge_for-requires c l e = sectors-sound _ (record { size = omega arith; last = omega arith; page = omega arith }) l (sym c.check_sectors.ensures ∙ e)
+
+pub returns : goal.returns
+returns c = c.judge_for.ensures ∙ rw c.check_sectors.ensures

@@ -1,0 +1,6 @@
+use mathlib.Core.Path.{◌∙◌}
+use borrow.Author.Rules.{rules}
+use Rattle.sector_pages.proofs.places.bit_position.Goals as goal
+
+pub returns : goal.returns
+returns c = c.position_for.ensures ∙ rw c.check_sectors.ensures
