@@ -5,7 +5,7 @@ use Rattle.decoder.proofs.passes.Goals as goal
 pub sums_agree-requires : goal.sums_agree-requires
 sums_agree-requires c = let p = c.requires in
     let a = c.descend_below.ensures.holds c.if-descend_below.true in
-    record { powers = p.powers; t_bound = (p.t_bound.0, p.t_bound.1, p.t_bound.3, λ k l. omega (arith, a.below k l), p.t_bound.4) }
+    record { powers = p.powers; t_bound = (omega arith, p.t_bound.1, p.t_bound.3, λ k l. omega (arith, a.below k l), p.t_bound.4) }
 
 pub returns-then-descend_below : goal.returns-then-descend_below
 returns-then-descend_below c = let a = c.descend_below.ensures.holds c.if-descend_below.true in
