@@ -1,0 +1,34 @@
+use Prim.Native.Nat.{ℕ}
+use borrow.Author.Rules.{rules}
+use lib.ListN.{length-replicate}
+use Rattle.replies.specs.Replies.{number, block}
+use Rattle.page_keep.specs.Keeping.{PageDecided}
+use Rattle.page_keep.proofs.Keeping.{underway-start, zeros-at}
+use Rattle.page_take.specs.Answers.{take_number, take_block}
+use Rattle.page_take.proofs.Ends.{take-ruined}
+use Rattle.page_take.proofs.take.take_placed.Goals as goal
+
+pub keep_damaged-requires : goal.keep_damaged-requires
+keep_damaged-requires c = let p = c.requires in
+    record {
+      pending = record {
+        ready = p.ready.0;
+        table = p.scanned.1;
+        underway = underway-start _ _ p.ready.0.plan _ _ _ p.scanned.0 p.scanned.3 (length-replicate {A = ℕ} 256 0) (zeros-at 256);
+      };
+      block_lt_blocks = p.scanned.2;
+    }
+
+pub copy_decided-requires : goal.copy_decided-requires
+unfolding PageDecided
+copy_decided-requires c = let p = c.requires in
+    record { ready = p.ready; all_decided = (rw c.in-Sound.is at c.keep_damaged.ensures, search rules) }
+
+pub returns-in-Ruined : goal.returns-in-Ruined
+unfolding PageDecided take_number take_block number block
+returns-in-Ruined c = let p = c.requires in
+    take-ruined _ _ p.ready.0 _ _ p.ready.1 p.ready.2 _ (rw c.in-Ruined.is at c.keep_damaged.ensures)
+
+pub returns-in-Sound : goal.returns-in-Sound
+unfolding take_number take_block
+returns-in-Sound c = c.copy_decided.ensures
