@@ -18,7 +18,7 @@ use field::{Choice, Field};
 use replies::{Refusal, offered};
 
 // The answer to a remainder: the size of the set that is listed, or why none is.
-#[derive(Drop)]
+#[derive(Clone, Copy)]
 pub enum LocateAnswer {
     Located(usize),
     Refused(Refusal),

@@ -2,7 +2,8 @@
 use crate::is_dash;
 use crate::names::text_of;
 use std::fs::File;
-use std::io::{Error, Seek, SeekFrom, Stdin};
+use std::io::{Error, ErrorKind, Seek, SeekFrom, Stdin};
+use std::os::unix::fs::FileTypeExt;
 use std::{fs, io};
 use streams::{Filled, Source, System};
 
@@ -96,17 +97,37 @@ fn leading(bytes: &[u8]) -> u64 {
     v
 }
 
-// The position and the end of standard input, where it is a file. The system says the position in its lines about what is open, the
-// first of which begins with `pos:`.
-fn input_positions<R: System>(rt: &R) -> io::Result<(u64, u64)> {
-    let metadata = fs::metadata(rt, "/proc/self/fd/0")?;
-    if !metadata.is_file() {
-        return Err(Error::from(io::ErrorKind::NotSeekable));
+// Standard input among what is open.
+const INPUT: &str = "/proc/self/fd/0";
+
+// The end of a device that is standard input: the same where it is opened once more.
+fn device_end<R: System>(rt: &R) -> io::Result<u64> {
+    let device = fs::open(rt, INPUT)?;
+    let mut device = &device;
+    device.seek(SeekFrom::End(0))
+}
+
+// The end of standard input, where it has one.
+fn input_end<R: System>(rt: &R) -> io::Result<u64> {
+    let metadata = fs::metadata(rt, INPUT)?;
+    if metadata.is_file() {
+        return Ok(metadata.len());
     }
+    let kind = metadata.file_type();
+    if kind.is_char_device() || kind.is_block_device() {
+        return device_end(rt);
+    }
+    Err(Error::from(ErrorKind::NotSeekable))
+}
+
+// The position and the end of standard input. The system says the position in its lines about what is open, the first of which begins
+// with `pos:`.
+fn input_positions<R: System>(rt: &R) -> io::Result<(u64, u64)> {
+    let last = input_end(rt)?;
     let lines = fs::open(rt, "/proc/self/fdinfo/0")?;
     let mut bytes = [0u8; 64];
     match streams::fill(Source::File(&lines), &mut bytes, 0) {
-        Filled::Bytes(_) => Ok((leading(&bytes), metadata.len())),
+        Filled::Bytes(_) => Ok((leading(&bytes), last)),
         Filled::Failed(error) => Err(error),
     }
 }

@@ -106,7 +106,7 @@ fn front_places(places: &mut [u16], n: usize) -> &mut [u16] {
 }
 
 // What a vector gives: the remainder and the fragments with their lengths, and the number of places.
-#[derive(Drop)]
+#[derive(Clone, Copy)]
 struct Vector {
     level_field: u64,
     n: u64,

@@ -6,13 +6,13 @@
 -- list-short, list-long    a list with too few places, and with enough
 -- page-unequal, block-outside, block_within    the length of the page, and the block number
 -- layout-refused    a record that is refused
-use mathlib.Core.Path.{◌≡◌, refl, sym, ap, ◌∙◌}
+use mathlib.Core.Path.{◌≡◌, refl, sym, ◌∙◌}
 use mathlib.Core.Bool.{Bool, true, false}
-use mathlib.Core.List.{List, [], ◌++◌}
-use Prim.Native.Nat.{ℕ, ◌+◌, ◌-◌, ◌≤◌, ◌<◌}
+use mathlib.Core.List.{List, ◌++◌}
+use Prim.Native.Nat.{ℕ, ◌-◌, ◌≤◌, ◌<◌}
 use native.Mathlib.Omega.{arith}
-use lib.ListN.{length, drop, replicate}
-use lib.Dec.{eqb, ltb, leb}
+use lib.ListN.{length, drop}
+use lib.Dec.{leb}
 use borrow.Author.Tests.{le-leb, lt-leb, lt-ltb, le-ltb, eq-eqb, ne_eqb}
 use Rattle.layout_plan.specs.declared.Shape.{Shape}
 use Rattle.layout_plan.specs.declared.Plan.{Plan}
@@ -24,11 +24,10 @@ use Rattle.replies.specs.declared.Refusal.TheVariants as row
 use Rattle.code.specs.Word.{Word, zeros}
 use Rattle.code.specs.Code.{Near, Ruined}
 use Rattle.code.specs.Outcome.{nearest, erased_count}
-use Rattle.code.specs.Locations.{Locations, listed, exponents}
+use Rattle.code.specs.Locations.{listed, exponents}
 use Rattle.code.proofs.Locations.{exponents-locate, locates-near}
 use Rattle.code.proofs.Outcome.{count_zeros}
 use Rattle.page_theory.specs.Page.{block_word}
-use Rattle.page_theory.specs.Reading.{GivesAt, RefusedAt}
 use Rattle.page_theory.proofs.Blocks.{block_word-length, block_word-fits}
 use Rattle.page_decide.specs.Scanning.{remainder_at, LocatedAt}
 use Rattle.page_decide.specs.Deciding.{DecidedAt}

@@ -6,10 +6,10 @@
 -- flip-all               each such bit is listed
 -- flip-ascending         each listed position is larger than the one before
 -- flip-belongs           Bits answers each listed position with the block, and an exponent of it
-use mathlib.Core.Path.{◌≡◌, refl, sym, ap, ◌∙◌}
+use mathlib.Core.Path.{◌≡◌, sym, ap, ◌∙◌}
 use mathlib.Core.Bool.{Bool, true, false}
 use mathlib.Core.List.{List, [], ◌∷◌}
-use Prim.Native.Nat.{ℕ, zero, suc, ◌+◌, ◌-◌, ◌*◌, ◌≤◌, ◌<◌}
+use Prim.Native.Nat.{ℕ, zero, suc, ◌+◌, ◌-◌, ◌*◌, ◌<◌}
 use native.Mathlib.Omega.{arith}
 use native.Mathlib.Decide.{dec_lt}
 use lib.ListN.{length, get_or}
@@ -29,7 +29,7 @@ use Rattle.code.proofs.Flips.{each_below}
 use Rattle.code.proofs.Locations.{listed_below, listed-falls}
 use Rattle.page_theory.specs.Page.{block_word}
 use Rattle.page_theory.proofs.Blocks.{block_word-length}
-use Rattle.page_explain.specs.Explain.{differing, position_of, positions, flips}
+use Rattle.page_explain.specs.Explain.{differing, position_of, flips}
 use Rattle.page_explain.proofs.Listing.{differing-length, differing-at, positions-length, positions-at}
 use Rattle.page_explain.proofs.Positions.{position-belongs-to}
 
