@@ -77,6 +77,12 @@ def rattle(*arguments, **how):
     return subprocess.run([home() / "bin" / "rattle", *arguments], **how)
 
 
+def lanes():
+    """How many checks go side by side: one a processor, and as many as memory holds, some 3 GB for each."""
+    free = re.search(r"^MemAvailable: +(\d+) kB", pathlib.Path("/proc/meminfo").read_text(), re.M)
+    return max(1, min(len(os.sched_getaffinity(0)), int(free.group(1)) // 3_000_000 if free else 1))
+
+
 def scratch():
     """A folder outside the checkout that is removed at the end of a `with`."""
     return tempfile.TemporaryDirectory(prefix="rudderfig-")
