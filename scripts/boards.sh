@@ -27,7 +27,7 @@ emulator() {
 
 flags() {
     case $1 in
-    x86_64-*) echo -march=x86-64 ;;
+    x86_64-*) echo -march=x86-64 -mllvm -no-x86-call-frame-opt ;;
     aarch64-*) echo -march=armv8-a ;;
     armv7-*) echo -march=armv7-a -mfpu=vfpv3-d16 ;;
     riscv64-*) echo -march=rv64gc ;;

@@ -104,8 +104,8 @@ def function(m, rows, first):
     return f"""
 // {about} of t = {levels}.
 {"pub " if first == 0 else ""}fn {first_name(m, first)}(ecc: usize) -> [u64; {WORDS}]
-    requires {{ ⌜ {asked} ⌝ }}
-    ensures {{ λ r. ⌜ r ≡ getD {NAMES[m]} ecc [] ⌝ }}
+    requires {{ {asked} }}
+    ensures {{ result ≡ get_or {NAMES[m]} ecc [] }}
 {{
     match ecc {{
 {arms}        _ => {first_name(m, after)}(ecc),
@@ -118,18 +118,15 @@ def code(m):
     rows = generators(m)
     return (
         f"""// The generators for m = {m} as constants, by level field, as `scripts/generators.py {NAMES[m]}` prints them.
-ghost use mathlib.Core.Path.{{_≡_}};
-ghost use mathlib.Core.List.{{[]}};
-ghost use Prim.Native.Nat.{{_≤_}};
-ghost use lib.ListN.{{getD}};
-ghost use Rattle·generators·specs.specs.Rows.{{{NAMES[m]}}};
+ghost use Rattle.std.specs.Prelude.{{◌≡◌, [], ◌≤◌, get_or}};
+ghost use Rattle.generators.specs.Rows.{{{NAMES[m]}}};
 """
         + "".join(function(m, rows, first) for first in range(0, MOST, ARMS))
         + f"""
 // That of t = {2 * MOST}.
 fn {first_name(m, MOST)}(ecc: usize) -> [u64; {WORDS}]
-    requires {{ ⌜ ecc ≡ {MOST} ⌝ }}
-    ensures {{ λ r. ⌜ r ≡ getD {NAMES[m]} ecc [] ⌝ }}
+    requires {{ ecc ≡ {MOST} }}
+    ensures {{ result ≡ get_or {NAMES[m]} ecc [] }}
 {{
     {array(rows[MOST], " " * 4)}
 }}

@@ -13,7 +13,6 @@ import re
 import subprocess
 import sys
 
-PAGE = 4096
 WORD = 8
 
 
@@ -37,12 +36,13 @@ def taken(line):
         return int(m.group(1), 16)
     if m := re.search(r"\tadd +\$0x(f{8}[0-9a-f]{8}),%rsp", line):
         return 2**64 - int(m.group(1), 16)
-    # A frame of many pages is probed in a loop down to %r11, whose own step of one page is counted above.
-    if m := re.search(r"\tlea +-0x([0-9a-f]+)\(%rsp\),%r11", line):
-        return int(m.group(1), 16) - PAGE
-    if m := re.search(r"\tsub +\$0x([0-9a-f]+),%r11", line):
-        return int(m.group(1), 16) - PAGE
     return 0
+
+
+def looped(line):
+    """The bytes by which a loop that ends at %r11 lowers it, where a line sets that end: so a frame that is many times as large as a step is probed."""
+    m = re.search(r"\tlea +-0x([0-9a-f]+)\(%rsp\),%r11", line) or re.search(r"\tsub +\$0x([0-9a-f]+),%r11", line)
+    return int(m.group(1), 16) if m else 0
 
 
 class Depths:
@@ -65,7 +65,12 @@ class MachineCode(Depths):
         return self.code
 
     def frame(self, name):
-        return WORD + sum(taken(line) for line in self.code[name])
+        size, inside = WORD, False
+        for line in self.code[name]:
+            # The step of such a loop is the first line after its end that lowers the stack pointer.
+            size += looped(line) + (0 if inside else taken(line))
+            inside = bool(looped(line)) or inside and not taken(line)
+        return size
 
     def red_zone(self, name):
         return max((int(m, 16) for line in self.code[name] for m in re.findall(r"-0x([0-9a-f]+)\(%rsp", line) if "%r11" not in line), default=0)

@@ -14,7 +14,7 @@ fn read(path: &str) -> String {
 }
 
 fn library_text() -> String {
-    let mut files: Vec<PathBuf> = fs::read_dir(format!("{ROOT}/crates/rudderfig/src"))
+    let mut files: Vec<PathBuf> = fs::read_dir(format!("{ROOT}/crates/rudderfig_c/src"))
         .unwrap()
         .map(|entry| entry.unwrap().path())
         .collect();
