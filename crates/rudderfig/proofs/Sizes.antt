@@ -1,7 +1,6 @@
 -- The numbers that the answers about a layout record hold fit the answer word: a block is below 256, an exponent below 2^16 and a position
 -- below 2^19, since a record is made of bytes.
 use mathlib.Core.Path.{◌≡◌, refl}
-use mathlib.Core.List.{List}
 use mathlib.Core.Logic.{⊎_elim}
 use mathlib.Core.Bool.{Bool, true, false, cond}
 use Prim.Native.Nat.{ℕ, ◌*◌, ◌≤◌, ◌<◌}
@@ -23,7 +22,7 @@ use Rattle.layout.specs.Acceptance.{acceptance}
 use Rattle.layout.specs.Bits.{bit_answer, bit_for, position_answer, position_for}
 use Rattle.layout_plan.proofs.Plans.{degree-small, product_le, later-none, later-some}
 use Rattle.layout.proofs.Accepting.{accepted-plan, accepted-valid}
-use Rattle.page_bits.proofs.Inverse.{Belongs, bit-belongs, position-belongs, belongs-page, exponent-low, bit-position}
+use Rattle.page_bits.proofs.Inverse.{bit-belongs, position-belongs, belongs-page, exponent-low}
 
 -- a plan whose numbers are as small as a record of bytes makes them
 pub record Narrow (q : Plan) : Type 0 where

@@ -64,12 +64,7 @@ pub fn rudderfig_locate_bit(edition: u64, words: &[u8], position: u64) -> u64
 }
 
 // Where does the coefficient of x^exponent of a block lie? The value is the position.
-pub fn rudderfig_bit_position(
-    edition: u64,
-    words: &[u8],
-    block: u64,
-    exponent: u64,
-) -> u64
+pub fn rudderfig_bit_position(edition: u64, words: &[u8], block: u64, exponent: u64) -> u64
     ensures { result ≡ position_word (position_answer (words_of edition words.now) block exponent) }
 {
     match page_bits::bit_position(edition, words, block, exponent) {
@@ -96,12 +91,7 @@ pub fn rudderfig_write_page(
 }
 
 // Looks at a page: the count of each block. Reply 9 names the lowest ruined block, and the counts are written all the same.
-pub fn rudderfig_look_page(
-    edition: u64,
-    words: &[u8],
-    page: &[u8],
-    counts: &mut [u8],
-) -> u64
+pub fn rudderfig_look_page(edition: u64, words: &[u8], page: &[u8], counts: &mut [u8]) -> u64
     ensures { LookReturns (look_of (words_of edition words.now) page.now counts.old) result counts.new }
 {
     match page_look::look_page(edition, words, page, counts) {

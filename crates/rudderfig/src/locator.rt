@@ -10,11 +10,7 @@ use fragments::answers::fragments_reply;
 use fragments::{export_fragments, import_fragments};
 
 // The fragments of a remainder.
-pub fn rudderfig_export_fragments(
-    level_field: u64,
-    remainder: &[u8],
-    fragments: &mut [u32],
-) -> u64
+pub fn rudderfig_export_fragments(level_field: u64, remainder: &[u8], fragments: &mut [u32]) -> u64
     ensures { FragmentsReturns (export_of level_field remainder.now fragments.old) result fragments.new }
 {
     let exported = export_fragments(level_field, remainder, fragments);
@@ -22,11 +18,7 @@ pub fn rudderfig_export_fragments(
 }
 
 // The remainder that fragments hold.
-pub fn rudderfig_import_fragments(
-    level_field: u64,
-    fragments: &[u32],
-    remainder: &mut [u8],
-) -> u64
+pub fn rudderfig_import_fragments(level_field: u64, fragments: &[u32], remainder: &mut [u8]) -> u64
     ensures { FragmentsReturns (import_of level_field fragments.now remainder.old) result remainder.new }
 {
     let imported = import_fragments(level_field, fragments, remainder);
