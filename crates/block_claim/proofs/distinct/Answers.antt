@@ -1,11 +1,10 @@
-use Prim.Native.Nat.{ℕ, ◌≤◌, ◌<◌, ◌-◌, ◌+◌}
-use mathlib.Core.Path.{◌≡◌, refl, sym, ◌∙◌}
+use Prim.Native.Nat.{◌-◌}
+use mathlib.Core.Path.{refl}
 use mathlib.Core.Bool.{true, false}
-use lib.ListN.{length, get_or}
 use native.Mathlib.Omega.{arith}
 use borrow.Author.Rules.{rules}
 use Rattle.bits.proofs.Decides.{decides-true, decides-false}
-use Rattle.block_claim.proofs.Claims.{Row, Rows, row-start, row_next, rows_start, rows_next, rows_end}
+use Rattle.block_claim.proofs.Claims.{row-start, row_next, rows_start, rows_next, rows_end}
 use Rattle.block_claim.proofs.distinct.Goals as goal
 
 pub pairs-init : goal.pairs-init

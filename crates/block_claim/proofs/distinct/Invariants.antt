@@ -1,11 +1,8 @@
-use Prim.Native.Nat.{ℕ, ◌≤◌, ◌<◌, ◌-◌, ◌+◌}
-use mathlib.Core.Path.{◌≡◌, refl, sym, ◌∙◌}
-use mathlib.Core.Bool.{true, false}
-use lib.ListN.{length, get_or}
-use native.Mathlib.Omega.{arith}
-use borrow.Author.Rules.{rules}
-use Rattle.bits.proofs.Decides.{decides-true, decides-false}
-use Rattle.block_claim.proofs.Claims.{Row, Rows, row-start, row_next, rows_start, rows_next, rows_end}
+use Prim.Native.Nat.{◌≤◌, ◌<◌, ◌-◌}
+use mathlib.Core.Path.{◌≡◌}
+use mathlib.Core.Bool.{true}
+use lib.ListN.{length}
+use Rattle.block_claim.proofs.Claims.{Row, Rows}
 use Rattle.block_claim.proofs.distinct.Given as goal
 
 abbrev pub invariant-loop-j : goal.invariant-loop-j

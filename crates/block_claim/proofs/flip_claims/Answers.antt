@@ -1,11 +1,10 @@
-use Prim.Native.Nat.{ℕ, ◌≤◌, ◌<◌, ◌-◌}
-use mathlib.Core.Path.{◌≡◌, refl, ap, ◌∙◌}
+use Prim.Native.Nat.{◌-◌}
+use mathlib.Core.Path.{refl, ap, ◌∙◌}
 use native.Mathlib.Omega.{arith}
 use borrow.Author.Rules.{rules}
-use lib.ListN.{length, get_or, take}
+use lib.ListN.{get_or}
 use lib.Seq.{take_all}
 use Rattle.bits.specs.Bits.{bit_of, run}
-use Rattle.code.specs.Word.{flipped}
 use Rattle.block_claim.proofs.Claims.{flip-turned, flipped-start, flipped-next}
 use Rattle.block_claim.proofs.flip_claims.Goals as goal
 

@@ -1,12 +1,8 @@
-use Prim.Native.Nat.{ℕ, ◌≤◌, ◌<◌, ◌-◌}
-use mathlib.Core.Path.{◌≡◌, refl, ap, ◌∙◌}
-use native.Mathlib.Omega.{arith}
-use borrow.Author.Rules.{rules}
-use lib.ListN.{length, get_or, take}
-use lib.Seq.{take_all}
+use Prim.Native.Nat.{◌≤◌, ◌-◌}
+use mathlib.Core.Path.{◌≡◌}
+use lib.ListN.{length, take}
 use Rattle.bits.specs.Bits.{bit_of, run}
 use Rattle.code.specs.Word.{flipped}
-use Rattle.block_claim.proofs.Claims.{flip-turned, flipped-start, flipped-next}
 use Rattle.block_claim.proofs.flip_claims.Given as goal
 
 abbrev pub invariant-loop-i : goal.invariant-loop-i

@@ -1,9 +1,7 @@
-use Prim.Native.Nat.{◌≤◌}
-use mathlib.Core.Path.{◌≡◌, refl, ◌∙◌, ap}
+use mathlib.Core.Path.{refl, ◌∙◌, ap}
 use native.Mathlib.Omega.{arith}
 use Rattle.code.specs.Generator.{remainder}
 use Rattle.block_claim.proofs.Claims.{zero-decides, copied-flipped}
-use borrow.Author.Rules.{rules}
 use Rattle.block_claim.proofs.is_code_flipped.Goals as goal
 
 pub flip_claims-requires : goal.flip_claims-requires

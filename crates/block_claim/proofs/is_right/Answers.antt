@@ -1,11 +1,7 @@
-use Prim.Native.Nat.{◌≤◌, ◌<◌}
-use mathlib.Core.Path.{◌≡◌, sym}
 use native.Mathlib.Omega.{arith}
-use borrow.Author.Tests.{not-true, not-false}
 use Rattle.mark.specs.Mark.{stream_bit}
 use Rattle.bits.proofs.Decides.{decides-false}
 use Rattle.bits.proofs.Runs.{run_length}
-use borrow.Author.Rules.{rules}
 use Rattle.block_claim.proofs.is_right.Goals as goal
 
 pub returns-then-level-claims : goal.returns-then-level-claims

@@ -1,8 +1,6 @@
-use Prim.Native.Nat.{◌≤◌}
 use native.Mathlib.Omega.{arith}
 use Rattle.bits.proofs.Decides.{decides-true}
 use Rattle.block_claim.proofs.Claims.{code-every, longest-room}
-use borrow.Author.Rules.{rules}
 use Rattle.block_claim.proofs.leads_to_code.Goals as goal
 
 pub returns-then-shape-eq0 : goal.returns-then-shape-eq0

@@ -1,8 +1,6 @@
-use Prim.Native.Nat.{ℕ, ◌≤◌, ◌<◌, ◌-◌}
-use mathlib.Core.Path.{◌≡◌}
+use Prim.Native.Nat.{◌-◌}
 use native.Mathlib.Omega.{arith}
 use borrow.Author.Rules.{rules}
-use lib.ListN.{length, get_or}
 use Rattle.bits.proofs.Decides.{decides-true, decides-false}
 use Rattle.block_claim.proofs.Claims.{within-next}
 use Rattle.block_claim.proofs.within.Goals as goal

@@ -1,5 +1,3 @@
-use borrow.Author.Rules.{rules}
-use borrow.Author.Tests.{not-true, not-false}
 use Rattle.block_outcome.proofs.Counts.{count_at-located, count_at-nowhere}
 use Rattle.block_outcome.proofs.block_count.Goals as goal
 

@@ -1,4 +1,3 @@
-use borrow.Author.Rules.{rules}
 use Rattle.block_outcome.proofs.Counts.{block-locatable}
 use Rattle.block_outcome.proofs.block_outcome.Goals as goal
 

@@ -1,5 +1,4 @@
 use mathlib.Core.Path.{refl, ◌∙◌}
-use borrow.Author.Rules.{rules}
 use Rattle.page_plan.proofs.Plans.{block_inside}
 use Rattle.page_theory.specs.Page.{block_word}
 use Rattle.block_outcome.proofs.block_zeros.Goals as goal

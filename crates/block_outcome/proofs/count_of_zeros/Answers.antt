@@ -1,6 +1,5 @@
 use mathlib.Core.Path.{refl}
 use native.Mathlib.Omega.{arith}
-use borrow.Author.Rules.{rules}
 use Rattle.block_outcome.proofs.count_of_zeros.Goals as goal
 
 pub returns-then-zeros-t : goal.returns-then-zeros-t

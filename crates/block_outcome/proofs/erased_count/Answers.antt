@@ -1,6 +1,5 @@
 use mathlib.Core.Path.{ap}
 use native.Mathlib.Omega.{arith}
-use borrow.Author.Rules.{rules}
 use Rattle.layout_plan.specs.declared.Shape.{Shape}
 use Rattle.block_outcome.proofs.Counts.{erased_at-counted}
 use Rattle.block_outcome.proofs.erased_count.Goals as goal

@@ -1,5 +1,3 @@
-use native.Mathlib.Omega.{arith}
-use borrow.Author.Rules.{rules}
 use Rattle.bits.proofs.Runs.{run_length}
 use Rattle.block_write.proofs.Encoding.{padded-put, padded-none}
 use Rattle.block_write.proofs.write_block.Goals as goal

@@ -1,7 +1,6 @@
 use native.Mathlib.Omega.{arith}
 use Rattle.bits.proofs.Runs.{run_length}
 use Rattle.block_write.proofs.Encoding.{encoded-put}
-use borrow.Author.Rules.{rules}
 use Rattle.block_write.proofs.write_covered.Goals as goal
 
 pub copy_in-requires : goal.copy_in-requires

@@ -3,7 +3,6 @@ use native.Mathlib.Omega.{arith}
 use Rattle.mark.specs.Mark.{put}
 use Rattle.remainder.proofs.Fold.{parity-bits-below, parity-digits}
 use Rattle.block_write.proofs.Encoding.{parity-none}
-use borrow.Author.Rules.{rules}
 use Rattle.block_write.proofs.write_parity.Goals as goal
 
 pub returns-then-level-eq0 : goal.returns-then-level-eq0

@@ -1,4 +1,3 @@
-use borrow.Author.Rules.{rules}
 use mathlib.Core.Path.{sym, ap, ◌∙◌}
 use Rattle.explain_words.specs.Words.{block_word}
 use Rattle.explain_words.proofs.block_word.Goals as goal

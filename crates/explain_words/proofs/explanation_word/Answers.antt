@@ -1,4 +1,3 @@
-use borrow.Author.Rules.{rules}
 use Rattle.explain_words.specs.Words.{explanation_word}
 use Rattle.explain_words.proofs.explanation_word.Goals as goal
 

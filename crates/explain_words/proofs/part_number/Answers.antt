@@ -1,4 +1,3 @@
-use borrow.Author.Rules.{rules}
 use mathlib.Core.Path.{sym, ap}
 use Rattle.explain_words.specs.Words.{part_number}
 use Rattle.explain_words.proofs.part_number.Goals as goal

@@ -1,4 +1,3 @@
-use borrow.Author.Rules.{rules}
 use Rattle.explain_words.specs.Words.{spot_word}
 use Rattle.explain_words.proofs.spot_word.Goals as goal
 

@@ -1,4 +1,3 @@
-use borrow.Author.Rules.{rules}
 use Rattle.explain_words.proofs.Shown.{why-told}
 use Rattle.explain_words.proofs.why_word.Goals as goal
 

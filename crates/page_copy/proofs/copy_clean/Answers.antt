@@ -1,4 +1,3 @@
-use borrow.Author.Rules.{rules}
 use Rattle.page_copy.proofs.Ends.{take-clean}
 use Rattle.page_copy.proofs.copy_clean.Goals as goal
 

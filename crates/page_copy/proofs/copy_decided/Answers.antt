@@ -1,5 +1,4 @@
 use mathlib.Core.Path.{◌∙◌}
-use borrow.Author.Rules.{rules}
 use Rattle.page_keep.proofs.Keeping.{decided-kept}
 use Rattle.page_copy.proofs.Ends.{take-decided}
 use Rattle.page_copy.proofs.copy_decided.Goals as goal

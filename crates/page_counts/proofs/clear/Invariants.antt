@@ -1,9 +1,6 @@
 use mathlib.Core.Path.{◌≡◌}
 use Prim.Native.Nat.{ℕ, ◌-◌, ◌≤◌, ◌<◌}
-use native.Mathlib.Omega.{arith}
 use lib.ListN.{length, get_or}
-use borrow.Author.Rules.{rules}
-use Rattle.page_counts.proofs.Looking.{clear_next, clear-end}
 use Rattle.page_counts.proofs.clear.Given as goal
 
 abbrev pub invariant-loop-i : goal.invariant-loop-i

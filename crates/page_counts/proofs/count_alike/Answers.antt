@@ -1,4 +1,3 @@
-use borrow.Author.Rules.{rules}
 use Rattle.page_counts.proofs.count_alike.Goals as goal
 
 pub count_from-requires : goal.count_from-requires

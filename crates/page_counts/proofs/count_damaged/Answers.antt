@@ -1,8 +1,6 @@
 use mathlib.Core.Path.{sym, ap, ◌∙◌}
 use native.Mathlib.Omega.{arith}
 use lib.ListN.{length}
-use borrow.Author.Rules.{rules}
-use borrow.Author.Tests.{not-true, not-false}
 use Rattle.page_theory.proofs.Reading.{counts-length}
 use Rattle.page_decide.proofs.Deciding.{later-field}
 use Rattle.page_counts.proofs.Looking.{underway-left, underway-reached, underway-next, underway-end}

@@ -1,11 +1,6 @@
 use Prim.Native.Nat.{◌-◌, ◌≤◌}
-use mathlib.Core.Path.{refl}
-use native.Mathlib.Omega.{arith}
-use borrow.Author.Rules.{rules}
 use Rattle.page_decide.specs.Deciding.{Remembers}
-use Rattle.page_decide.proofs.Deciding.{remembers-nothing}
 use Rattle.page_counts.specs.Looking.{Underway}
-use Rattle.page_counts.proofs.Looking.{underway-left, underway-reached, underway-next, underway-end}
 use Rattle.page_counts.proofs.count_from.Given as goal
 
 abbrev pub invariant-loop-at : goal.invariant-loop-at

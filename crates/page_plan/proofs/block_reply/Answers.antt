@@ -1,5 +1,4 @@
 use borrow.Author.Tests.{eq-eqb, ne_eqb, lt-ltb, le-ltb}
-use borrow.Author.Rules.{rules}
 use Rattle.replies.specs.Replies.{number, verdict_number}
 use Rattle.page_theory.specs.Calls.{block_reply}
 use Rattle.page_plan.proofs.block_reply.Goals as goal

@@ -1,4 +1,3 @@
-use borrow.Author.Rules.{rules}
 use Rattle.page_plan.proofs.Tables.{table_same}
 use Rattle.page_plan.proofs.later_table.Goals as goal
 

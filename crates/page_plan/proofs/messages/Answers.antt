@@ -1,6 +1,5 @@
 use mathlib.Core.Path.{refl}
 use native.Mathlib.Omega.{arith}
-use borrow.Author.Rules.{rules}
 use Rattle.layout_plan.proofs.Plans.{product_le}
 use Rattle.page_plan.proofs.messages.Goals as goal
 

@@ -1,6 +1,5 @@
 use native.Mathlib.Omega.{arith}
 use mathlib.Core.Path.{refl}
-use borrow.Author.Rules.{rules}
 use Rattle.bits.specs.Bits.{bit_of}
 use Rattle.bits.proofs.Runs.{run_length}
 use Rattle.payload.proofs.Payload.{joined-first, joined-second, joined-across}

@@ -1,6 +1,5 @@
 use native.Mathlib.Omega.{arith}
 use mathlib.Core.Path.{refl}
-use borrow.Author.Rules.{rules}
 use Rattle.bits.proofs.Numbers.{ones-length}
 use Rattle.payload.proofs.Payload.{joined-first, joined-second, joined-ones}
 use Rattle.payload.proofs.fill.Goals as goal

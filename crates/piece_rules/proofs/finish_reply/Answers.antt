@@ -1,11 +1,9 @@
 use Prim.Native.Nat.{◌*◌}
 use mathlib.Core.Path.{sym, ap, ◌∙◌}
 use native.Mathlib.Omega.{arith}
-use borrow.Author.Tests.{not-true, not-false}
 use Rattle.remainder.proofs.Fold.{parity-bits-below}
 use Rattle.remainder.specs.Remainder.{bytes_for}
 use Rattle.piece_rules.proofs.Replies.{usable-level, finish-unusable, finish-early, finish-bytes, finish-right}
-use borrow.Author.Rules.{rules}
 use Rattle.piece_rules.proofs.finish_reply.Goals as goal
 
 pub returns-then-not-is_usable : goal.returns-then-not-is_usable

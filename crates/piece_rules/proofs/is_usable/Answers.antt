@@ -4,7 +4,6 @@ use native.Mathlib.Omega.{arith}
 use Rattle.replies.proofs.Editions.{highest-small}
 use Rattle.remainder.proofs.Fold.{parity-bits-below}
 use Rattle.piece_rules.proofs.Replies.{right-level, usable-refused, usable-past, usable-below}
-use borrow.Author.Rules.{rules}
 use Rattle.piece_rules.proofs.is_usable.Goals as goal
 
 pub returns-then-start_reply-ne0 : goal.returns-then-start_reply-ne0

@@ -2,7 +2,6 @@ use Prim.Native.Nat.{◌*◌}
 use native.Mathlib.Omega.{arith}
 use Rattle.remainder.proofs.Fold.{parity-bits-below}
 use Rattle.piece_rules.proofs.Replies.{reply-level, reply-empty, reply-plain, reply-long, reply-right, longest-most}
-use borrow.Author.Rules.{rules}
 use Rattle.replies.proofs.Editions.{highest-small}
 use Rattle.piece_rules.proofs.start_reply.Goals as goal
 

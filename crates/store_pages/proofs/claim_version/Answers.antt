@@ -2,7 +2,6 @@ use mathlib.Core.Path.{◌∙◌}
 use Rattle.replies.specs.Replies.{number}
 use Rattle.page_claim.specs.Answers.{claim_number}
 use Rattle.store_pages.proofs.Versions.{known-planned, known-claim, refused-claim}
-use borrow.Author.Rules.{rules}
 use Rattle.store_pages.proofs.claim_version.Goals as goal
 
 pub claim_in-requires : goal.claim_in-requires

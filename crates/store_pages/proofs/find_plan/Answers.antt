@@ -1,6 +1,5 @@
 use mathlib.Core.Path.{sym, ◌∙◌}
 use Rattle.store_pages.proofs.Versions.{found-known, found-refused, unknown-refused, plan-sound, refused-sound}
-use borrow.Author.Rules.{rules}
 use Rattle.store_pages.proofs.find_plan.Goals as goal
 
 pub returns-then-holds_together : goal.returns-then-holds_together

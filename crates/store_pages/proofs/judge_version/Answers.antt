@@ -2,7 +2,6 @@ use mathlib.Core.Path.{◌∙◌}
 use Rattle.replies.specs.Replies.{number, block}
 use Rattle.page_judge.specs.Answers.{judge_number, judge_block, judge_flips}
 use Rattle.store_pages.proofs.Versions.{known-planned, known-judge, refused-judge}
-use borrow.Author.Rules.{rules}
 use Rattle.store_pages.proofs.judge_version.Goals as goal
 
 pub judge_in-requires : goal.judge_in-requires

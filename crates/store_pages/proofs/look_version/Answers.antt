@@ -2,7 +2,6 @@ use mathlib.Core.Path.{◌∙◌}
 use Rattle.replies.specs.Replies.{number, block}
 use Rattle.page_look.specs.Answers.{look_number, look_block}
 use Rattle.store_pages.proofs.Versions.{known-planned, known_look, refused-look}
-use borrow.Author.Rules.{rules}
 use Rattle.store_pages.proofs.look_version.Goals as goal
 
 pub look_in-requires : goal.look_in-requires

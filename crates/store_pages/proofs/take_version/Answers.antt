@@ -2,7 +2,6 @@ use mathlib.Core.Path.{◌∙◌}
 use Rattle.replies.specs.Replies.{number, block}
 use Rattle.page_take.specs.Answers.{take_number, take_block}
 use Rattle.store_pages.proofs.Versions.{known-planned, known-take, refused-take}
-use borrow.Author.Rules.{rules}
 use Rattle.store_pages.proofs.take_version.Goals as goal
 
 pub take_in-requires : goal.take_in-requires

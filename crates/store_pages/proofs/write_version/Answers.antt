@@ -2,7 +2,6 @@ use mathlib.Core.Path.{◌∙◌}
 use Rattle.replies.specs.Replies.{number, block}
 use Rattle.page_write.specs.Answers.{write_number, write_block}
 use Rattle.store_pages.proofs.Versions.{known-planned, known-write, refused-write}
-use borrow.Author.Rules.{rules}
 use Rattle.store_pages.proofs.write_version.Goals as goal
 
 pub write_in-requires : goal.write_in-requires

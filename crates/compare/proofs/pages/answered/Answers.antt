@@ -1,5 +1,4 @@
-use mathlib.Core.Path.{sym, ap, ◌∙◌}
-use borrow.Author.Rules.{rules}
+use mathlib.Core.Path.{sym, ap}
 use Rattle.compare.specs.Calls.{found_by, found}
 use Rattle.compare.proofs.pages.answered.Goals as goal
 

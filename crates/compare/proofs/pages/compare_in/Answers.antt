@@ -1,5 +1,4 @@
 use mathlib.Core.Path.{◌∙◌}
-use borrow.Author.Rules.{rules}
 use Rattle.page_plan.proofs.Asking.{told-passed, told-number}
 use Rattle.compare.specs.Calls.{compare_number}
 use Rattle.compare.proofs.Ends.{compare-refused, compare-passed}

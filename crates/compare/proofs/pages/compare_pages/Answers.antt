@@ -1,5 +1,4 @@
 use mathlib.Core.Path.{sym, ◌∙◌}
-use borrow.Author.Rules.{rules}
 use Rattle.compare.specs.Calls.{compare_number, compare_for, compare_of}
 use Rattle.compare.proofs.Ends.{compare-layout}
 use Rattle.compare.proofs.pages.compare_pages.Goals as goal

@@ -1,5 +1,4 @@
 use borrow.Author.Tests.{eq-eqb, ne_eqb}
-use borrow.Author.Rules.{rules}
 use Rattle.replies.specs.Replies.{number, verdict_number}
 use Rattle.compare.specs.Calls.{counts_reply}
 use Rattle.compare.proofs.pages.counts_reply.Goals as goal

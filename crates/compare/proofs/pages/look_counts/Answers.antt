@@ -1,5 +1,4 @@
 use mathlib.Core.Path.{ap}
-use borrow.Author.Rules.{rules}
 use Rattle.page_theory.specs.Calls.{Looked}
 use Rattle.compare.proofs.pages.look_counts.Goals as goal
 

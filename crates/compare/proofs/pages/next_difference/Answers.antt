@@ -1,5 +1,4 @@
 use mathlib.Core.Path.{sym, ◌∙◌}
-use borrow.Author.Rules.{rules}
 use Rattle.compare.specs.Calls.{found_by, difference_for, difference_of}
 use Rattle.compare.proofs.Ends.{difference-layout}
 use Rattle.compare.proofs.pages.next_difference.Goals as goal

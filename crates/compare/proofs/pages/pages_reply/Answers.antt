@@ -1,6 +1,5 @@
 use mathlib.Core.Path.{sym, ◌∙◌}
-use borrow.Author.Tests.{eq-eqb, ne_eqb, not-true, not-false}
-use borrow.Author.Rules.{rules}
+use borrow.Author.Tests.{eq-eqb, ne_eqb}
 use Rattle.replies.specs.Replies.{number, verdict_number}
 use Rattle.compare.specs.Calls.{pages_reply}
 use Rattle.compare.proofs.pages.pages_reply.Goals as goal

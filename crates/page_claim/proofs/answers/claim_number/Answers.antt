@@ -1,6 +1,5 @@
 use mathlib.Core.Path.{sym, ap, ◌∙◌}
 use Rattle.page_claim.specs.Answers.{claim_number}
-use borrow.Author.Rules.{rules}
 use Rattle.page_claim.proofs.answers.claim_number.Goals as goal
 
 pub returns-in-Accepted : goal.returns-in-Accepted

@@ -1,5 +1,4 @@
 use mathlib.Core.Path.{◌∙◌}
-use borrow.Author.Rules.{rules}
 use Rattle.page_theory.specs.Calls.{claim_for}
 use Rattle.layout.specs.Acceptance.{refusal_reply}
 use Rattle.page_claim.specs.Answers.{claim_number}

@@ -1,5 +1,4 @@
 use native.Mathlib.Omega.{arith}
-use borrow.Author.Rules.{rules}
 use Rattle.page_plan.proofs.Asking.{told-passed, told-number, reply-asked}
 use Rattle.page_claim.specs.Answers.{claim_number}
 use Rattle.page_claim.proofs.Ends.{claim-refused}

@@ -1,4 +1,3 @@
-use borrow.Author.Rules.{rules}
 use Rattle.page_plan.proofs.Plans.{shape-stored, shape-fits, block_inside}
 use Rattle.page_claim.specs.Answers.{claim_number}
 use Rattle.page_claim.proofs.Ends.{claim-accepted, claim-rejected}

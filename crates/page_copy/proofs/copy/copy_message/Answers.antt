@@ -1,5 +1,4 @@
 use mathlib.Core.Path.{ap}
-use borrow.Author.Rules.{rules}
 use Rattle.layout_plan.specs.declared.Shape.{Shape}
 use Rattle.page_copy.proofs.Messages.{joined-message, message-room}
 use Rattle.page_copy.proofs.copy.copy_message.Goals as goal

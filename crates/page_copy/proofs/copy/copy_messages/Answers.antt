@@ -1,10 +1,7 @@
-use Prim.Native.Nat.{◌-◌, ◌≤◌}
+use Prim.Native.Nat.{◌-◌}
 use mathlib.Core.Path.{◌≡◌, refl, ◌∙◌}
-use mathlib.Core.List.{◌++◌}
 use native.Mathlib.Omega.{arith}
 use borrow.Author.Rules.{rules}
-use Rattle.bits.specs.Bits.{placed}
-use Rattle.payload.specs.Payload.{Joined}
 use Rattle.page_copy.specs.Copying.{texts}
 use Rattle.page_copy.proofs.Messages.{joined-start, joined-texts}
 use Rattle.page_copy.proofs.copy.copy_messages.Goals as goal

@@ -1,11 +1,6 @@
 use Prim.Native.Nat.{◌-◌, ◌≤◌}
-use mathlib.Core.Path.{◌≡◌, ◌∙◌}
-use native.Mathlib.Omega.{arith}
-use borrow.Author.Rules.{rules}
-use Rattle.bits.specs.Bits as bits
 use Rattle.page_keep.specs.Keeping.{kept}
 use Rattle.page_copy.specs.Copying.{FlippedIn}
-use Rattle.page_copy.proofs.Flipping.{kept_next, kept-below, flipped-none, flipped-next}
 use Rattle.page_copy.proofs.copy.flip_block.Given as goal
 
 abbrev pub invariant-loop-i : goal.invariant-loop-i

@@ -1,4 +1,3 @@
-use native.Mathlib.Omega.{arith}
 use borrow.Author.Rules.{rules}
 use Rattle.page_copy.proofs.Flipping.{restored-flips, restored-ones}
 use Rattle.page_copy.proofs.copy.restore_block.Goals as goal

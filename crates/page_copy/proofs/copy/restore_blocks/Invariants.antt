@@ -1,9 +1,5 @@
 use Prim.Native.Nat.{◌-◌, ◌≤◌}
-use mathlib.Core.Path.{◌≡◌, ◌∙◌}
-use native.Mathlib.Omega.{arith}
-use borrow.Author.Rules.{rules}
 use Rattle.page_copy.specs.Copying.{RestoredAll}
-use Rattle.page_copy.proofs.Flipping.{restored-start, restored-next}
 use Rattle.page_copy.proofs.copy.restore_blocks.Given as goal
 
 abbrev pub invariant-loop-b : goal.invariant-loop-b

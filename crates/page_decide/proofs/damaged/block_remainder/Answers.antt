@@ -1,6 +1,4 @@
 use mathlib.Core.Path.{◌≡◌, refl, ◌∙◌, ap, sym}
-use native.Mathlib.Omega.{arith}
-use borrow.Author.Rules.{rules}
 use Rattle.layout_plan.specs.declared.Shape.{Shape}
 use Rattle.layout_plan.specs.Plan.{level}
 use Rattle.page_plan.proofs.Plans.{block_inside}

@@ -1,5 +1,4 @@
 use native.Mathlib.Omega.{arith}
-use borrow.Author.Rules.{rules}
 use Rattle.page_decide.proofs.Scanning.{scanned-found, clean-next, scanned-first}
 use Rattle.page_decide.proofs.damaged.first_damaged.Goals as goal
 

@@ -1,8 +1,7 @@
-use Prim.Native.Nat.{◌-◌, ◌≤◌}
+use Prim.Native.Nat.{◌-◌}
 use native.Mathlib.Omega.{arith}
 use borrow.Author.Rules.{rules}
-use Rattle.page_decide.specs.Scanning.{Reached}
-use Rattle.page_decide.proofs.Scanning.{Clean, scanned-found, clean-next, scanned-end}
+use Rattle.page_decide.proofs.Scanning.{scanned-found, clean-next, scanned-end}
 use Rattle.page_decide.proofs.damaged.next_damaged.Goals as goal
 
 pub loop-at-init : goal.loop-at-init

@@ -1,8 +1,6 @@
 use Prim.Native.Nat.{◌-◌, ◌≤◌}
-use native.Mathlib.Omega.{arith}
-use borrow.Author.Rules.{rules}
 use Rattle.page_decide.specs.Scanning.{Reached}
-use Rattle.page_decide.proofs.Scanning.{Clean, scanned-found, clean-next, scanned-end}
+use Rattle.page_decide.proofs.Scanning.{Clean}
 use Rattle.page_decide.proofs.damaged.next_damaged.Given as goal
 
 abbrev pub invariant-loop-at : goal.invariant-loop-at

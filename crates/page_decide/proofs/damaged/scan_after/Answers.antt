@@ -1,7 +1,6 @@
 use mathlib.Core.Path.{sym, ◌∙◌}
 use Prim.Native.Nat.{◌+◌}
 use native.Mathlib.Omega.{arith}
-use borrow.Author.Rules.{rules}
 use Rattle.page_plan.proofs.Tables.{table-later}
 use Rattle.page_decide.proofs.Scanning.{reached-one}
 use Rattle.page_decide.proofs.damaged.scan_after.Goals as goal

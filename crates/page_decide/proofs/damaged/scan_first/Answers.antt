@@ -1,5 +1,4 @@
 use native.Mathlib.Omega.{arith}
-use borrow.Author.Rules.{rules}
 use Rattle.page_plan.proofs.Tables.{table-first, second-same}
 use Rattle.page_decide.proofs.damaged.scan_first.Goals as goal
 

@@ -1,5 +1,4 @@
 use native.Mathlib.Omega.{arith}
-use borrow.Author.Rules.{rules}
 use Rattle.page_decide.proofs.Scanning.{reached-one}
 use Rattle.page_decide.proofs.damaged.scan_one.Goals as goal
 

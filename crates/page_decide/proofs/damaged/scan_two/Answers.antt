@@ -1,6 +1,5 @@
 use mathlib.Core.Path.{refl, ◌∙◌}
 use native.Mathlib.Omega.{arith}
-use borrow.Author.Rules.{rules}
 use Rattle.page_plan.proofs.Plans.{block_inside}
 use Rattle.page_theory.specs.Page.{block_word}
 use Rattle.page_decide.specs.Scanning.{remainder_at}

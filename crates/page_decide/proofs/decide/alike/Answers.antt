@@ -1,5 +1,3 @@
-use borrow.Author.Rules.{rules}
-use borrow.Author.Tests.{not-true, not-false}
 use Rattle.page_decide.proofs.Deciding.{alike-nothing, alike-shape, alike-words}
 use Rattle.page_decide.proofs.decide.alike.Goals as goal
 

@@ -2,7 +2,6 @@ use mathlib.Core.Path.{◌≡◌, sym, ◌∙◌}
 use Prim.Native.Nat.{ℕ}
 use native.Mathlib.Omega.{arith}
 use native.Mathlib.Nat.{pos_of_ne-zero}
-use borrow.Author.Rules.{rules}
 use borrow.Author.Tests.{eqb-true, not-false}
 use Rattle.page_decide.proofs.Deciding.{later-field, same-field}
 use Rattle.page_decide.proofs.decide.apart.Goals as goal

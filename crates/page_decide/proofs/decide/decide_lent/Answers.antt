@@ -1,4 +1,3 @@
-use borrow.Author.Rules.{rules}
 use Rattle.page_decide.proofs.Deciding.{remembers-nothing}
 use Rattle.page_decide.proofs.decide.decide_lent.Goals as goal
 

@@ -1,4 +1,3 @@
-use borrow.Author.Rules.{rules}
 use Rattle.page_decide.proofs.Deciding.{one-field-serves}
 use Rattle.page_decide.proofs.decide.fill_serving.Goals as goal
 

@@ -1,5 +1,4 @@
 use native.Mathlib.Omega.{arith}
-use borrow.Author.Rules.{rules}
 use Rattle.page_decide.proofs.Deciding.{levels-below}
 use Rattle.page_decide.proofs.decide.higher_level.Goals as goal
 

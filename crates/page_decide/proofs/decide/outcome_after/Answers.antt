@@ -1,4 +1,3 @@
-use borrow.Author.Rules.{rules}
 use Rattle.page_decide.proofs.Deciding.{alike-finds}
 use Rattle.page_decide.proofs.decide.outcome_after.Goals as goal
 

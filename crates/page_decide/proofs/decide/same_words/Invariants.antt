@@ -1,11 +1,6 @@
-use mathlib.Core.Path.{◌≡◌, ap}
-use mathlib.Core.List.{List}
+use mathlib.Core.Path.{◌≡◌}
 use Prim.Native.Nat.{ℕ, ◌-◌, ◌≤◌, ◌<◌}
-use native.Mathlib.Omega.{arith}
-use lib.ListN.{length, get_or}
-use lib.Seq.{ext_get_or}
-use borrow.Author.Count.{below_more}
-use borrow.Author.Rules.{rules}
+use lib.ListN.{get_or}
 use Rattle.page_decide.proofs.decide.same_words.Given as goal
 
 abbrev pub invariant-loop-i : goal.invariant-loop-i

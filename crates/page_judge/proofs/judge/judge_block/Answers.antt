@@ -1,5 +1,4 @@
 use mathlib.Core.Path.{sym, ◌∙◌}
-use borrow.Author.Rules.{rules}
 use Rattle.page_plan.proofs.Plans.{words-sound}
 use Rattle.page_judge.proofs.judge.judge_block.Goals as goal
 

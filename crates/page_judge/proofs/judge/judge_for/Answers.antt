@@ -1,5 +1,4 @@
 use mathlib.Core.Path.{◌∙◌}
-use borrow.Author.Rules.{rules}
 use Rattle.page_theory.specs.Calls.{judge_for}
 use Rattle.page_judge.specs.Answers.{judge_number, judge_block, judge_flips}
 use Rattle.page_judge.proofs.Ends.{judge-layout}

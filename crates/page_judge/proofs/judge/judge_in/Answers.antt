@@ -1,5 +1,4 @@
 use native.Mathlib.Omega.{arith}
-use borrow.Author.Rules.{rules}
 use Rattle.page_plan.proofs.Asking.{told-passed, told-number, reply-asked}
 use Rattle.page_judge.specs.Answers.{judge_number, judge_block, judge_flips}
 use Rattle.page_judge.proofs.Ends.{judge-refused}

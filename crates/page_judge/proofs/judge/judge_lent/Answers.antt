@@ -1,5 +1,4 @@
 use mathlib.Core.Path.{sym, ◌∙◌}
-use borrow.Author.Rules.{rules}
 use borrow.Author.Tests.{eqb-true}
 use Rattle.page_judge.specs.Answers.{judge_number, judge_block, judge_flips}
 use Rattle.page_judge.proofs.Ends.{judge-clean}

@@ -1,8 +1,7 @@
-use Prim.Native.Nat.{◌-◌, ◌≤◌}
+use Prim.Native.Nat.{◌-◌}
 use mathlib.Core.Path.{◌≡◌}
 use native.Mathlib.Omega.{arith}
 use borrow.Author.Rules.{rules}
-use Rattle.page_keep.specs.Keeping.{KeptFor}
 use Rattle.page_keep.proofs.Keeping.{kept_for-none, kept_for-next}
 use Rattle.page_keep.proofs.keep.keep.Goals as goal
 

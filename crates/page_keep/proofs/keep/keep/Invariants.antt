@@ -1,9 +1,5 @@
 use Prim.Native.Nat.{◌-◌, ◌≤◌}
-use mathlib.Core.Path.{◌≡◌}
-use native.Mathlib.Omega.{arith}
-use borrow.Author.Rules.{rules}
 use Rattle.page_keep.specs.Keeping.{KeptFor}
-use Rattle.page_keep.proofs.Keeping.{kept_for-none, kept_for-next}
 use Rattle.page_keep.proofs.keep.keep.Given as goal
 
 abbrev pub invariant-loop-i : goal.invariant-loop-i

@@ -1,4 +1,3 @@
-use borrow.Author.Rules.{rules}
 use Rattle.page_keep.proofs.keep.keep_alike.Goals as goal
 
 pub keep_from-requires : goal.keep_from-requires

@@ -1,5 +1,4 @@
 use native.Mathlib.Omega.{arith}
-use borrow.Author.Rules.{rules}
 use Rattle.page_keep.proofs.Keeping.{block_kept-none, block_kept-some}
 use Rattle.page_keep.proofs.keep.keep_block.Goals as goal
 

@@ -1,11 +1,9 @@
-use Prim.Native.Nat.{◌-◌, ◌≤◌}
-use mathlib.Core.Path.{◌≡◌, refl, ◌∙◌}
+use Prim.Native.Nat.{◌-◌}
+use mathlib.Core.Path.{refl, ◌∙◌}
 use native.Mathlib.Omega.{arith}
-use borrow.Author.Rules.{rules}
 use lib.ListN.{length}
-use Rattle.page_decide.specs.Deciding.{Remembers}
 use Rattle.page_decide.proofs.Deciding.{remembers-nothing}
-use Rattle.page_keep.specs.Keeping.{Underway, PageDecided}
+use Rattle.page_keep.specs.Keeping.{PageDecided}
 use Rattle.page_keep.proofs.Keeping.{underway-left, underway-reached, decided-room, underway-ruined, underway-next, underway-sound}
 use Rattle.page_keep.proofs.keep.keep_from.Goals as goal
 

@@ -1,7 +1,5 @@
 use mathlib.Core.Path.{refl}
 use native.Mathlib.Omega.{arith}
-use borrow.Author.Rules.{rules}
-use borrow.Author.Tests.{not-true, not-false}
 use Rattle.page_decide.proofs.Deciding.{later-field}
 use Rattle.page_keep.specs.Keeping.{PageDecided}
 use Rattle.page_keep.proofs.Keeping.{underway-left, underway-reached, decided-room, underway-ruined, underway-next, underway-sound}

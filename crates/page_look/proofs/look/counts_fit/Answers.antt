@@ -1,5 +1,4 @@
 use mathlib.Core.Path.{refl}
-use borrow.Author.Rules.{rules}
 use Rattle.page_look.proofs.look.counts_fit.Goals as goal
 
 pub returns : goal.returns

@@ -1,6 +1,3 @@
-use mathlib.Core.Path.{◌∙◌}
-use native.Mathlib.Omega.{arith}
-use borrow.Author.Rules.{rules}
 use Rattle.page_look.specs.Answers.{look_number, look_block}
 use Rattle.page_counts.proofs.Looking.{first-lowest, first-sound}
 use Rattle.page_look.proofs.Ends.{look-done, look-ruined}

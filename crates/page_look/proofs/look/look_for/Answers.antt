@@ -1,5 +1,4 @@
 use mathlib.Core.Path.{◌∙◌}
-use borrow.Author.Rules.{rules}
 use Rattle.page_theory.specs.Calls.{look_for}
 use Rattle.page_look.specs.Answers.{look_number, look_block}
 use Rattle.page_look.proofs.Ends.{look-layout}

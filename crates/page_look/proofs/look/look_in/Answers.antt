@@ -1,4 +1,3 @@
-use borrow.Author.Rules.{rules}
 use Rattle.page_plan.proofs.Asking.{told-passed, told-number}
 use Rattle.page_look.specs.Answers.{look_number, look_block}
 use Rattle.page_look.proofs.Ends.{look-refused, reply-ready}

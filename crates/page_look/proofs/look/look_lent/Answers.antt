@@ -1,6 +1,5 @@
 use mathlib.Core.Path.{◌∙◌}
 use native.Mathlib.Omega.{arith}
-use borrow.Author.Rules.{rules}
 use Rattle.page_look.specs.Answers.{look_number, look_block}
 use Rattle.page_counts.proofs.Looking.{underway-start, underway-end, clean-sound}
 use Rattle.page_look.proofs.Ends.{look-lent, look-done}

@@ -1,6 +1,4 @@
 use mathlib.Core.Path.{sym, ◌∙◌}
-use borrow.Author.Tests.{not-true, not-false}
-use borrow.Author.Rules.{rules}
 use Rattle.replies.specs.Replies.{number, verdict_number}
 use Rattle.page_theory.specs.Calls.{look_reply}
 use Rattle.page_look.proofs.look.look_reply.Goals as goal

@@ -1,5 +1,4 @@
 use native.Mathlib.Omega.{arith}
-use borrow.Author.Rules.{rules}
 use Rattle.page_runs.proofs.Copies.{number-before, number-copied}
 use Rattle.page_runs.proofs.divide.number_in.Goals as goal
 

@@ -1,5 +1,4 @@
 use native.Mathlib.Omega.{arith}
-use borrow.Author.Rules.{rules}
 use Rattle.mark.proofs.Runs.{near-less, near-place}
 use Rattle.page_runs.proofs.Division.{parity-before, parity-none, parity-below, parity-after, parity-parts}
 use Rattle.page_runs.proofs.divide.parity_in.Goals as goal

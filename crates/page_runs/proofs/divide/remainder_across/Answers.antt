@@ -1,5 +1,4 @@
 use native.Mathlib.Omega.{arith}
-use borrow.Author.Rules.{rules}
 use Rattle.remainder.proofs.Fold.{parity-bits-below}
 use Rattle.page_runs.proofs.Division.{remainder-few, remainder-added}
 use Rattle.page_runs.proofs.divide.remainder_across.Goals as goal

@@ -1,5 +1,4 @@
 use native.Mathlib.Omega.{arith}
-use borrow.Author.Rules.{rules}
 use Rattle.mark.proofs.Runs.{near-place}
 use Rattle.page_runs.proofs.Division.{remainder-before, remainder-after}
 use Rattle.page_runs.proofs.divide.remainder_in.Goals as goal

@@ -1,7 +1,6 @@
 use mathlib.Core.Path.{◌≡◌}
 use Prim.Native.Nat.{ℕ}
 use native.Mathlib.Omega.{arith}
-use borrow.Author.Rules.{rules}
 use Rattle.mark.proofs.Runs.{near-less, near-place}
 use Rattle.page_runs.proofs.Parts.{run-before, run-after}
 use Rattle.page_runs.proofs.divide.run_place.Goals as goal

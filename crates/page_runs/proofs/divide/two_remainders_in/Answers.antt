@@ -1,5 +1,4 @@
 use mathlib.Core.Path.{ap, ◌∙◌}
-use borrow.Author.Rules.{rules}
 use Rattle.code.specs.Generator.{remainder}
 use Rattle.page_runs.proofs.divide.two_remainders_in.Goals as goal
 

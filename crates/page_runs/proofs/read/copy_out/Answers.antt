@@ -1,5 +1,4 @@
 use native.Mathlib.Omega.{arith}
-use borrow.Author.Rules.{rules}
 use Rattle.mark.proofs.Runs.{near-less, near-place}
 use Rattle.page_runs.proofs.Copies.{payload-before, payload-parts}
 use Rattle.page_runs.proofs.read.copy_out.Goals as goal

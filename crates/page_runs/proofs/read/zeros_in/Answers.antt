@@ -1,5 +1,4 @@
 use native.Mathlib.Omega.{arith}
-use borrow.Author.Rules.{rules}
 use Rattle.mark.proofs.Runs.{near-less, near-place}
 use Rattle.page_runs.proofs.Zeros.{zeros_to-le, zeros-before, zeros-parts}
 use Rattle.page_runs.proofs.read.zeros_in.Goals as goal

@@ -1,5 +1,4 @@
 use native.Mathlib.Omega.{arith}
-use borrow.Author.Rules.{rules}
 use Rattle.mark.proofs.Runs.{near-less, near-place}
 use Rattle.page_runs.proofs.Puts.{put-before-ones, put-parts-ones}
 use Rattle.page_runs.proofs.write.fill_ones.Goals as goal

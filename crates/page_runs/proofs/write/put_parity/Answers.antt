@@ -1,5 +1,4 @@
 use native.Mathlib.Omega.{arith}
-use borrow.Author.Rules.{rules}
 use Rattle.page_runs.proofs.Puts.{put-before-digits, put-word-digits}
 use Rattle.page_runs.proofs.write.put_parity.Goals as goal
 

@@ -1,5 +1,4 @@
 use native.Mathlib.Omega.{arith}
-use borrow.Author.Rules.{rules}
 use Rattle.mark.proofs.Runs.{near-less, near-place}
 use Rattle.page_runs.proofs.Puts.{put-before-run, put-parts-start}
 use Rattle.page_runs.proofs.write.put_word.Goals as goal

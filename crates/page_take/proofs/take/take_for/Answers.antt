@@ -1,5 +1,4 @@
 use mathlib.Core.Path.{◌∙◌}
-use borrow.Author.Rules.{rules}
 use Rattle.page_theory.specs.Calls.{take_for}
 use Rattle.page_take.specs.Answers.{take_number, take_block}
 use Rattle.page_take.proofs.Ends.{take-layout}

@@ -1,4 +1,3 @@
-use borrow.Author.Rules.{rules}
 use Rattle.page_plan.proofs.Asking.{told-passed, told-number}
 use Rattle.page_take.specs.Answers.{take_number, take_block}
 use Rattle.page_take.proofs.Ends.{take-refused, reply-ready}

@@ -1,5 +1,4 @@
 use native.Mathlib.Omega.{arith}
-use borrow.Author.Rules.{rules}
 use Rattle.page_take.specs.Answers.{take_number, take_block}
 use Rattle.page_take.proofs.take.take_lent.Goals as goal
 

@@ -1,6 +1,5 @@
 use mathlib.Core.Path.{sym, ap, ◌∙◌}
 use Rattle.page_write.specs.Answers.{write_number}
-use borrow.Author.Rules.{rules}
 use Rattle.page_write.proofs.answers.write_number.Goals as goal
 
 pub returns-in-Done : goal.returns-in-Done

@@ -1,5 +1,4 @@
 use borrow.Author.Tests.{eq-eqb, ne_eqb}
-use borrow.Author.Rules.{rules}
 use Rattle.replies.specs.Replies.{number, verdict_number}
 use Rattle.page_theory.specs.Calls.{write_reply}
 use Rattle.page_write.proofs.lengths.write_reply.Goals as goal

@@ -1,5 +1,4 @@
 use native.Mathlib.Omega.{arith}
-use borrow.Author.Rules.{rules}
 use Rattle.layout_plan.specs.Plan.{room}
 use Rattle.page_write.proofs.write.fill_tail.Goals as goal
 

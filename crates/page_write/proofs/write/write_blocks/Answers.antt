@@ -1,10 +1,9 @@
-use Prim.Native.Nat.{◌-◌, ◌≤◌, ◌<◌}
+use Prim.Native.Nat.{◌-◌}
 use mathlib.Core.Path.{◌≡◌, ◌∙◌}
-use mathlib.Core.List.{◌++◌}
 use native.Mathlib.Omega.{arith}
 use borrow.Author.Rules.{rules}
 use Rattle.page_plan.proofs.Plans.{shape-zero}
-use Rattle.page_write.proofs.Writing.{page-put, Streamed, streamed-first, streamed-size, streamed-next, streamed-end}
+use Rattle.page_write.proofs.Writing.{page-put, streamed-first, streamed-size, streamed-next, streamed-end}
 use Rattle.page_write.proofs.write.write_blocks.Goals as goal
 
 pub loop-block-init : goal.loop-block-init

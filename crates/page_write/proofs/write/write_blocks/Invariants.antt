@@ -1,10 +1,6 @@
 use Prim.Native.Nat.{◌-◌, ◌≤◌, ◌<◌}
-use mathlib.Core.Path.{◌≡◌, ◌∙◌}
 use mathlib.Core.List.{◌++◌}
-use native.Mathlib.Omega.{arith}
-use borrow.Author.Rules.{rules}
-use Rattle.page_plan.proofs.Plans.{shape-zero}
-use Rattle.page_write.proofs.Writing.{page-put, Streamed, streamed-first, streamed-size, streamed-next, streamed-end}
+use Rattle.page_write.proofs.Writing.{Streamed}
 use Rattle.page_write.proofs.write.write_blocks.Given as goal
 
 abbrev pub invariant-loop-block : goal.invariant-loop-block

@@ -1,5 +1,4 @@
 use mathlib.Core.Path.{◌∙◌}
-use borrow.Author.Rules.{rules}
 use Rattle.page_theory.specs.Calls.{write_for}
 use Rattle.page_write.specs.Answers.{write_number, write_block}
 use Rattle.page_write.proofs.Writing.{write-layout}

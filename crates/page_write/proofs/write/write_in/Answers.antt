@@ -1,4 +1,3 @@
-use borrow.Author.Rules.{rules}
 use Rattle.page_plan.proofs.Asking.{told-passed, told-number}
 use Rattle.page_write.specs.Answers.{write_number, write_block}
 use Rattle.page_write.proofs.Writing.{reply-lent, write-refused, write_done}

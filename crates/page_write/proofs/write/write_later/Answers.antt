@@ -1,6 +1,5 @@
 use mathlib.Core.List.{◌++◌}
 use native.Mathlib.Omega.{arith}
-use borrow.Author.Rules.{rules}
 use Rattle.page_plan.proofs.Plans.{pads-inside}
 use Rattle.page_plan.proofs.Tables.{table-shape}
 use Rattle.page_write.proofs.Writing.{message-lent, put-block}

@@ -1,6 +1,5 @@
 use mathlib.Core.Path.{sym, ap}
 use Rattle.piece_states.specs.State.{choice_of}
-use borrow.Author.Rules.{rules}
 use Rattle.piece_states.proofs.value.choice_of.Goals as goal
 
 pub returns-in-Thirteen : goal.returns-in-Thirteen

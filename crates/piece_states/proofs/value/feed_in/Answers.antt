@@ -1,8 +1,6 @@
 use mathlib.Core.Path.{sym, ◌∙◌}
-use borrow.Author.Tests.{not-true, not-false}
 use Rattle.piece_rules.proofs.Replies.{usable-going}
 use Rattle.piece_states.proofs.Replies.{feed-unusable, feed-past, feed-taken}
-use borrow.Author.Rules.{rules}
 use Rattle.piece_states.proofs.value.feed_in.Goals as goal
 
 pub returns-then-not-is_usable : goal.returns-then-not-is_usable

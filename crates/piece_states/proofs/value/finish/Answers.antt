@@ -1,7 +1,6 @@
 use mathlib.Core.Path.{sym, ◌∙◌}
 use Rattle.replies.specs.Replies.{number}
 use Rattle.piece_states.specs.Calls.{finished, finish_for, finish_of}
-use borrow.Author.Rules.{rules}
 use Rattle.piece_states.proofs.value.finish.Goals as goal
 
 pub returns-in-Offered : goal.returns-in-Offered

@@ -1,7 +1,6 @@
 use mathlib.Core.Path.{sym, ◌∙◌}
 use Rattle.piece_rules.proofs.Replies.{finish-room}
 use Rattle.piece_states.proofs.Replies.{finish-refused, finish-done}
-use borrow.Author.Rules.{rules}
 use Rattle.piece_states.proofs.value.finish_in.Goals as goal
 
 pub returns-then-reply-ne0 : goal.returns-then-reply-ne0

@@ -1,8 +1,6 @@
 use mathlib.Core.Path.{sym, ◌∙◌}
 use Rattle.replies.specs.Replies.{number}
 use Rattle.piece_states.specs.Calls.{start_for, start_of}
-use borrow.Author.Rules.{rules}
-use borrow.Author.Tests.{not-true, not-false}
 use Rattle.piece_states.proofs.value.start.Goals as goal
 
 pub returns-then-not-offered : goal.returns-then-not-offered

@@ -1,5 +1,4 @@
 use mathlib.Core.Path.{sym, ◌∙◌}
-use borrow.Author.Rules.{rules}
 use Rattle.piece_states.proofs.Starting.{state-start}
 use Rattle.piece_states.proofs.Replies.{start-refused, start-done}
 use Rattle.piece_states.proofs.value.start_in.Goals as goal

@@ -1,4 +1,3 @@
-use borrow.Author.Rules.{rules}
 use Rattle.page_theory.specs.Page.{block_word}
 use Rattle.roundtrip.specs.Mask.{named}
 use Rattle.roundtrip.proofs.mask.block_allowed.Goals as goal

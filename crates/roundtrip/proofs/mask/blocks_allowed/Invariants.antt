@@ -1,11 +1,7 @@
 use Prim.Native.Nat.{◌-◌, ◌≤◌}
-use mathlib.Core.Path.{◌≡◌, sym, ap, ◌∙◌}
+use mathlib.Core.Path.{◌≡◌}
 use mathlib.Core.Bool.{true}
-use native.Mathlib.Omega.{arith}
-use borrow.Author.Rules.{rules}
-use borrow.Author.Tests.{not-true, not-false}
 use Rattle.roundtrip.specs.Mask.{few_below}
-use Rattle.roundtrip.proofs.Masks.{few-none, few-next, few-not}
 use Rattle.roundtrip.proofs.mask.blocks_allowed.Given as goal
 
 abbrev pub invariant-loop-block : goal.invariant-loop-block

@@ -1,9 +1,9 @@
-use Prim.Native.Nat.{◌-◌, ◌≤◌}
+use Prim.Native.Nat.{◌-◌}
 use mathlib.Core.Path.{◌≡◌}
 use native.Mathlib.Omega.{arith}
 use lib.ListN.{length}
 use borrow.Author.Rules.{rules}
-use Rattle.roundtrip.proofs.Masks.{Flipped, flipped-start, flipped-next, flipped-end}
+use Rattle.roundtrip.proofs.Masks.{flipped-start, flipped-next, flipped-end}
 use Rattle.roundtrip.proofs.mask.flip_by.Goals as goal
 
 pub loop-i-init : goal.loop-i-init

@@ -1,9 +1,7 @@
 use Prim.Native.Nat.{◌-◌, ◌≤◌}
 use mathlib.Core.Path.{◌≡◌}
-use native.Mathlib.Omega.{arith}
 use lib.ListN.{length}
-use borrow.Author.Rules.{rules}
-use Rattle.roundtrip.proofs.Masks.{Flipped, flipped-start, flipped-next, flipped-end}
+use Rattle.roundtrip.proofs.Masks.{Flipped}
 use Rattle.roundtrip.proofs.mask.flip_by.Given as goal
 
 abbrev pub invariant-loop-i : goal.invariant-loop-i

@@ -1,4 +1,3 @@
-use borrow.Author.Rules.{rules}
 use borrow.Author.Tests.{ne_eqb, eq-eqb}
 use Rattle.roundtrip.specs.Mask.{allowed}
 use Rattle.roundtrip.proofs.mask.mask_allowed.Goals as goal

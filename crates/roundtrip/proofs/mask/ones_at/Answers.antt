@@ -1,10 +1,6 @@
-use Prim.Native.Nat.{◌-◌, ◌≤◌}
+use Prim.Native.Nat.{◌-◌}
 use mathlib.Core.Path.{◌≡◌}
 use native.Mathlib.Omega.{arith}
-use borrow.Author.Rules.{rules}
-use Rattle.bits.specs.Bits.{run}
-use Rattle.mark.specs.Mark.{stream_bit}
-use Rattle.code.specs.Word.{ones}
 use Rattle.roundtrip.proofs.Masks.{bit-low, ones_none, ones-next}
 use Rattle.roundtrip.proofs.mask.ones_at.Goals as goal
 

@@ -1,4 +1,3 @@
-use borrow.Author.Rules.{rules}
 use Rattle.page_take.specs.Answers.{take_number}
 use Rattle.roundtrip.proofs.Trips.{back-refused, back-taken}
 use Rattle.roundtrip.proofs.round.read_back.Goals as goal

@@ -1,8 +1,6 @@
 use mathlib.Core.Path.{sym, ◌∙◌}
-use borrow.Author.Tests.{not-true, not-false}
 use Rattle.layout_plan.specs.Record.{words_of}
 use Rattle.roundtrip.proofs.Trips.{trip-unwritten, trip-written, trip-masked, trip-sizes, trip-done, trip-refused}
-use borrow.Author.Rules.{rules}
 use Rattle.roundtrip.proofs.round.round_in.Goals as goal
 
 pub returns-then-written-ne0 : goal.returns-then-written-ne0

@@ -1,7 +1,6 @@
 use mathlib.Core.Path.{sym, ◌∙◌}
 use Rattle.roundtrip.specs.Round.{round_for, round_of}
 use Rattle.page_theory.proofs.Accepted.{words-accepts}
-use borrow.Author.Rules.{rules}
 use Rattle.roundtrip.proofs.round.round_trip.Goals as goal
 
 pub round_in-requires : goal.round_in-requires

@@ -1,7 +1,6 @@
 use Rattle.page_theory.proofs.Demand1.{write-ends}
 use Rattle.page_write.specs.Answers.{write_number}
 use Rattle.roundtrip.proofs.Trips.{write-told}
-use borrow.Author.Rules.{rules}
 use Rattle.roundtrip.proofs.round.write.Goals as goal
 
 pub returns-in-Done : goal.returns-in-Done

@@ -1,6 +1,5 @@
 use mathlib.Core.Path.{sym, ◌∙◌}
 use native.Mathlib.Omega.{arith}
-use borrow.Author.Rules.{rules}
 use Rattle.sector_pages.proofs.Planned.{sectors-sound}
 use Rattle.sector_pages.proofs.pages.look_page.Goals as goal
 

@@ -1,5 +1,4 @@
 use mathlib.Core.Path.{◌∙◌}
-use borrow.Author.Rules.{rules}
 use Rattle.sector_pages.proofs.places.locate_bit.Goals as goal
 
 pub returns : goal.returns
