@@ -104,17 +104,16 @@ enum rudderfig_reply_number {
 /*
  * Bytes of stack that a call takes at most on any of the four processors, its return address included. `make lib` and `make boards` compare them with
  * the code.
- * Most of it are the decoder's tables, which are filled only where a block is damaged or erased. On x86-64 taking an undamaged page takes about 73,000
- * bytes; looking at one about 111,000 and judging an undamaged block about 76,000, since the compiler makes room for the tables on entry.
+ * Most of it are the decoder's tables, which are filled only where a block is damaged or erased; the compiler makes room for them on entry of some calls.
  */
 #define RUDDERFIG_STACK_CHECK_LAYOUT 256
 #define RUDDERFIG_STACK_LOCATE_BIT 512
 #define RUDDERFIG_STACK_BIT_POSITION 256
 #define RUDDERFIG_STACK_WRITE_PAGE 45056
-#define RUDDERFIG_STACK_LOOK_PAGE 126976
-#define RUDDERFIG_STACK_TAKE_PAGE 159744
+#define RUDDERFIG_STACK_LOOK_PAGE 200704
+#define RUDDERFIG_STACK_TAKE_PAGE 163840
 #define RUDDERFIG_STACK_JUDGE_BLOCK 114688
-#define RUDDERFIG_STACK_LOCATE_ERRORS 86016
+#define RUDDERFIG_STACK_LOCATE_ERRORS 90112
 #define RUDDERFIG_STACK_CHECK_CLAIM 45056
 #define RUDDERFIG_STACK_EXPORT_FRAGMENTS 1024
 #define RUDDERFIG_STACK_IMPORT_FRAGMENTS 1024
@@ -126,7 +125,7 @@ enum rudderfig_reply_number {
 #define RUDDERFIG_STACK_EXPLAIN_BIT 512
 
 /* The largest of them. */
-#define RUDDERFIG_STACK RUDDERFIG_STACK_TAKE_PAGE
+#define RUDDERFIG_STACK RUDDERFIG_STACK_LOOK_PAGE
 
 static inline unsigned rudderfig_reply(uint64_t answer) { return RUDDERFIG_CAST(unsigned, answer & 0xFF); }
 static inline unsigned rudderfig_block(uint64_t answer) { return RUDDERFIG_CAST(unsigned, answer >> 8 & 0xFFFF); }
