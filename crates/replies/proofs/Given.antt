@@ -17,10 +17,9 @@ use Prim.Native.Nat.{ℕ, ◌*◌, ◌≤◌, ◌<◌}
 use native.Mathlib.Omega.{arith}
 use lib.Dec.{eqb}
 use borrow.Author.Tests.{leb-true, ne_eqb}
+use Rattle.std.specs.Prelude.{⊤, Result, Ok, Err}
 use Rattle.replies.specs.declared.Refusal.{Refusal}
 use Rattle.replies.specs.declared.Refusal.TheVariants as refusal
-use Rattle.replies.specs.declared.Verdict.{Verdict}
-use Rattle.replies.specs.declared.Verdict.TheVariants.{Passed, Refused}
 use Rattle.replies.specs.Replies.{number, block, verdict_number, verdict_block, Rule, rule, verdict, reply, reply_block}
 use Rattle.replies.specs.Given.{None, end, next, Follows, First, Given, Exactly, turn, at_most, ascending}
 
@@ -77,7 +76,7 @@ verdict-kept : (r : Rule) (rs : List Rule) → r.applies ≡ false → verdict (
 unfolding verdict
 verdict-kept r rs e = rw e
 
-verdict-applies : (r : Rule) (rs : List Rule) → r.applies ≡ true → verdict (r ∷ rs) ≡ Refused r.why
+verdict-applies : (r : Rule) (rs : List Rule) → r.applies ≡ true → verdict (r ∷ rs) ≡ Err r.why
 unfolding verdict
 verdict-applies r rs e = rw e
 
@@ -86,44 +85,44 @@ pub append-kept : (rs ss : List Rule) → None rs → verdict (rs ++ ss) ≡ ver
 append-kept [] ss end = refl
 append-kept (r ∷ rs) ss (next e h) = verdict-kept r (rs ++ ss) e ∙ append-kept rs ss h
 
-pub none-verdict : (rules : List Rule) → None rules → verdict rules ≡ Passed
+pub none-verdict : (rules : List Rule) → None rules → verdict rules ≡ Ok _
 unfolding verdict
 none-verdict [] end = refl
 none-verdict (r ∷ rs) (next e h) = verdict-kept r rs e ∙ none-verdict rs h
 
-pub verdict-none : (rules : List Rule) → verdict rules ≡ Passed → None rules
+pub verdict-none : (rules : List Rule) → verdict rules ≡ Ok _ → None rules
 verdict-none [] e = end
 verdict-none (r ∷ rs) e = go r.applies refl (verdict-none rs)
   where
-    go : (a : Bool) → r.applies ≡ a → (verdict rs ≡ Passed → None rs) → None (r ∷ rs)
+    go : (a : Bool) → r.applies ≡ a → (verdict rs ≡ Ok _ → None rs) → None (r ∷ rs)
     go false h more = next h (more (sym (verdict-kept r rs h) ∙ e))
     go true h more = let k = verdict-applies r rs h in let z : ◌≡◌ {A = ℕ} 0 1 = cc in absurd (omega arith)
 
 module _ (why : Refusal) where
-  pub first-verdict : (rules : List Rule) → First rules why → verdict rules ≡ Refused why
+  pub first-verdict : (rules : List Rule) → First rules why → verdict rules ≡ Err why
   unfolding verdict
   first-verdict rules f = rw f.splits (append-kept f.before (rule true why ∷ f.after) f.none)
 
   applying : (r : Rule) → r.applies ≡ true → r.why ≡ why → r ≡ rule true why
   applying r a w = ap (λ (x : Bool). rule x r.why) a ∙ ap (rule true) w
 
-  pub verdict-first : (rules : List Rule) → verdict rules ≡ Refused why → First rules why
+  pub verdict-first : (rules : List Rule) → verdict rules ≡ Err why → First rules why
   unfolding verdict
   verdict-first [] e = let z : ◌≡◌ {A = ℕ} 0 1 = cc in absurd (omega arith)
   verdict-first (r ∷ rs) e = go r.applies refl (verdict-first rs)
     where
-      go : (a : Bool) → r.applies ≡ a → (verdict rs ≡ Refused why → First rs why) → First (r ∷ rs) why
+      go : (a : Bool) → r.applies ≡ a → (verdict rs ≡ Err why → First rs why) → First (r ∷ rs) why
       go false h more = let f = more (sym (verdict-kept r rs h) ∙ e) in
           record { before = r ∷ f.before; after = f.after; splits = ap (λ (l : List Rule). r ∷ l) f.splits; none = next h f.none }
       go true h more = let k = verdict-applies r rs h in
           record { before = []; after = rs; splits = ap (λ (x : Rule). x ∷ rs) (applying r h cc); none = end }
 
-pub append-refused : (rs ss : List Rule) (why : Refusal) → verdict rs ≡ Refused why → verdict (rs ++ ss) ≡ Refused why
+pub append-refused : (rs ss : List Rule) (why : Refusal) → verdict rs ≡ Err why → verdict (rs ++ ss) ≡ Err why
 unfolding verdict
 append-refused [] ss why e = let z : ◌≡◌ {A = ℕ} 0 1 = cc in absurd (omega arith)
 append-refused (r ∷ rs) ss why e = go r.applies refl (append-refused rs ss why)
   where
-    go : (a : Bool) → r.applies ≡ a → (verdict rs ≡ Refused why → verdict (rs ++ ss) ≡ Refused why) → verdict ((r ∷ rs) ++ ss) ≡ Refused why
+    go : (a : Bool) → r.applies ≡ a → (verdict rs ≡ Err why → verdict (rs ++ ss) ≡ Err why) → verdict ((r ∷ rs) ++ ss) ≡ Err why
     go false h more = verdict-kept r (rs ++ ss) h ∙ more (sym (verdict-kept r rs h) ∙ e)
     go true h more = verdict-applies r (rs ++ ss) h ∙ sym (verdict-applies r rs h) ∙ e
 
@@ -138,9 +137,9 @@ module _ (rules : List Rule) where
   unfolding reply verdict_number
   reply-none e = go (verdict rules) refl
     where
-      go : (v : Verdict) → verdict rules ≡ v → None rules
-      go Passed h = verdict-none rules h
-      go (Refused r) h = let k : number r ≡ 0 = rw h at e in absurd (omega (arith, number-positive r))
+      go : (v : Result ⊤ Refusal) → verdict rules ≡ v → None rules
+      go (Ok _) h = verdict-none rules h
+      go (Err r) h = let k : number r ≡ 0 = rw h at e in absurd (omega (arith, number-positive r))
 
   pub given-reply : (n b : ℕ) → Given rules n b → (reply rules ≡ n) × (reply_block rules ≡ b)
   unfolding reply reply_block verdict_number verdict_block
@@ -150,9 +149,9 @@ module _ (rules : List Rule) where
   unfolding reply reply_block verdict_number verdict_block
   reply-given h = go (verdict rules) refl
     where
-      go : (v : Verdict) → verdict rules ≡ v → Given rules (reply rules) (reply_block rules)
-      go Passed e = let k : 0 < 0 = rw e at h in absurd (omega arith)
-      go (Refused r) e = record { why = r; first = verdict-first r rules e; reply = rw e; beside = rw e }
+      go : (v : Result ⊤ Refusal) → verdict rules ≡ v → Given rules (reply rules) (reply_block rules)
+      go (Ok _) e = let k : 0 < 0 = rw e at h in absurd (omega arith)
+      go (Err r) e = record { why = r; first = verdict-first r rules e; reply = rw e; beside = rw e }
 
   -- A call that answers by its rules answers exactly then.
   pub exactly : {n b : ℕ} → Follows rules n b → Exactly rules n b

@@ -2,18 +2,16 @@
 --
 -- number r             the number of a refusal; 0, done, is none of them
 -- block r              the block that goes with it: 0 except in reply 9
--- verdict_number v      the reply of a verdict: 0 where all rules are kept; verdict_block v: the block beside it
+-- verdict_number v      the reply of an answer: 0 where nothing is refused; verdict_block v: the block beside it
 -- among n ns           n is one of the numbers of a list
 -- unequal a b          two numbers differ
 -- Rule                 one reply of a call: the refusal, and whether it applies
 -- verdict rules        the verdict by a list of rules in the order in which they are looked at: the first that applies decides
 -- reply rules          its number; reply_block rules: the block beside it
 -- unless ok reply rest     the same, a rule at a time: the reply, unless ok; then the rest decides
-use Rattle.std.specs.Prelude.{Bool, true, false, cond, List, [], ◌∷◌, ℕ, eqb}
+use Rattle.std.specs.Prelude.{Bool, true, false, cond, List, [], ◌∷◌, ℕ, eqb, ⊤, Result, Ok, Err}
 use Rattle.replies.specs.declared.Refusal.{Refusal}
 use Rattle.replies.specs.declared.Refusal.TheVariants as refusal
-use Rattle.replies.specs.declared.Verdict.{Verdict}
-use Rattle.replies.specs.declared.Verdict.TheVariants.{Passed, Refused}
 
 unfoldable pub number : Refusal → ℕ
 number refusal.LevelTooHigh = 1
@@ -41,13 +39,13 @@ block (refusal.Uncorrectable b) = b
 block refusal.ClaimWrong = 0
 block refusal.MarkOutside = 0
 
-unfoldable pub verdict_number : Verdict → ℕ
-verdict_number Passed = 0
-verdict_number (Refused r) = number r
+unfoldable pub verdict_number : {A : Type 0} → Result A Refusal → ℕ
+verdict_number (Ok a) = 0
+verdict_number (Err r) = number r
 
-unfoldable pub verdict_block : Verdict → ℕ
-verdict_block Passed = 0
-verdict_block (Refused r) = block r
+unfoldable pub verdict_block : {A : Type 0} → Result A Refusal → ℕ
+verdict_block (Ok a) = 0
+verdict_block (Err r) = block r
 
 -- Which replies of the table a call may give.
 unfoldable pub among : ℕ → List ℕ → Bool
@@ -66,9 +64,9 @@ pub record Rule : Type 0 where
 abbrev pub rule : Bool → Refusal → Rule
 rule applies why = record { applies = applies; why = why }
 
-unfoldable pub verdict : List Rule → Verdict
-verdict [] = Passed
-verdict (r ∷ rs) = cond r.applies (Refused r.why) (verdict rs)
+unfoldable pub verdict : List Rule → Result ⊤ Refusal
+verdict [] = Ok _
+verdict (r ∷ rs) = cond r.applies (Err r.why) (verdict rs)
 
 unfoldable pub reply : List Rule → ℕ
 reply rules = verdict_number (verdict rules)

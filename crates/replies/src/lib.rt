@@ -43,13 +43,6 @@ pub enum Refusal {
     MarkOutside,
 }
 
-// What looking at the rules of a call finds: all are kept, or the first that is broken.
-#[derive(Drop)]
-pub enum Verdict {
-    Passed,
-    Refused(Refusal),
-}
-
 // The number of a refusal in the table.
 pub fn refusal_number(refusal: Refusal) -> u8
     ensures { result ≡ number refusal }
