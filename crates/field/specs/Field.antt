@@ -10,12 +10,10 @@
 -- a^ f n                           the power n of a, the class of x
 -- Elem m v r                       r is the element v
 -- Usable m P                       what the code asks of m and P
-use Rattle.std.specs.Prelude.{◌≡◌, ℕ, zero, suc, ◌*◌, ◌/◌, ◌%◌, ◌^◌, ◌<◌}
+use Rattle.std.specs.Prelude.{◌≡◌, ℕ, zero, suc, ◌*◌, ◌/◌, ◌%◌, ◌^◌, ◌<◌, Option, Some, None}
 use Rattle.std.specs.Int.Bits.{bit_xor}
 use Rattle.field.specs.declared.Field.{Field}
 use Rattle.field.specs.declared.Field.TheVariants.{Thirteen, Fourteen}
-use Rattle.field.specs.declared.Choice.{Choice}
-use Rattle.field.specs.declared.Choice.TheVariants.{Offered, Unknown}
 
 -- m: the field has 2^m elements
 unfoldable pub degree : Field → ℕ
@@ -33,10 +31,10 @@ longest Thirteen = 8191
 longest Fourteen = 16383
 
 -- A choice by number: 0 is m = 13, 1 is m = 14, no other is offered (document 01, "Layout words" and "Remainder").
-unfoldable pub chosen : ℕ → Choice
-chosen zero = Offered Thirteen
-chosen (suc zero) = Offered Fourteen
-chosen (suc (suc number)) = Unknown
+unfoldable pub chosen : ℕ → Option Field
+chosen zero = Some Thirteen
+chosen (suc zero) = Some Fourteen
+chosen (suc (suc number)) = None
 
 module _ (m P : ℕ) where
   -- the element u times the class of x: twice u, less P where the term x^m came up

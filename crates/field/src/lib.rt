@@ -45,25 +45,16 @@ pub enum Field {
     Fourteen,
 }
 
-// The answer to a choice by number.
-#[derive(Clone, Copy)]
-pub enum Choice {
-    Offered(Field),
-    Unknown,
-}
-
 impl Field {
     // The field that a choice by number names: 0 or 1, no other is offered.
-    pub fn choose(number: u64) -> Choice
+    pub fn choose(number: u64) -> Option<Field>
         ensures { result ≡ chosen number }
     {
-        if number == 0 {
-            return Choice::Offered(Field::Thirteen);
+        match number {
+            0 => Some(Field::Thirteen),
+            1 => Some(Field::Fourteen),
+            _ => None,
         }
-        if number == 1 {
-            return Choice::Offered(Field::Fourteen);
-        }
-        Choice::Unknown
     }
 
     // m: an element has m bits.
