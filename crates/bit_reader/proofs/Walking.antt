@@ -10,8 +10,7 @@ use lib.Dec.{ltb}
 use borrow.Author.Tests.{ltb-true, ltb-false, lt-ltb, le-ltb}
 use Rattle.bits.specs.Bits.{bit_at, run, digit}
 use Rattle.bits.proofs.Pages.{bit_of-digit, bit_of-past}
-use Rattle.bit_reader.specs.declared.Step.{Step}
-use Rattle.bit_reader.specs.declared.Step.TheVariants.{Bit, End}
+use Rattle.std.specs.Prelude.{Option, Some, None}
 use Rattle.bit_reader.specs.Reading.{greatest, end_of, step_at, bit_in, before, walk}
 
 module _ (page : List ℕ) where
@@ -41,12 +40,12 @@ module _ (page : List ℕ) where
   pub end_of-before : (p : ℕ) → length page ≤ p / 8 → end_of page ≤ p
   end_of-before p h = end_of-cases (λ e. e ≤ p) (λ l. omega arith) (λ l. omega arith)
 
-  -- inside the page a read gives the bit and the position after it, from its end on the end
-  pub step_at-inside : (p : ℕ) → p < end_of page → step_at page p ≡ Bit (bit_at page p) (p + 1)
+  -- inside the page a read gives the bit and the position after it, from its end on `None`
+  pub step_at-inside : (p : ℕ) → p < end_of page → step_at page p ≡ Some (bit_at page p, p + 1)
   unfolding step_at
   step_at-inside p h = simp (lt-ltb _ _ h)
 
-  pub step_at-end : (p : ℕ) → end_of page ≤ p → step_at page p ≡ End
+  pub step_at-end : (p : ℕ) → end_of page ≤ p → step_at page p ≡ None
   unfolding step_at
   step_at-end p h = simp (le-ltb _ _ h)
 
@@ -63,7 +62,7 @@ module _ (page : List ℕ) where
       go false e = ap bit_in (step_at-end p (ltb-false _ _ e)) ∙ ap digit (sym (bit_of-past page p (past (ltb-false _ _ e)))) ∙ bit_of-digit page p
 
   -- so the bit that a caller gets by `next_bit` and `bit_or_zero` is the bit of the page
-  pub bit_in-read : (p : ℕ) {step : Step} {b : ℕ} → step ≡ step_at page p → b ≡ bit_in step → p + 1 < 18446744073709551616 → b ≡ bit_at page p
+  pub bit_in-read : (p : ℕ) {step : Option (ℕ × ℕ)} {b : ℕ} → step ≡ step_at page p → b ≡ bit_in step → p + 1 < 18446744073709551616 → b ≡ bit_at page p
   unfolding greatest
   bit_in-read p e h k = h ∙ ap bit_in e ∙ bit_in-step_at p (omega arith)
 

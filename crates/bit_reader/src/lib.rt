@@ -1,8 +1,9 @@
 // A page read bit by bit from any position (document 01, "Bits and polynomials").
 //
-// A reader holds a reference to a page and a position. It gives the bit at its position with the position after it, or the end. A reader
-// goes by value; moved to the position after a bit it gives the next one. Document 01 asks for this form ("Where each form goes"): a walk
-// takes `new`, `next`, `position` and `moved`, also where the library itself has no use for one of them.
+// A reader holds a reference to a page and a position. It gives the bit at its position with the position after it,
+// or `None` at the end. A reader goes by value; moved to the position after a bit it gives the next one. Document 01
+// asks for this form ("Where each form goes"): a walk takes `new`, `next`, `position` and `moved`, also where the
+// library itself has no use for one of them.
 //
 //   steps       step_at, bit_or_zero: the work, on a page and a position
 //   BitReader   new, position, moved: made, asked where it stands, moved; next: taken apart for the function on its page and position
@@ -18,13 +19,6 @@ ghost use Rattle.bit_reader.specs.Reading.{step_at};
 use crate::steps::step_at;
 
 pub mod steps;
-
-// What a read gives: a bit with the position after it, or the end.
-#[derive(Clone, Copy)]
-pub enum Step {
-    Bit(u8, usize),
-    End,
-}
 
 // A page, and the position of the bit that is read next.
 #[derive(Clone, Copy)]
@@ -48,8 +42,10 @@ impl<'a> BitReader<'a> {
         self.position
     }
 
-    // The next bit with the position after it, or the end.
-    pub fn next(self) -> Step
+    // The next bit with the position after it, or `None` at the end.
+    // By hand: no `Iterator`. `next` goes by value and answers the position too: its contract, and clauses on `step_at`,
+    // say so.
+    pub fn next(self) -> Option<(u8, usize)>
         ensures { result ≡ step_at self.entry.page.now self.entry.position }
     {
         step_at(self.page, self.position)
@@ -66,8 +62,8 @@ impl<'a> BitReader<'a> {
     }
 }
 
-// The bit at a position with the position after it, or the end, by way of a reader.
-pub fn next_bit(page: &[u8], position: usize) -> Step
+// The bit at a position with the position after it, or `None` at the end, by way of a reader.
+pub fn next_bit(page: &[u8], position: usize) -> Option<(u8, usize)>
     ensures { result ≡ step_at page.now position }
 {
     BitReader::new(page, position).next()

@@ -1,10 +1,8 @@
 // Reading on a page and a position.
-ghost use Rattle.std.specs.Prelude.{◌≡◌, ◌+◌, ◌<◌};
+ghost use Rattle.std.specs.Prelude.{◌≡◌, ◌+◌, ◌<◌, Some};
 ghost use Rattle.bits.specs.Bits.{bit_at};
-ghost use Rattle.bit_reader.specs.declared.Step.TheVariants.{Bit};
 ghost use Rattle.bit_reader.specs.Reading.{step_at, bit_in};
 
-use crate::Step;
 use bits::read::bit_at;
 
 // The greatest position.
@@ -19,34 +17,34 @@ fn position_after(p: usize) -> usize
 }
 
 // The bit at position p, with the position after it.
-fn bit_before(page: &[u8], p: usize, after: usize) -> Step
-    ensures { result ≡ Bit (bit_at page.now p) after }
+fn bit_before(page: &[u8], p: usize, after: usize) -> Option<(u8, usize)>
+    ensures { result ≡ Some (bit_at page.now p, after) }
 {
     let b = bit_at(page, p);
-    Step::Bit(b, after)
+    Some((b, after))
 }
 
-// The bit at position p with the position after it, or the end.
-pub fn step_at(page: &[u8], p: usize) -> Step
+// The bit at position p with the position after it, or `None` at the end.
+pub fn step_at(page: &[u8], p: usize) -> Option<(u8, usize)>
     ensures { result ≡ step_at page.now p }
 {
     if p == GREATEST {
-        return Step::End;
+        return None;
     }
     let after = position_after(p);
     if p / 8 < page.len() {
         bit_before(page, p, after)
     } else {
-        Step::End
+        None
     }
 }
 
 // The bit that a read gave, 0 at the end.
-pub fn bit_or_zero(step: Step) -> u8
+pub fn bit_or_zero(step: Option<(u8, usize)>) -> u8
     ensures { result ≡ bit_in step }
 {
     match step {
-        Step::Bit(b, _) => b,
-        Step::End => 0,
+        Some((b, _)) => b,
+        None => 0,
     }
 }

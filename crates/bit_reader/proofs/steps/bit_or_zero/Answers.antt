@@ -2,10 +2,10 @@ use mathlib.Core.Path.{sym, ap}
 use Rattle.bit_reader.specs.Reading.{bit_in}
 use Rattle.bit_reader.proofs.steps.bit_or_zero.Goals as goal
 
-pub returns-in-Bit : goal.returns-in-Bit
+pub returns-in-Some : goal.returns-in-Some
 unfolding bit_in
-returns-in-Bit c = ap bit_in (sym c.in-Bit.is)
+returns-in-Some c = ap bit_in (sym c.in-Some.is)
 
-pub returns-in-End : goal.returns-in-End
+pub returns-in-None : goal.returns-in-None
 unfolding bit_in
-returns-in-End c = ap bit_in (sym c.in-End.is)
+returns-in-None c = ap bit_in (sym c.in-None.is)

@@ -1,7 +1,7 @@
 use mathlib.Core.Path.{ap, sym, ◌∙◌}
 use native.Mathlib.Omega.{arith}
 use Rattle.bits.specs.Bits.{bit_at}
-use Rattle.bit_reader.specs.declared.Step.TheVariants.{Bit}
+use Rattle.std.specs.Prelude.{ℕ, Some}
 use Rattle.bit_reader.specs.Reading.{greatest}
 use Rattle.bit_reader.proofs.Walking.{end_of-greatest, end_of-after, end_of-before, step_at-inside, step_at-end}
 use Rattle.bit_reader.proofs.steps.step_at.Goals as goal
@@ -14,7 +14,7 @@ pub returns-then-p-page : goal.returns-then-p-page
 unfolding greatest
 returns-then-p-page c = let a = c.args in
     let p = a.p in
-    c.bit_before.ensures ∙ ap (Bit (bit_at a.page.now p)) c.position_after-after.ensures
+    c.bit_before.ensures ∙ ap (λ (q : ℕ). Some (bit_at a.page.now p, q)) c.position_after-after.ensures
     ∙ sym (step_at-inside _ p (end_of-after _ p c.if-p-page.true (omega arith)))
 
 pub returns-else-p-page : goal.returns-else-p-page
