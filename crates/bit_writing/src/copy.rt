@@ -24,10 +24,8 @@ fn copy_aligned(from: &[u8], at: usize, to: &mut [u8], position: usize, count: u
 {
     let first = byte_of(at);
     let start = byte_of(position);
-    let mut i = 0;
-    while i < count {
+    for i in 0..count {
         to[start + i] = from[first + i];
-        i += 1;
     }
 }
 
@@ -38,10 +36,8 @@ fn copy_shifted(from: &[u8], at: usize, to: &mut [u8], position: usize, count: u
 {
     let first = byte_of(at);
     let start = byte_of(position);
-    let mut i = 0;
-    while i < count {
+    for i in 0..count {
         to[start + i] = joined(from[first + i], from[first + i + 1], at % 8);
-        i += 1;
     }
 }
 

@@ -29,10 +29,8 @@ fn fill_bytes(page: &mut [u8], position: usize, count: usize)
     ensures { page.new ≡ placed page.old position (ones (8 * count)) }
 {
     let start = byte_of(position);
-    let mut i = 0;
-    while i < count {
+    for i in 0..count {
         page[start + i] = 255;
-        i += 1;
     }
 }
 

@@ -1,11 +1,8 @@
 use mathlib.Core.Path.{◌≡◌}
-use Prim.Native.Nat.{◌-◌, ◌*◌, ◌≤◌}
+use Prim.Native.Nat.{◌*◌}
 use lib.ListN.{length}
 use Rattle.bits.specs.Bits.{bit_of, run, placed}
 use Rattle.bit_writing.proofs.copy.copy_aligned.Given as goal
 
 abbrev pub invariant-loop-i : goal.invariant-loop-i
-invariant-loop-i l = (l.i ≤ l.count) × (length l.to ≡ length l.initial.to) × (l.to ≡ placed l.initial.to l.position (run (bit_of l.from) l.at (8 * l.i)))
-
-abbrev pub decreases-loop-i : goal.decreases-loop-i
-decreases-loop-i l = l.count - l.i
+invariant-loop-i l = (length l.to ≡ length l.initial.to) × (l.to ≡ placed l.initial.to l.position (run (bit_of l.from) l.at (8 * l.i)))

@@ -8,7 +8,7 @@ use Rattle.bits.proofs.Steps.{byte-joined}
 use Rattle.bit_writing.proofs.copy.copy_shifted.Goals as goal
 
 pub loop-i-init : goal.loop-i-init
-loop-i-init c = (omega arith, refl, placed-none _ _ _ _ _ (record { count = refl; small = λ j. (c.slice_known-1.given j).fits }) (omega arith))
+loop-i-init c = (refl, placed-none _ _ _ _ _ (record { count = refl; small = λ j. (c.slice_known-1.given j).fits }) (omega arith))
 
 pub loop-i-preserved : goal.loop-i-preserved
 loop-i-preserved c = let i = c.loop-i.i in
@@ -16,13 +16,12 @@ loop-i-preserved c = let i = c.loop-i.i in
     let first = c.byte_of-first.result in
     let h : c.byte_of-first.result ≡ c.args.at / 8 = c.byte_of-first.ensures in
     let g : c.byte_of-start.result ≡ c.args.position / 8 = c.byte_of-start.ensures in (
-      omega arith,
       search rules,
-      byte_next _ _ _ _ _ _ c.loop-i.invariant.2
+      byte_next _ _ _ _ _ _ c.loop-i.invariant.1
           (byte-joined _ (first + i) _ _ c.joined.ensures (omega arith) (omega arith) refl refl (k (first + i)).fits (k (first + i + 1)).fits)
           (omega arith) (omega arith),
     )
 
 pub returns : goal.returns
 returns c = let e : c.loop-i.i ≡ c.args.count = omega arith in
-    rw (← e) c.loop-i.invariant.2
+    rw (← e) c.loop-i.invariant.1

@@ -9,12 +9,12 @@ use Rattle.bits.proofs.Placed.{placed-none}
 use Rattle.bit_writing.proofs.fill.fill_bytes.Goals as goal
 
 pub loop-i-init : goal.loop-i-init
-loop-i-init c = (omega arith, refl, placed-none _ _ _ _ _ (record { count = refl; small = λ j. (c.slice_known-1.given j).fits }) (omega arith))
+loop-i-init c = (refl, placed-none _ _ _ _ _ (record { count = refl; small = λ j. (c.slice_known-1.given j).fits }) (omega arith))
 
 pub loop-i-preserved : goal.loop-i-preserved
 loop-i-preserved c = let g : c.byte_of-start.result ≡ c.args.position / 8 = c.byte_of-start.ensures in
-    (omega arith, search rules, byte_next _ _ _ _ _ _ c.loop-i.invariant.2 (ones-byte _) (omega arith) (omega arith))
+    (search rules, byte_next _ _ _ _ _ _ c.loop-i.invariant.1 (ones-byte _) (omega arith) (omega arith))
 
 pub returns : goal.returns
 returns c = let e : c.loop-i.i ≡ c.args.count = omega arith in
-    rw (← e) (c.loop-i.invariant.2 ∙ ap (placed _ _) (ones-run _ _))
+    rw (← e) (c.loop-i.invariant.1 ∙ ap (placed _ _) (ones-run _ _))
