@@ -1,4 +1,6 @@
 -- What an accepted layout keeps, that it makes a valid plan, and that the numbers kept with it are document 01's sums.
+use Rattle.std.specs.Prelude.{⊤, Result, Ok, Err}
+use Rattle.layout.specs.declared.Reason.{Reason}
 use mathlib.Core.Path.{◌≡◌, refl, sym, ap, ◌∙◌}
 use mathlib.Core.Bool.{Bool, true, false, cond}
 use mathlib.Core.Logic.{⊎_elim}
@@ -16,9 +18,6 @@ use Rattle.layout_plan.specs.declared.Fields.{Fields}
 use Rattle.layout_plan.specs.declared.Layout.{Layout}
 use Rattle.layout_plan.specs.declared.Shape.{Shape}
 use Rattle.layout_plan.specs.declared.Plan.{Plan}
-use Rattle.layout.specs.declared.Finding.{Finding}
-use Rattle.layout.specs.declared.Finding.TheVariants.{Kept, Broken}
-use Rattle.layout.specs.declared.Acceptance.TheVariants as answer
 use Rattle.layout.specs.declared.Refusal.TheVariants as refusal
 use Rattle.layout_plan.specs.Record.{Words, fields_in, layout_of, record_length}
 use Rattle.layout_plan.specs.Plan.{shape_with, shape_of, later_shape, data_bytes, plan_for, layout_for, plan_of, Sums, shape, bits, field, level, covered, start, used, room, from, payload, Summed, Valid}
@@ -41,7 +40,7 @@ pub record Keeps (f : Fields) (q : Plan) : Type 0 where
 not-less : (a b : ℕ) → (a < b → ⊥) → b ≤ a
 not-less a b h = let k = lt_of_not-le {n = suc a} {m = b} h in omega arith
 
-pub keeps : (f : Fields) (q : Plan) → finding_of f q ≡ Kept → Keeps f q
+pub keeps : (f : Fields) (q : Plan) → finding_of f q ≡ Ok _ → Keeps f q
 keeps f q e =
     let free = kept_free f q e in
     let inside = not-less _ _ (λ x. free _ (mark-outside x)) in
@@ -157,7 +156,7 @@ module _ (f : Fields) (k : Keeps f (plan_for f)) where
   }
 
 -- A layout that keeps the rules makes a valid plan.
-pub plan-valid : (f : Fields) → finding_of f (plan_for f) ≡ Kept → Valid (plan_for f)
+pub plan-valid : (f : Fields) → finding_of f (plan_for f) ≡ Ok _ → Valid (plan_for f)
 plan-valid f e = keeps-valid f (keeps f (plan_for f) e)
 
 -- ---- accepted records
@@ -167,29 +166,29 @@ pub record Taken (w : Words) (l : Layout) : Type 0 where
   pub edition : offered w.edition ≡ true
   pub right : record_length (length w.bytes) ≡ true
   pub layout : l ≡ layout_of w
-  pub kept : finding_of (fields_in w) (plan_of l) ≡ Kept
+  pub kept : finding_of (fields_in w) (plan_of l) ≡ Ok _
 
-pub accepted-taken : (w : Words) (l : Layout) → acceptance w ≡ answer.Accepted l → Taken w l
+pub accepted-taken : (w : Words) (l : Layout) → acceptance w ≡ Ok l → Taken w l
 unfolding acceptance judged
 accepted-taken w l h = go (offered w.edition) (record_length (length w.bytes)) (finding_of (fields_in w) (plan_of (layout_of w))) refl refl refl h
   where
-    go : (o t : Bool) (f : Finding) → offered w.edition ≡ o → record_length (length w.bytes) ≡ t
+    go : (o t : Bool) (f : Result ⊤ Reason) → offered w.edition ≡ o → record_length (length w.bytes) ≡ t
         → finding_of (fields_in w) (plan_of (layout_of w)) ≡ f
-        → cond o (cond t (judged (layout_of w) f) (answer.Refused refusal.RecordLength)) (answer.Refused refusal.Edition) ≡ answer.Accepted l
+        → cond o (cond t (judged (layout_of w) f) (Err refusal.RecordLength)) (Err refusal.Edition) ≡ Ok l
         → Taken w l
-    go true true Kept o e k x = let y : l ≡ layout_of w = cc x in record { edition = o; right = e; layout = y; kept = rw y k }
-    go true true (Broken r) o e k x = let z : ◌≡◌ {A = ℕ} 0 1 = cc x in absurd (omega arith)
+    go true true (Ok _) o e k x = let y : l ≡ layout_of w = cc x in record { edition = o; right = e; layout = y; kept = rw y k }
+    go true true (Err r) o e k x = let z : ◌≡◌ {A = ℕ} 0 1 = cc x in absurd (omega arith)
     go true false f o e k x = let z : ◌≡◌ {A = ℕ} 0 1 = cc x in absurd (omega arith)
     go false t f o e k x = let z : ◌≡◌ {A = ℕ} 0 1 = cc x in absurd (omega arith)
 
 -- The layout of an accepted record makes a valid plan, and what is kept with it are the sums of the record's fields.
-module _ (w : Words) (l : Layout) (h : acceptance w ≡ answer.Accepted l) where
+module _ (w : Words) (l : Layout) (h : acceptance w ≡ Ok l) where
   -- the plan that is kept is that of the record's fields
   pub accepted-plan : plan_of l ≡ plan_for (fields_in w)
   unfolding layout_of layout_for plan_of
   accepted-plan = rw (accepted-taken w l h).layout
 
-  pub accepted-kept : finding_of (fields_in w) (plan_for (fields_in w)) ≡ Kept
+  pub accepted-kept : finding_of (fields_in w) (plan_for (fields_in w)) ≡ Ok _
   accepted-kept = ap (finding_of (fields_in w)) (sym accepted-plan) ∙ (accepted-taken w l h).kept
 
   pub accepted-valid : Valid (plan_of l)

@@ -9,6 +9,7 @@ use native.Mathlib.Decide.{dec_lt}
 use native.Mathlib.Nat.{eq-zero-or-pos, le_of_eq}
 use lib.Dec.{eqb, ltb}
 use borrow.Author.Tests.{ltb-true, lt-ltb, le-ltb, eq-eqb, ne_eqb}
+use Rattle.std.specs.Prelude.{⊤, Result, Ok, Err}
 use Rattle.field.specs.Field.{longest}
 use Rattle.replies.specs.Replies.{number}
 use Rattle.replies.specs.Given.{turn}
@@ -21,8 +22,6 @@ use Rattle.layout.specs.declared.Rule.TheVariants.{Level, Message, Length, Outsi
 use Rattle.layout.specs.declared.Kind.{Kind}
 use Rattle.layout.specs.declared.Kind.TheVariants.{First, Later, Page}
 use Rattle.layout.specs.declared.Reason.{Reason}
-use Rattle.layout.specs.declared.Finding.{Finding}
-use Rattle.layout.specs.declared.Finding.TheVariants.{Kept, Broken}
 use Rattle.layout_plan.specs.Plan.{used, room}
 use Rattle.layout.specs.Acceptance.{test, level_rule, message_rule, length_rule, mark_rule, room_rule, either, of_blocks, finding_of, rule_refusal, rule_number}
 
@@ -75,12 +74,12 @@ kind-small Later = omega arith
 kind-small Page = omega arith
 
 -- f is the first of the reasons P
-pub data Least (P : Reason → Type 0) : Finding → Type 0 where
-  none : ((r : Reason) → P r → ⊥) → Least P Kept
-  some : {r : Reason} → P r → ((s : Reason) → P s → (s ≡ r) ⊎ (rank r < rank s)) → Least P (Broken r)
+pub data Least (P : Reason → Type 0) : Result ⊤ Reason → Type 0 where
+  none : ((r : Reason) → P r → ⊥) → Least P (Ok _)
+  some : {r : Reason} → P r → ((s : Reason) → P s → (s ≡ r) ⊎ (rank r < rank s)) → Least P (Err r)
 
 -- the same, where all reasons P have ranks from lo on and below hi
-record Decides (lo hi : ℕ) (P : Reason → Type 0) (f : Finding) : Type 0 where
+record Decides (lo hi : ℕ) (P : Reason → Type 0) (f : Result ⊤ Reason) : Type 0 where
   low : (r : Reason) → P r → lo ≤ rank r
   high : (r : Reason) → P r → rank r < hi
   least : Least P f
@@ -119,25 +118,25 @@ decide-two b c r s {n} {B} {N} {C} e e' to from no-to no-from to' from' = record
         ⊎_elim (λ (y : B × (x ≡ r)). true≢false (sym (from y.0) ∙ p)) (λ (y : N × (C × (x ≡ s))). true≢false (sym (from' y.1.0) ∙ q)) h)
 
 module _ {a b c d : ℕ} {P Q : Reason → Type 0} (order : a ≤ b) (order' : b ≤ c) (order'' : c ≤ d) where
-  either-least : {f g : Finding} → ((r s : Reason) → P r → Q s → rank r < rank s) → Least P f → Least Q g →
+  either-least : {f g : Result ⊤ Reason} → ((r s : Reason) → P r → Q s → rank r < rank s) → Least P f → Least Q g →
       Least (λ r. P r ⊎ Q r) (either f g)
   unfolding either
   either-least o (none p) (none q) = none (λ r h. ⊎_elim (p r) (q r) h)
   either-least o (none p) (some h q) = some (inr h) (λ s x. ⊎_elim (λ (y : P s). absurd (p s y)) (q s) x)
   either-least o (some {r} h p) q = some (inl h) (λ s x. ⊎_elim (p s) (λ (y : Q s). inr (o r s h y)) x)
 
-  decide-either : {f g : Finding} → Decides a b P f → Decides c d Q g → Decides a d (λ r. P r ⊎ Q r) (either f g)
+  decide-either : {f g : Result ⊤ Reason} → Decides a b P f → Decides c d Q g → Decides a d (λ r. P r ⊎ Q r) (either f g)
   decide-either p q = record {
     low = λ r h. ⊎_elim (λ (x : P r). p.low r x) (λ (y : Q r). omega (arith, q.low r y)) h;
     high = λ r h. ⊎_elim (λ (x : P r). omega (arith, p.high r x)) (λ (y : Q r). q.high r y) h;
     least = either-least (λ r s x y. omega (arith, p.high r x, q.low s y)) p.least q.least;
   }
 
-least-map : {P Q : Reason → Type 0} {f : Finding} → ((r : Reason) → P r → Q r) → ((r : Reason) → Q r → P r) → Least P f → Least Q f
+least-map : {P Q : Reason → Type 0} {f : Result ⊤ Reason} → ((r : Reason) → P r → Q r) → ((r : Reason) → Q r → P r) → Least P f → Least Q f
 least-map to from (none p) = none (λ r h. p r (from r h))
 least-map to from (some h p) = some (to _ h) (λ s x. p s (from s x))
 
-decide-map : {a b : ℕ} {P Q : Reason → Type 0} {f : Finding} → ((r : Reason) → P r → Q r) → ((r : Reason) → Q r → P r) →
+decide-map : {a b : ℕ} {P Q : Reason → Type 0} {f : Result ⊤ Reason} → ((r : Reason) → P r → Q r) → ((r : Reason) → Q r → P r) →
     Decides a b P f → Decides a b Q f
 decide-map to from d = record {
   low = λ r h. d.low r (from r h);
@@ -145,7 +144,7 @@ decide-map to from d = record {
   least = least-map to from d.least;
 }
 
-decide-blocks : {a b c : ℕ} {P Q : Reason → Type 0} {f g : Finding} (n : ℕ) → a ≤ b → b ≤ c → Decides a b P f → Decides b c Q g →
+decide-blocks : {a b c : ℕ} {P Q : Reason → Type 0} {f g : Result ⊤ Reason} (n : ℕ) → a ≤ b → b ≤ c → Decides a b P f → Decides b c Q g →
     Decides a c (λ r. P r ⊎ ((0 < n) × Q r)) (of_blocks n f g)
 unfolding of_blocks
 decide-blocks {P = P} {Q = Q} n x y p q =
@@ -274,55 +273,52 @@ module _ (f : Fields) (q : Plan) where
   unfolding All
   finding-least = least-map all-breaks breaks-all decide-finding.least
 
-broken-injective : {r s : Reason} → Broken r ≡ Broken s → r ≡ s
-broken-injective e = cc
-
 -- A finding that is the first of the reasons P is given by them.
 module _ {P : Reason → Type 0} where
-  pub least-broken : {f : Finding} {r : Reason} → Least P f → f ≡ Broken r → P r
+  pub least-broken : {f : Result ⊤ Reason} {r : Reason} → Least P f → f ≡ Err r → P r
   least-broken (none p) e = let z : ◌≡◌ {A = ℕ} 0 1 = cc e in absurd (omega arith)
-  least-broken (some h p) e = rw (sym (broken-injective e)) h
+  least-broken {r = r} (some {r = t} h p) e = let z : t ≡ r = cc in rw (sym z) h
 
-  pub least_first : {f : Finding} {r : Reason} → Least P f → f ≡ Broken r → (s : Reason) → P s → rank r ≤ rank s
+  pub least_first : {f : Result ⊤ Reason} {r : Reason} → Least P f → f ≡ Err r → (s : Reason) → P s → rank r ≤ rank s
   least_first (none p) e s k = absurd (p s k)
   least_first {r = r} (some {r = t} h p) e s k =
-      let z : t ≡ r = broken-injective e in
+      let z : t ≡ r = cc in
       ⊎_elim
       (λ (x : s ≡ t). le_of_eq (ap rank (sym z ∙ sym x)))
       (λ (x : rank t < rank s). let y = ap rank z in omega arith)
       (p s k)
 
-  pub least_kept : {f : Finding} → Least P f → f ≡ Kept → (r : Reason) → P r → ⊥
+  pub least_kept : {f : Result ⊤ Reason} → Least P f → f ≡ Ok _ → (r : Reason) → P r → ⊥
   least_kept (none p) e r k = p r k
   least_kept (some h p) e r k = let z : ◌≡◌ {A = ℕ} 0 1 = cc e in omega arith
 
-  pub kept-least : {f : Finding} → Least P f → ((r : Reason) → P r → ⊥) → f ≡ Kept
+  pub kept-least : {f : Result ⊤ Reason} → Least P f → ((r : Reason) → P r → ⊥) → f ≡ Ok _
   kept-least (none p) h = refl
   kept-least (some k p) h = absurd (h _ k)
 
-  pub broken-least : {f : Finding} {r : Reason} → Least P f → P r → ((s : Reason) → P s → rank r ≤ rank s) → f ≡ Broken r
+  pub broken-least : {f : Result ⊤ Reason} {r : Reason} → Least P f → P r → ((s : Reason) → P s → rank r ≤ rank s) → f ≡ Err r
   broken-least (none p) k h = absurd (p _ k)
   broken-least {r = r} (some {r = s} x p) k h =
-      ⊎_elim (λ (e : r ≡ s). ap Broken (sym e)) (λ (o : rank s < rank r). absurd (omega (arith, h s x))) (p r k)
+      ⊎_elim (λ (e : r ≡ s). ap Err (sym e)) (λ (o : rank s < rank r). absurd (omega (arith, h s x))) (p r k)
 
 -- A reason is given exactly if it holds and none before it does; a layout is kept exactly if no reason holds.
 module _ (f : Fields) (q : Plan) where
-  pub reason-true : (r : Reason) → finding_of f q ≡ Broken r → Breaks f q r
+  pub reason-true : (r : Reason) → finding_of f q ≡ Err r → Breaks f q r
   reason-true r e = least-broken (finding-least f q) e
 
-  pub reason-first : (r s : Reason) → finding_of f q ≡ Broken r → Breaks f q s → rank r ≤ rank s
+  pub reason-first : (r s : Reason) → finding_of f q ≡ Err r → Breaks f q s → rank r ≤ rank s
   reason-first r s e h = least_first (finding-least f q) e s h
 
-  pub reason-given : (r : Reason) → Breaks f q r → ((s : Reason) → Breaks f q s → rank r ≤ rank s) → finding_of f q ≡ Broken r
+  pub reason-given : (r : Reason) → Breaks f q r → ((s : Reason) → Breaks f q s → rank r ≤ rank s) → finding_of f q ≡ Err r
   reason-given r h first = broken-least (finding-least f q) h first
 
-  pub kept_free : finding_of f q ≡ Kept → (r : Reason) → Breaks f q r → ⊥
+  pub kept_free : finding_of f q ≡ Ok _ → (r : Reason) → Breaks f q r → ⊥
   kept_free e = least_kept (finding-least f q) e
 
-  pub free-kept : ((r : Reason) → Breaks f q r → ⊥) → finding_of f q ≡ Kept
+  pub free-kept : ((r : Reason) → Breaks f q r → ⊥) → finding_of f q ≡ Ok _
   free-kept h = kept-least (finding-least f q) h
 
   -- so the first turn wins, which is the smallest reply but that 11 comes after 3 (replies/Given `turn`)
-  pub reply-smallest : (r s : Reason) → finding_of f q ≡ Broken r → Breaks f q s → turn (rule_number r.rule) ≤ turn (rule_number s.rule)
+  pub reply-smallest : (r s : Reason) → finding_of f q ≡ Err r → Breaks f q s → turn (rule_number r.rule) ≤ turn (rule_number s.rule)
   unfolding rank
   reply-smallest r s e h = let o = reason-first r s e h in omega (arith, kind-small r.kind, kind-small s.kind)

@@ -9,7 +9,7 @@
 -- acceptance words        the answer to a layout record and the edition beside it
 -- rule_refusal, refusal_of  what a broken rule and a refusal are in document 01's table (replies/Replies)
 -- rule_number, refusal_reply   its number there
-use Rattle.std.specs.Prelude.{ℕ, ◌+◌, Bool, false, cond, length, eqb, ltb}
+use Rattle.std.specs.Prelude.{ℕ, ◌+◌, Bool, false, cond, length, eqb, ltb, ⊤, Result, Ok, Err}
 use Rattle.field.specs.Field.{longest}
 use Rattle.replies.specs.declared.Refusal as table
 use Rattle.replies.specs.declared.Refusal.TheVariants as row
@@ -25,41 +25,37 @@ use Rattle.layout.specs.declared.Rule.TheVariants.{Level, Message, Length, Outsi
 use Rattle.layout.specs.declared.Kind.{Kind}
 use Rattle.layout.specs.declared.Kind.TheVariants.{First, Later, Page}
 use Rattle.layout.specs.declared.Reason.{Reason}
-use Rattle.layout.specs.declared.Finding.{Finding}
-use Rattle.layout.specs.declared.Finding.TheVariants.{Kept, Broken}
 use Rattle.layout.specs.declared.Refusal.{Refusal}
 use Rattle.layout.specs.declared.Refusal.TheVariants as refusal
-use Rattle.layout.specs.declared.Acceptance.{Acceptance}
-use Rattle.layout.specs.declared.Acceptance.TheVariants.{Accepted, Refused}
 use Rattle.layout_plan.specs.Record.{Words, record_length, fields_in, layout_of}
 use Rattle.layout_plan.specs.Plan.{plan_of, used, room}
 
 -- A rule that is broken gives its reason.
-unfoldable pub test : Bool → Reason → Finding
-test broken r = cond broken (Broken r) Kept
+unfoldable pub test : Bool → Reason → Result ⊤ Reason
+test broken r = cond broken (Err r) (Ok _)
 
 -- 1: a level field above the highest of the edition
-unfoldable pub level_rule : ℕ → Kind → BlockFields → Finding
+unfoldable pub level_rule : ℕ → Kind → BlockFields → Result ⊤ Reason
 level_rule e kind fields =
     test (ltb (highest e) fields.ecc) (record { rule = Level; kind = kind; found = fields.ecc; limit = highest e })
 
 -- 2: an empty message
-unfoldable pub message_rule : Kind → Shape → Finding
+unfoldable pub message_rule : Kind → Shape → Result ⊤ Reason
 message_rule kind s = test (ltb s.message 1) (record { rule = Message; kind = kind; found = s.message; limit = 1 })
 
 -- 3: a block with t > 0 longer than 2^m - 1 bits
-unfoldable pub length_rule : Kind → Shape → Finding
+unfoldable pub length_rule : Kind → Shape → Result ⊤ Reason
 length_rule kind s =
     test (cond (eqb s.level 0) false (ltb (longest s.field) s.covered))
     (record { rule = Length; kind = kind; found = s.covered; limit = longest s.field })
 
 -- The first finding decides where it is a broken rule.
-unfoldable pub either : Finding → Finding → Finding
-either Kept g = g
-either (Broken r) g = Broken r
+unfoldable pub either : Result ⊤ Reason → Result ⊤ Reason → Result ⊤ Reason
+either (Ok _) g = g
+either (Err r) g = Err r
 
 -- 11: offset plus length of the mark beyond PAGE_SIZE, or zero bits that are not zero (document 02, E7)
-unfoldable pub mark_rule : Fields → Finding
+unfoldable pub mark_rule : Fields → Result ⊤ Reason
 mark_rule f =
     either
     (test (ltb f.page (f.mark.offset + f.mark.length))
@@ -67,15 +63,15 @@ mark_rule f =
     (test (ltb 0 f.zeros) (record { rule = Outside; kind = Page; found = f.zeros; limit = 0 }))
 
 -- 4: the blocks need more than 8 times (PAGE_SIZE - length) bits
-unfoldable pub room_rule : Plan → Finding
+unfoldable pub room_rule : Plan → Result ⊤ Reason
 room_rule q = test (ltb (room q) (used q)) (record { rule = Room; kind = Page; found = used q; limit = room q })
 
 -- Where NBLOCKS is 0 the fields of later blocks are not examined.
-unfoldable pub of_blocks : ℕ → Finding → Finding → Finding
+unfoldable pub of_blocks : ℕ → Result ⊤ Reason → Result ⊤ Reason → Result ⊤ Reason
 of_blocks n f g = cond (eqb n 0) f (either f g)
 
 -- The smallest number wins, but that 11 is looked at after 3 and before 4; of two kinds of block that break one rule, block 0 is named.
-unfoldable pub finding_of : Fields → Plan → Finding
+unfoldable pub finding_of : Fields → Plan → Result ⊤ Reason
 finding_of f q =
     either (of_blocks f.nblocks (level_rule f.edition First f.first) (level_rule f.edition Later f.later))
     (either (of_blocks f.nblocks (message_rule First q.first) (message_rule Later q.later))
@@ -84,18 +80,18 @@ finding_of f q =
     (room_rule q))))
 
 -- A layout that breaks no rule is accepted.
-unfoldable pub judged : Layout → Finding → Acceptance
-judged l Kept = Accepted l
-judged l (Broken r) = Refused (refusal.Rule r)
+unfoldable pub judged : Layout → Result ⊤ Reason → Result Layout Refusal
+judged l (Ok _) = Ok l
+judged l (Err r) = Err (refusal.Rule r)
 
 -- Another edition is refused before anything is looked at, and then a record of another length.
-unfoldable pub acceptance : Words → Acceptance
+unfoldable pub acceptance : Words → Result Layout Refusal
 acceptance w =
     cond (offered w.edition)
     (cond (record_length (length w.bytes))
     (judged (layout_of w) (finding_of (fields_in w) (plan_of (layout_of w))))
-    (Refused refusal.RecordLength))
-    (Refused refusal.Edition)
+    (Err refusal.RecordLength))
+    (Err refusal.Edition)
 
 -- The replies 1 to 4 of document 01's table, and 11 of document 02, E7.
 unfoldable pub rule_refusal : Rule → table.Refusal

@@ -7,14 +7,11 @@
 -- acceptance_numbers     a layout record: nothing but the reply
 -- bit_numbers            a page bit: block and exponent, or nothing in the tail and in the mark
 -- position_numbers       a code bit: its position
-use Rattle.std.specs.Prelude.{ℕ, List, [], ◌∷◌}
+use Rattle.layout_plan.specs.declared.Layout.{Layout}
+use Rattle.std.specs.Prelude.{ℕ, List, [], ◌∷◌, Result, Ok, Err}
 use Rattle.layout.specs.declared.Refusal.{Refusal}
-use Rattle.layout.specs.declared.Acceptance.{Acceptance}
-use Rattle.layout.specs.declared.Acceptance.TheVariants as acceptance
-use Rattle.layout.specs.declared.BitAnswer.{BitAnswer}
-use Rattle.layout.specs.declared.BitAnswer.TheVariants as bit
-use Rattle.layout.specs.declared.PositionAnswer.{PositionAnswer}
-use Rattle.layout.specs.declared.PositionAnswer.TheVariants as position
+use Rattle.layout.specs.declared.BitPlace.{BitPlace}
+use Rattle.layout.specs.declared.BitPlace.TheVariants as bit
 use Rattle.layout.specs.Acceptance.{refusal_reply}
 
 pub record Numbers : Type 0 where
@@ -28,16 +25,16 @@ done values = record { reply = 0; block = 0; values = values }
 unfoldable pub refused : Refusal → Numbers
 refused r = record { reply = refusal_reply r; block = 0; values = [] }
 
-unfoldable pub acceptance_numbers : Acceptance → Numbers
-acceptance_numbers (acceptance.Accepted l) = done []
-acceptance_numbers (acceptance.Refused r) = refused r
+unfoldable pub acceptance_numbers : Result Layout Refusal → Numbers
+acceptance_numbers (Ok l) = done []
+acceptance_numbers (Err r) = refused r
 
-unfoldable pub bit_numbers : BitAnswer → Numbers
-bit_numbers (bit.InBlock b e) = done (b ∷ e ∷ [])
-bit_numbers bit.Tail = done []
-bit_numbers bit.Mark = done []
-bit_numbers (bit.Refused r) = refused r
+unfoldable pub bit_numbers : Result BitPlace Refusal → Numbers
+bit_numbers (Ok (bit.InBlock b e)) = done (b ∷ e ∷ [])
+bit_numbers (Ok bit.Tail) = done []
+bit_numbers (Ok bit.Mark) = done []
+bit_numbers (Err r) = refused r
 
-unfoldable pub position_numbers : PositionAnswer → Numbers
-position_numbers (position.Position p) = done (p ∷ [])
-position_numbers (position.Refused r) = refused r
+unfoldable pub position_numbers : Result ℕ Refusal → Numbers
+position_numbers (Ok p) = done (p ∷ [])
+position_numbers (Err r) = refused r

@@ -12,16 +12,14 @@
 -- located q p             block and exponent of a stream position, or the tail
 -- bit_in, bit_answer        the answer to a position, under a plan and for a record
 -- position_in, position_answer   the answer to block and exponent, under a plan and for a record
-use Rattle.std.specs.Prelude.{ℕ, zero, suc, ◌+◌, ◌-◌, ◌*◌, Bool, false, cond, leb, ltb}
+use Rattle.layout.specs.declared.Refusal.{Refusal}
+use Rattle.layout_plan.specs.declared.Layout.{Layout}
+use Rattle.std.specs.Prelude.{ℕ, zero, suc, ◌+◌, ◌-◌, ◌*◌, Bool, false, cond, leb, ltb, Result, Ok, Err}
 use Rattle.mark.specs.Mark.{place, marked, streamed}
 use Rattle.layout_plan.specs.declared.Plan.{Plan}
 use Rattle.layout.specs.declared.Refusal.TheVariants.{Range}
-use Rattle.layout.specs.declared.Acceptance.{Acceptance}
-use Rattle.layout.specs.declared.Acceptance.TheVariants as acceptance
-use Rattle.layout.specs.declared.BitAnswer.{BitAnswer}
-use Rattle.layout.specs.declared.BitAnswer.TheVariants as bit
-use Rattle.layout.specs.declared.PositionAnswer.{PositionAnswer}
-use Rattle.layout.specs.declared.PositionAnswer.TheVariants as position
+use Rattle.layout.specs.declared.BitPlace.{BitPlace}
+use Rattle.layout.specs.declared.BitPlace.TheVariants as bit
 use Rattle.layout_plan.specs.Plan.{plan_of, covered, start}
 use Rattle.layout_plan.specs.Record.{Words}
 use Rattle.layout.specs.Acceptance.{acceptance}
@@ -45,30 +43,30 @@ exponent_at q b p = covered q b - 1 - (p - start q b)
 unfoldable pub position_at : Plan → ℕ → ℕ → ℕ
 position_at q b e = start q b + (covered q b - 1 - e)
 
-unfoldable pub located : Plan → ℕ → BitAnswer
+unfoldable pub located : Plan → ℕ → BitPlace
 located q p = cond (ltb (block_of q p) q.blocks) (bit.InBlock (block_of q p) (exponent_at q (block_of q p) p)) bit.Tail
 
 -- a position below 8 x PAGE_SIZE
-unfoldable pub bit_in : Plan → ℕ → BitAnswer
-bit_in q p = cond (ltb p (8 * q.size)) (cond (marked q.mark p) bit.Mark (located q (streamed q.mark p))) (bit.Refused Range)
+unfoldable pub bit_in : Plan → ℕ → Result BitPlace Refusal
+bit_in q p = cond (ltb p (8 * q.size)) (Ok (cond (marked q.mark p) bit.Mark (located q (streamed q.mark p)))) (Err Range)
 
-unfoldable pub bit_for : Acceptance → ℕ → BitAnswer
-bit_for (acceptance.Accepted l) p = bit_in (plan_of l) p
-bit_for (acceptance.Refused r) p = bit.Refused r
+unfoldable pub bit_for : Result Layout Refusal → ℕ → Result BitPlace Refusal
+bit_for (Ok l) p = bit_in (plan_of l) p
+bit_for (Err r) p = Err r
 
-unfoldable pub bit_answer : Words → ℕ → BitAnswer
+unfoldable pub bit_answer : Words → ℕ → Result BitPlace Refusal
 bit_answer w p = bit_for (acceptance w) p
 
 -- a block of the page and an exponent below its length
-unfoldable pub position_in : Plan → ℕ → ℕ → PositionAnswer
+unfoldable pub position_in : Plan → ℕ → ℕ → Result ℕ Refusal
 position_in q b e =
     cond (ltb b q.blocks)
-    (cond (ltb e (covered q b)) (position.Position (place q.mark (position_at q b e))) (position.Refused Range))
-    (position.Refused Range)
+    (cond (ltb e (covered q b)) (Ok (place q.mark (position_at q b e))) (Err Range))
+    (Err Range)
 
-unfoldable pub position_for : Acceptance → ℕ → ℕ → PositionAnswer
-position_for (acceptance.Accepted l) b e = position_in (plan_of l) b e
-position_for (acceptance.Refused r) b e = position.Refused r
+unfoldable pub position_for : Result Layout Refusal → ℕ → ℕ → Result ℕ Refusal
+position_for (Ok l) b e = position_in (plan_of l) b e
+position_for (Err r) b e = Err r
 
-unfoldable pub position_answer : Words → ℕ → ℕ → PositionAnswer
+unfoldable pub position_answer : Words → ℕ → ℕ → Result ℕ Refusal
 position_answer w b e = position_for (acceptance w) b e

@@ -3,50 +3,56 @@ ghost use Rattle.std.specs.Prelude.{◌≡◌};
 ghost use Rattle.layout.specs.Acceptance.{rule_refusal, refusal_of, refusal_reply};
 ghost use Rattle.layout.specs.Answers.{acceptance_numbers};
 
-use crate::{Acceptance, Refusal, Rule};
+use crate::{Refusal, Rule};
+use layout_plan::Layout;
 use replies::refusal_number;
 
 // The case of document 01's table that a broken rule is.
-fn rule_refusal(rule: Rule) -> replies::Refusal
-    ensures { result ≡ rule_refusal rule }
-{
-    match rule {
-        Rule::Level => replies::Refusal::LevelTooHigh,
-        Rule::Message => replies::Refusal::EmptyMessage,
-        Rule::Length => replies::Refusal::BlockTooLong,
-        Rule::Outside => replies::Refusal::MarkOutside,
-        Rule::Room => replies::Refusal::PageTooSmall,
+impl From<Rule> for replies::Refusal {
+    ghost from_gives = { λ rule gives. gives ≡ rule_refusal rule };
+
+    #[tactic(auto, unfolding(crate::specs::Acceptance::rule_refusal))]
+    fn from(rule: Rule) -> replies::Refusal {
+        match rule {
+            Rule::Level => replies::Refusal::LevelTooHigh,
+            Rule::Message => replies::Refusal::EmptyMessage,
+            Rule::Length => replies::Refusal::BlockTooLong,
+            Rule::Outside => replies::Refusal::MarkOutside,
+            Rule::Room => replies::Refusal::PageTooSmall,
+        }
     }
 }
 
 // The case of document 01's table that a refusal is.
-pub fn refusal_of(refusal: Refusal) -> replies::Refusal
-    ensures { result ≡ refusal_of refusal }
-{
-    match refusal {
-        Refusal::Edition => replies::Refusal::OutOfRange,
-        Refusal::RecordLength => replies::Refusal::BufferLength,
-        Refusal::Rule(reason) => {
-            let rule = reason.rule;
-            rule_refusal(rule)
+impl From<Refusal> for replies::Refusal {
+    ghost from_gives = { λ refusal gives. gives ≡ refusal_of refusal };
+
+    #[tactic(auto, unfolding(crate::specs::Acceptance::refusal_of))]
+    fn from(refusal: Refusal) -> replies::Refusal {
+        match refusal {
+            Refusal::Edition => replies::Refusal::OutOfRange,
+            Refusal::RecordLength => replies::Refusal::BufferLength,
+            Refusal::Rule(reason) => replies::Refusal::from(reason.rule),
+            Refusal::Range => replies::Refusal::OutOfRange,
         }
-        Refusal::Range => replies::Refusal::OutOfRange,
     }
 }
 
 // The reply of a refusal.
+#[tactic(auto, unfolding(crate::specs::Acceptance::refusal_reply))]
 pub fn refusal_reply(refusal: Refusal) -> u8
     ensures { result ≡ refusal_reply refusal }
 {
-    refusal_number(refusal_of(refusal))
+    refusal_number(replies::Refusal::from(refusal))
 }
 
 // The reply of an answer to a layout record.
-pub fn acceptance_reply(answer: Acceptance) -> u8
+#[tactic(auto, unfolding(crate::specs::Answers::acceptance_numbers, crate::specs::Answers::done, crate::specs::Answers::refused))]
+pub fn acceptance_reply(answer: Result<Layout, Refusal>) -> u8
     ensures { result ≡ (acceptance_numbers answer).reply }
 {
     match answer {
-        Acceptance::Accepted(_) => 0,
-        Acceptance::Refused(refusal) => refusal_reply(refusal),
+        Ok(_) => 0,
+        Err(refusal) => refusal_reply(refusal),
     }
 }

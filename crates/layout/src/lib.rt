@@ -4,7 +4,7 @@
 //
 // check_layout takes the edition and the layout record as bytes of any length, and asks nothing of its caller. The steps:
 // 1. The crate `layout_record` takes the record apart into fields, and `layout_plan` works the sums out, which are kept with the layout.
-// 2. rules.rt looks for the first rule that the layout breaks (`Finding`), block 0 before the later blocks.
+// 2. rules.rt looks for the first rule that the layout breaks, and answers with the reason, block 0 before the later blocks.
 // 3. answers.rt gives the case of document 01's table that a refusal is, and its number.
 #![tactic(auto)]
 
@@ -14,8 +14,9 @@ pub mod rules;
 ghost use Rattle.std.specs.Prelude.{◌≡◌};
 ghost use Rattle.layout_plan.specs.Record.{words_of};
 ghost use Rattle.layout.specs.Acceptance.{acceptance};
+ghost use Rattle.layout.specs.declared.Refusal.TheVariants as refusal;
 
-pub use answers::{acceptance_reply, refusal_of, refusal_reply};
+pub use answers::{acceptance_reply, refusal_reply};
 use layout_plan::{Layout, layout_for, plan_of};
 use layout_record::{fields_in, record_length};
 use replies::offered;
@@ -47,13 +48,6 @@ pub struct Reason {
     pub limit: u64,
 }
 
-// What looking at a rule finds.
-#[derive(Clone, Copy)]
-pub enum Finding {
-    Kept,
-    Broken(Reason),
-}
-
 // Why a call answers nothing: the edition, the record's length, a broken rule, a number out of its range.
 #[derive(Clone, Copy)]
 pub enum Refusal {
@@ -63,43 +57,35 @@ pub enum Refusal {
     Range,
 }
 
-// The answer to a layout record.
-#[derive(Clone, Copy)]
-pub enum Acceptance {
-    Accepted(Layout),
-    Refused(Refusal),
+// A broken rule is why a call answers nothing.
+impl From<Reason> for Refusal {
+    ghost from_gives = { λ reason gives. gives ≡ refusal.Rule reason };
+
+    fn from(reason: Reason) -> Refusal {
+        Refusal::Rule(reason)
+    }
 }
 
-// The answer to a page bit.
+// Where a page bit belongs: block and exponent, the tail, or the mark.
 #[derive(Clone, Copy)]
-pub enum BitAnswer {
+pub enum BitPlace {
     InBlock { block: u64, exponent: u64 },
     Tail,
     Mark,
-    Refused(Refusal),
-}
-
-// The answer to a code bit.
-#[derive(Clone, Copy)]
-pub enum PositionAnswer {
-    Position(u64),
-    Refused(Refusal),
 }
 
 // Is this layout acceptable?
-pub fn check_layout(edition: u64, words: &[u8]) -> Acceptance
+pub fn check_layout(edition: u64, words: &[u8]) -> Result<Layout, Refusal>
     ensures { result ≡ acceptance (words_of edition words.now) }
 {
     if !offered(edition) {
-        return Acceptance::Refused(Refusal::Edition);
+        return Err(Refusal::Edition);
     }
     if !record_length(words.len()) {
-        return Acceptance::Refused(Refusal::RecordLength);
+        return Err(Refusal::RecordLength);
     }
     let fields = fields_in(edition, words);
     let layout = layout_for(fields);
-    match rules::finding_of(fields, plan_of(layout)) {
-        Finding::Kept => Acceptance::Accepted(layout),
-        Finding::Broken(reason) => Acceptance::Refused(Refusal::Rule(reason)),
-    }
+    rules::finding_of(fields, plan_of(layout))?;
+    Ok(layout)
 }

@@ -3,22 +3,22 @@ ghost use Rattle.std.specs.Prelude.{◌≡◌};
 ghost use Rattle.layout.specs.Acceptance.{test, of_blocks, level_rule, message_rule, length_rule, mark_rule, room_rule, finding_of};
 ghost use Rattle.layout.specs.declared.Kind.TheVariants.{First, Later};
 
-use crate::{Finding, Kind, Reason, Rule};
+use crate::{Kind, Reason, Rule};
 use layout_plan::{BlockFields, Fields, Plan, Shape, page_room};
 use replies::highest;
 
 // The finding of one rule.
-pub fn test(broken: bool, reason: Reason) -> Finding
+pub fn test(broken: bool, reason: Reason) -> Result<(), Reason>
     ensures { result ≡ test broken reason }
 {
     if broken {
-        return Finding::Broken(reason);
+        return Err(reason);
     }
-    Finding::Kept
+    Ok(())
 }
 
 // Reply 1, a level field above the highest of the edition.
-pub fn level_rule(edition: u64, kind: Kind, fields: BlockFields) -> Finding
+pub fn level_rule(edition: u64, kind: Kind, fields: BlockFields) -> Result<(), Reason>
     ensures { result ≡ level_rule edition kind fields }
 {
     let found = fields.ecc as u64;
@@ -35,7 +35,7 @@ pub fn level_rule(edition: u64, kind: Kind, fields: BlockFields) -> Finding
 }
 
 // Reply 2, an empty message.
-pub fn message_rule(kind: Kind, shape: Shape) -> Finding
+pub fn message_rule(kind: Kind, shape: Shape) -> Result<(), Reason>
     ensures { result ≡ message_rule kind shape }
 {
     let found = shape.message as u64;
@@ -51,11 +51,11 @@ pub fn message_rule(kind: Kind, shape: Shape) -> Finding
 }
 
 // Reply 3, a block with t > 0 longer than 2^m - 1 bits.
-pub fn length_rule(kind: Kind, shape: Shape) -> Finding
+pub fn length_rule(kind: Kind, shape: Shape) -> Result<(), Reason>
     ensures { result ≡ length_rule kind shape }
 {
     if shape.level == 0 {
-        return Finding::Kept;
+        return Ok(());
     }
     let field = shape.field;
     let found = shape.covered as u64;
@@ -72,7 +72,7 @@ pub fn length_rule(kind: Kind, shape: Shape) -> Finding
 }
 
 // Reply 11, a mark beyond the page, or bits after it that are not zero.
-pub fn mark_rule(fields: Fields) -> Finding
+pub fn mark_rule(fields: Fields) -> Result<(), Reason>
     ensures { result ≡ mark_rule fields }
 {
     let mark = fields.mark;
@@ -80,7 +80,7 @@ pub fn mark_rule(fields: Fields) -> Finding
     let page = fields.page as u64;
     let zeros = fields.zeros as u64;
     if page < end {
-        return Finding::Broken(Reason {
+        return Err(Reason {
             rule: Rule::Outside,
             kind: Kind::Page,
             found: end,
@@ -99,7 +99,7 @@ pub fn mark_rule(fields: Fields) -> Finding
 }
 
 // Reply 4, blocks that need more bits than the page has beside the mark.
-pub fn room_rule(plan: Plan) -> Finding
+pub fn room_rule(plan: Plan) -> Result<(), Reason>
     ensures { result ≡ room_rule plan }
 {
     let found = plan.used as u64;
@@ -116,73 +116,56 @@ pub fn room_rule(plan: Plan) -> Finding
 }
 
 // Reply 1, of block 0 and then of the later blocks, where there are some.
-fn levels(fields: Fields) -> Finding
+#[tactic(auto, unfolding(crate::specs::Acceptance::of_blocks, crate::specs::Acceptance::either))]
+fn levels(fields: Fields) -> Result<(), Reason>
     ensures { result ≡ of_blocks fields.nblocks
         (level_rule fields.edition First fields.first) (level_rule fields.edition Later fields.later) }
 {
     let fields_first = fields.first;
     let fields_later = fields.later;
     let edition = fields.edition;
-    let first = level_rule(edition, Kind::First, fields_first);
-    if let Finding::Broken(reason) = first {
-        return Finding::Broken(reason);
-    }
+    level_rule(edition, Kind::First, fields_first)?;
     if fields.nblocks == 0 {
-        return Finding::Kept;
+        return Ok(());
     }
     level_rule(edition, Kind::Later, fields_later)
 }
 
 // Reply 2, the same way.
-fn messages(nblocks: u8, first: Shape, later: Shape) -> Finding
+#[tactic(auto, unfolding(crate::specs::Acceptance::of_blocks, crate::specs::Acceptance::either))]
+fn messages(nblocks: u8, first: Shape, later: Shape) -> Result<(), Reason>
     ensures { result ≡ of_blocks nblocks (message_rule First first) (message_rule Later later) }
 {
-    let found = message_rule(Kind::First, first);
-    if let Finding::Broken(reason) = found {
-        return Finding::Broken(reason);
-    }
+    message_rule(Kind::First, first)?;
     if nblocks == 0 {
-        return Finding::Kept;
+        return Ok(());
     }
     message_rule(Kind::Later, later)
 }
 
 // Reply 3, the same way.
-fn lengths(nblocks: u8, first: Shape, later: Shape) -> Finding
+#[tactic(auto, unfolding(crate::specs::Acceptance::of_blocks, crate::specs::Acceptance::either))]
+fn lengths(nblocks: u8, first: Shape, later: Shape) -> Result<(), Reason>
     ensures { result ≡ of_blocks nblocks (length_rule First first) (length_rule Later later) }
 {
-    let found = length_rule(Kind::First, first);
-    if let Finding::Broken(reason) = found {
-        return Finding::Broken(reason);
-    }
+    length_rule(Kind::First, first)?;
     if nblocks == 0 {
-        return Finding::Kept;
+        return Ok(());
     }
     length_rule(Kind::Later, later)
 }
 
 // The first broken rule of a layout, by its fields and its plan.
-pub fn finding_of(fields: Fields, plan: Plan) -> Finding
+#[tactic(auto, unfolding(crate::specs::Acceptance::finding_of, crate::specs::Acceptance::either))]
+pub fn finding_of(fields: Fields, plan: Plan) -> Result<(), Reason>
     ensures { result ≡ finding_of fields plan }
 {
     let nblocks = fields.nblocks;
     let first = plan.first;
     let later = plan.later;
-    let level = levels(fields);
-    if let Finding::Broken(reason) = level {
-        return Finding::Broken(reason);
-    }
-    let message = messages(nblocks, first, later);
-    if let Finding::Broken(reason) = message {
-        return Finding::Broken(reason);
-    }
-    let length = lengths(nblocks, first, later);
-    if let Finding::Broken(reason) = length {
-        return Finding::Broken(reason);
-    }
-    let mark = mark_rule(fields);
-    if let Finding::Broken(reason) = mark {
-        return Finding::Broken(reason);
-    }
+    levels(fields)?;
+    messages(nblocks, first, later)?;
+    lengths(nblocks, first, later)?;
+    mark_rule(fields)?;
     room_rule(plan)
 }

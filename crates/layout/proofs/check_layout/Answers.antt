@@ -1,4 +1,5 @@
 use mathlib.Core.Path.{sym, ap, ap₂, ◌∙◌}
+use Rattle.std.proofs.lemmas.Result.{err_from_is_err_and}
 use Rattle.layout_plan.specs.Record.{layout_of}
 use Rattle.layout_plan.specs.Plan.{layout_for, plan_of}
 use Rattle.layout.specs.Acceptance.{finding_of, acceptance}
@@ -18,16 +19,17 @@ pub fields_in-fields-requires : goal.fields_in-fields-requires
 fields_in-fields-requires c = let right = sym c.record_length.ensures ∙ c.if-not-record_length.false in
     record { right = right; long = record-long _ right }
 
-pub returns-in-Kept : goal.returns-in-Kept
+pub returns-in_err-finding_of : goal.returns-in_err-finding_of
 unfolding layout_of
-returns-in-Kept c = let layout = c.layout_for-layout.ensures ∙ ap layout_for c.fields_in-fields.ensures in
+returns-in_err-finding_of c = let layout = c.layout_for-layout.ensures ∙ ap layout_for c.fields_in-fields.ensures in
+    let finding = c.finding_of.ensures ∙ ap₂ finding_of c.fields_in-fields.ensures (c.plan_of.ensures ∙ ap plan_of layout) in
+    let p = err_from_is_err_and c.from_residual.result c.from_residual.ensures.1 in
+    rw (p.1, p.2) (broken-refused _ (sym c.offered.ensures ∙ c.if-not-offered.false)
+    (sym c.record_length.ensures ∙ c.if-not-record_length.false) finding c.in_err-finding_of.was)
+
+pub returns : goal.returns
+unfolding layout_of
+returns c = let layout = c.layout_for-layout.ensures ∙ ap layout_for c.fields_in-fields.ensures in
     let finding = c.finding_of.ensures ∙ ap₂ finding_of c.fields_in-fields.ensures (c.plan_of.ensures ∙ ap plan_of layout) in
     kept-accepted _ (sym c.offered.ensures ∙ c.if-not-offered.false)
-    (sym c.record_length.ensures ∙ c.if-not-record_length.false) finding layout c.in-Kept.is
-
-pub returns-in-Broken : goal.returns-in-Broken
-unfolding layout_of
-returns-in-Broken c = let layout = c.layout_for-layout.ensures ∙ ap layout_for c.fields_in-fields.ensures in
-    let finding = c.finding_of.ensures ∙ ap₂ finding_of c.fields_in-fields.ensures (c.plan_of.ensures ∙ ap plan_of layout) in
-    broken-refused _ (sym c.offered.ensures ∙ c.if-not-offered.false)
-    (sym c.record_length.ensures ∙ c.if-not-record_length.false) finding c.in-Broken.is
+    (sym c.record_length.ensures ∙ c.if-not-record_length.false) finding layout c.in_ok-finding_of.was
