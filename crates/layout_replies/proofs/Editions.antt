@@ -5,16 +5,14 @@ use mathlib.Core.List.{List}
 use Prim.Native.Nat.{ℕ, ◌/◌, ◌≤◌, ◌<◌}
 use native.Mathlib.Omega.{arith}
 use lib.ListN.{length, get_or}
+use Rattle.std.specs.Prelude.{⊤, Result, Ok, Err}
 use Rattle.replies.specs.Replies.{number}
 use Rattle.replies.specs.Edition.{offered, highest}
 use Rattle.layout_plan.specs.declared.Fields.{Fields}
 use Rattle.layout_plan.specs.declared.Plan.{Plan}
 use Rattle.layout.specs.declared.Reason.{Reason}
-use Rattle.layout.specs.declared.Finding.{Finding}
-use Rattle.layout.specs.declared.Finding.TheVariants.{Kept, Broken}
 use Rattle.layout.specs.declared.Refusal.{Refusal}
 use Rattle.layout.specs.declared.Refusal.TheVariants as refusal
-use Rattle.layout.specs.declared.Acceptance.TheVariants.{Refused}
 use Rattle.layout_plan.specs.Record.{words_of, block_fields, fields_at, fields_under, layout_of, record_length}
 use Rattle.layout_plan.specs.Plan.{plan_of}
 use Rattle.layout.specs.Acceptance.{finding_of, judged, acceptance, rule_refusal, refusal_of, rule_number, refusal_reply}
@@ -39,15 +37,15 @@ module _ (rec : List ℕ) (small : (i : ℕ) → get_or rec i 0 < 256) where
   unfolding highest
   level-byte i = omega (arith, small i)
 
-  pub second-levels : (r : Refusal) → acceptance (words_of 2 rec) ≡ Refused r → refusal_reply r ≡ 1 → ⊥
+  pub second-levels : (r : Refusal) → acceptance (words_of 2 rec) ≡ Err r → refusal_reply r ≡ 1 → ⊥
   unfolding acceptance offered judged refusal_reply refusal_of rule_number number
   second-levels r e one = go (record_length (length rec)) (finding_of (fields_under 2 rec) (plan_of (layout_of (words_of 2 rec)))) refl e
     where
-      go : (b : Bool) (f : Finding) → finding_of (fields_under 2 rec) (plan_of (layout_of (words_of 2 rec))) ≡ f
-          → cond b (judged (layout_of (words_of 2 rec)) f) (Refused refusal.RecordLength) ≡ Refused r → ⊥
+      go : (b : Bool) (f : Result ⊤ Reason) → finding_of (fields_under 2 rec) (plan_of (layout_of (words_of 2 rec))) ≡ f
+          → cond b (judged (layout_of (words_of 2 rec)) f) (Err refusal.RecordLength) ≡ Err r → ⊥
       go false f g h = let k : r ≡ refusal.RecordLength = cc in let z : ◌≡◌ {A = ℕ} 6 1 = rw k at one in omega arith
-      go true Kept g h = let z : ◌≡◌ {A = ℕ} 0 1 = cc in omega arith
-      go true (Broken x) g h =
+      go true (Ok _) g h = let z : ◌≡◌ {A = ℕ} 0 1 = cc in omega arith
+      go true (Err x) g h =
           let k : r ≡ refusal.Rule x = cc in
           no-level (fields_under 2 rec) (plan_of (layout_of (words_of 2 rec))) (unfold fields_under fields_at block_fields in level-byte 2)
           (unfold fields_under fields_at block_fields in level-byte 6) x (reason-true _ _ x g) (rw k at one)

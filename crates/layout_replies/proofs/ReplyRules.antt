@@ -1,5 +1,7 @@
 -- Each call about a layout replies as its list of rules says, so each reply is given exactly if its rule applies and none before it does. This is said of
 -- whatever names the layout, with its list of rules; `words-ruled` and `words-ascends` give that of layout words.
+use Rattle.std.specs.Prelude.{⊤, Result, Ok, Err}
+use Rattle.layout_plan.specs.declared.Layout.{Layout}
 use mathlib.Core.Path.{◌≡◌, refl, sym, ap, ◌∙◌}
 use mathlib.Core.Bool.{Bool, true, false, cond, true≢false}
 use mathlib.Core.List.{List, [], ◌∷◌, ◌++◌}
@@ -9,45 +11,40 @@ use native.Mathlib.Decide.{dec_lt}
 use lib.ListN.{length, drop}
 use lib.Dec.{eqb, ltb, leb, eqb-suc-zero, lit≤}
 use borrow.Author.Tests.{lt-ltb, le-ltb, le-leb, lt-leb, leb-true}
+use Rattle.replies.specs.declared.Refusal as table
 use Rattle.replies.specs.declared.Refusal.TheVariants as row
 use Rattle.replies.specs.declared.Refusal.TheVariants.{PageLength, OutOfRange}
-use Rattle.replies.specs.declared.Verdict.{Verdict}
-use Rattle.replies.specs.declared.Verdict.TheVariants as verdict
 use Rattle.replies.specs.Replies as replies
 use Rattle.replies.specs.Replies.{number, block, verdict_number, verdict_block, rule, verdict, reply, reply_block}
 use Rattle.replies.specs.Edition.{offered, highest}
 use Rattle.replies.specs.Given.{None, Follows, Exactly, turn, at_most, ascending}
 use Rattle.replies.proofs.Given.{follows-done, follows_next, follows-here, none-verdict, verdict-none, append-kept, append-refused, exactly}
-use Rattle.mark.specs.Mark.{marked, streamed}
 use Rattle.layout_plan.specs.declared.Fields.{Fields}
 use Rattle.layout_plan.specs.declared.Plan.{Plan}
 use Rattle.layout.specs.declared.Reason.{Reason}
 use Rattle.layout.specs.declared.Rule.{Rule}
 use Rattle.layout.specs.declared.Rule.TheVariants.{Level, Message, Length, Outside, Room}
-use Rattle.layout.specs.declared.Finding.{Finding}
-use Rattle.layout.specs.declared.Finding.TheVariants.{Kept, Broken}
 use Rattle.layout.specs.declared.Refusal.{Refusal}
 use Rattle.layout.specs.declared.Refusal.TheVariants as refusal
-use Rattle.layout.specs.declared.Acceptance.{Acceptance}
-use Rattle.layout.specs.declared.Acceptance.TheVariants.{Refused}
 use Rattle.layout_plan.specs.Record.{Words, fields_in, layout_of, record_length}
 use Rattle.layout_plan.specs.Plan.{plan_of, covered}
 use Rattle.layout.specs.Acceptance.{test, level_rule, message_rule, length_rule, mark_rule, room_rule, either, of_blocks, finding_of, judged, acceptance, rule_refusal, refusal_of, refusal_reply}
 use Rattle.layout.specs.Answers as numbers
 use Rattle.layout.specs.Answers.{acceptance_numbers, bit_numbers, position_numbers}
-use Rattle.layout.specs.declared.BitAnswer.TheVariants as bit
-use Rattle.layout.specs.Bits.{block_of, exponent_at, located, bit_in, bit_for, position_in, position_for}
+use Rattle.layout.specs.declared.BitPlace.{BitPlace}
+use Rattle.layout.specs.declared.BitPlace.TheVariants as bit
+use Rattle.layout.specs.Bits.{bit_in, bit_for, position_in, position_for}
 use Rattle.layout_replies.specs.ReplyRules.{Ruled, accepts, refuses, Ascends, too_long, of_later, field_rules, layout_rules, bit_rules, position_rules}
 
 -- ---- findings
 
 -- What a finding is in the table.
-unfoldable pub found : Finding → Verdict
-found Kept = verdict.Passed
-found (Broken r) = verdict.Refused (rule_refusal r.rule)
+unfoldable pub found : Result ⊤ Reason → Result ⊤ table.Refusal
+found (Ok _) = Ok _
+found (Err r) = Err (rule_refusal r.rule)
 
 -- A list of rules says what was found.
-pub record Says (rules : List replies.Rule) (f : Finding) : Type 0 where
+pub record Says (rules : List replies.Rule) (f : Result ⊤ Reason) : Type 0 where
   pub same : verdict rules ≡ found f
 
 says-test : (b : Bool) (r : Reason) → Says (rule b (rule_refusal r.rule) ∷ []) (test b r)
@@ -55,10 +52,10 @@ unfolding test found verdict
 says-test true r = record { same = refl }
 says-test false r = record { same = refl }
 
-says-either : {rs ss : List replies.Rule} (f : Finding) {g : Finding} → Says rs f → Says ss g → Says (rs ++ ss) (either f g)
+says-either : {rs ss : List replies.Rule} (f : Result ⊤ Reason) {g : Result ⊤ Reason} → Says rs f → Says ss g → Says (rs ++ ss) (either f g)
 unfolding found either
-says-either {rs} {ss} Kept p q = record { same = append-kept rs ss (verdict-none rs p.same) ∙ q.same }
-says-either {rs} {ss} (Broken r) p q = record { same = append-refused rs ss (rule_refusal r.rule) p.same }
+says-either {rs} {ss} (Ok _) p q = record { same = append-kept rs ss (verdict-none rs p.same) ∙ q.same }
+says-either {rs} {ss} (Err r) p q = record { same = append-refused rs ss (rule_refusal r.rule) p.same }
 
 -- the rules of block 0 and of the later blocks
 says-blocks : (f : Fields) (a b : Bool) (r s : Reason) → r.rule ≡ s.rule
@@ -104,7 +101,7 @@ refusal-block (refusal.Rule r) = go r.rule
 refusal-block refusal.Range = refl
 
 module _ (w : Words) where
-  edition-wrong : offered w.edition ≡ false → verdict (layout_rules w) ≡ verdict.Refused row.OutOfRange
+  edition-wrong : offered w.edition ≡ false → verdict (layout_rules w) ≡ Err row.OutOfRange
   unfolding layout_rules verdict
   edition-wrong o = rw o
 
@@ -113,7 +110,7 @@ module _ (w : Words) where
     unfolding layout_rules verdict
     record-right e = rw (o, e) (says-fields (fields_in w) (plan_of (layout_of w))).same
 
-    record-wrong : record_length (length w.bytes) ≡ false → verdict (layout_rules w) ≡ verdict.Refused row.BufferLength
+    record-wrong : record_length (length w.bytes) ≡ false → verdict (layout_rules w) ≡ Err row.BufferLength
     unfolding layout_rules verdict
     record-wrong e = rw (o, e)
 
@@ -123,17 +120,17 @@ unfolding acceptance judged found refusal_of
 words-ruled w = go (offered w.edition) refl (record_length (length w.bytes)) refl (finding_of (fields_in w) (plan_of (layout_of w))) refl
   where
     go : (o : Bool) → offered w.edition ≡ o → (b : Bool) → record_length (length w.bytes) ≡ b
-        → (f : Finding) → finding_of (fields_in w) (plan_of (layout_of w)) ≡ f
-        → Ruled (layout_rules w) (plan_of (layout_of w)) (cond o (cond b (judged (layout_of w) f) (Refused refusal.RecordLength)) (Refused refusal.Edition))
-    go true o true e Kept g = accepts (layout_of w) (verdict-none _ (record-right w o e ∙ ap found g))
-    go true o true e (Broken r) g = refuses _ (refusal.Rule r) (record-right w o e ∙ ap found g)
+        → (f : Result ⊤ Reason) → finding_of (fields_in w) (plan_of (layout_of w)) ≡ f
+        → Ruled (layout_rules w) (plan_of (layout_of w)) (cond o (cond b (judged (layout_of w) f) (Err refusal.RecordLength)) (Err refusal.Edition))
+    go true o true e (Ok _) g = accepts (layout_of w) (verdict-none _ (record-right w o e ∙ ap found g))
+    go true o true e (Err r) g = refuses _ (refusal.Rule r) (record-right w o e ∙ ap found g)
     go true o false e f g = refuses _ refusal.RecordLength (record-wrong w o e)
     go false o b e f g = refuses _ refusal.Edition (edition-wrong w o)
 
 -- ---- any layout
 
 -- A refused layout is what every call with it replies, whatever its further rules are.
-pub refused-follows : (before : List replies.Rule) (r : Refusal) → verdict before ≡ verdict.Refused (refusal_of r) → (rest : List replies.Rule)
+pub refused-follows : (before : List replies.Rule) (r : Refusal) → verdict before ≡ Err (refusal_of r) → (rest : List replies.Rule)
     → Follows (before ++ rest) (refusal_reply r) 0
 unfolding refusal_reply reply reply_block verdict_number verdict_block
 refused-follows before r e rest = let k = append-refused before rest (refusal_of r) e in
@@ -147,42 +144,30 @@ accepted-follows {before} {rest} none f = let k = append-kept before rest none i
 
 -- ---- the calls
 
-pub layout-replies : {before : List replies.Rule} {q : Plan} {a : Acceptance} → Ruled before q a
+pub layout-replies : {before : List replies.Rule} {q : Plan} {a : Result Layout Refusal} → Ruled before q a
     → Follows before (acceptance_numbers a).reply (acceptance_numbers a).block
 unfolding acceptance_numbers numbers.done numbers.refused refusal_reply reply reply_block verdict_number verdict_block
 layout-replies {before} (accepts l none) = let k = none-verdict before none in record { number = rw k; beside = rw k }
 layout-replies (refuses q r e) = record { number = rw e; beside = rw e (sym (refusal-block r)) }
 
-pub layout-exactly : {before : List replies.Rule} {q : Plan} {a : Acceptance} → Ruled before q a
+pub layout-exactly : {before : List replies.Rule} {q : Plan} {a : Result Layout Refusal} → Ruled before q a
     → Exactly before (acceptance_numbers a).reply (acceptance_numbers a).block
 layout-exactly h = exactly _ (layout-replies h)
 
 -- Bits.
 
 module _ (q : Plan) where
-  located-done : (p : ℕ) → Follows [] (bit_numbers (located q p)).reply (bit_numbers (located q p)).block
-  unfolding located bit_numbers numbers.done
-  located-done p = go (ltb (block_of q p) q.blocks) (exponent_at q (block_of q p) p)
-    where
-      go : (c : Bool) (e : ℕ) → Follows [] (bit_numbers (cond c (bit.InBlock (block_of q p) e) bit.Tail)).reply (bit_numbers (cond c (bit.InBlock (block_of q p) e) bit.Tail)).block
-      go true e = follows-done
-      go false e = follows-done
-
-  -- a position of the page, in the mark or not
-  unmarked-done : (p : ℕ) → Follows [] (bit_numbers (cond (marked q.mark p) bit.Mark (located q (streamed q.mark p)))).reply
-      (bit_numbers (cond (marked q.mark p) bit.Mark (located q (streamed q.mark p)))).block
+  -- a place, whichever it is
+  place-done : (at : BitPlace) → Follows [] (bit_numbers (Ok at)).reply (bit_numbers (Ok at)).block
   unfolding bit_numbers numbers.done
-  unmarked-done p = go (marked q.mark p)
-    where
-      go : (c : Bool) → Follows [] (bit_numbers (cond c bit.Mark (located q (streamed q.mark p)))).reply
-          (bit_numbers (cond c bit.Mark (located q (streamed q.mark p)))).block
-      go true = follows-done
-      go false = located-done (streamed q.mark p)
+  place-done (bit.InBlock b e) = follows-done
+  place-done bit.Tail = follows-done
+  place-done bit.Mark = follows-done
 
   bit_in_lem : (p : ℕ) → Follows (rule (leb (8 * q.size) p) OutOfRange ∷ []) (bit_numbers (bit_in q p)).reply (bit_numbers (bit_in q p)).block
   unfolding bit_in bit_numbers numbers.refused refusal_reply refusal_of number block
   bit_in_lem p = elim (dec_lt p (8 * q.size)) [
-    | yes h ↦ rw (lt-ltb p (8 * q.size) h) (follows_next _ (lt-leb (8 * q.size) p h) (unmarked-done p))
+    | yes h ↦ rw (lt-ltb p (8 * q.size) h) (follows_next _ (lt-leb (8 * q.size) p h) (place-done _))
     | no h ↦ rw (le-ltb p (8 * q.size) (omega arith)) (follows-here _ (le-leb (8 * q.size) p (omega arith)))
   ]
 
@@ -199,23 +184,23 @@ module _ (q : Plan) where
     ]
   ]
 
-pub bit-replies : {before : List replies.Rule} {q : Plan} {a : Acceptance} → Ruled before q a → (p : ℕ)
+pub bit-replies : {before : List replies.Rule} {q : Plan} {a : Result Layout Refusal} → Ruled before q a → (p : ℕ)
     → Follows (bit_rules before q p) (bit_numbers (bit_for a p)).reply (bit_numbers (bit_for a p)).block
 unfolding bit_rules bit_for bit_numbers numbers.refused
 bit-replies (accepts l none) p = accepted-follows none (bit_in_lem (plan_of l) p)
 bit-replies {before} (refuses q r e) p = refused-follows before r e _
 
-pub bit-exactly : {before : List replies.Rule} {q : Plan} {a : Acceptance} → Ruled before q a → (p : ℕ)
+pub bit-exactly : {before : List replies.Rule} {q : Plan} {a : Result Layout Refusal} → Ruled before q a → (p : ℕ)
     → Exactly (bit_rules before q p) (bit_numbers (bit_for a p)).reply (bit_numbers (bit_for a p)).block
 bit-exactly h p = exactly (bit_rules _ _ p) (bit-replies h p)
 
-pub position-replies : {before : List replies.Rule} {q : Plan} {a : Acceptance} → Ruled before q a → (b e : ℕ)
+pub position-replies : {before : List replies.Rule} {q : Plan} {a : Result Layout Refusal} → Ruled before q a → (b e : ℕ)
     → Follows (position_rules before q b e) (position_numbers (position_for a b e)).reply (position_numbers (position_for a b e)).block
 unfolding position_rules position_for position_numbers numbers.refused
 position-replies (accepts l none) b e = accepted-follows none (position_in_lem (plan_of l) b e)
 position-replies {before} (refuses q r h) b e = refused-follows before r h _
 
-pub position-exactly : {before : List replies.Rule} {q : Plan} {a : Acceptance} → Ruled before q a → (b e : ℕ)
+pub position-exactly : {before : List replies.Rule} {q : Plan} {a : Result Layout Refusal} → Ruled before q a → (b e : ℕ)
     → Exactly (position_rules before q b e) (position_numbers (position_for a b e)).reply (position_numbers (position_for a b e)).block
 position-exactly h b e = exactly (position_rules _ _ b e) (position-replies h b e)
 

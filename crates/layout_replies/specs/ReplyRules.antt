@@ -10,12 +10,11 @@
 -- layout_rules words       7 for the edition, 6 for the record's length, then 1, 2, 3, 11 and 4, the first three about block 0 and about the later blocks
 -- bit_rules before q p     those of the layout, then 7 for a position
 -- position_rules before q b e  those of the layout, then 7 for a block and for an exponent
-use Rattle.std.specs.Prelude.{ℕ, ◌+◌, ◌*◌, ◌≤◌, ◌≡◌, List, [], ◌∷◌, ◌++◌, Bool, true, false, not, cond, length, drop, eqb, ltb, leb}
+use Rattle.std.specs.Prelude.{ℕ, ◌+◌, ◌*◌, ◌≤◌, ◌≡◌, List, [], ◌∷◌, ◌++◌, Bool, true, false, not, cond, length, drop, eqb, ltb, leb, Result, Ok, Err}
 use Rattle.field.specs.Field.{longest}
 use Rattle.replies.specs.declared.Refusal.TheVariants.{LevelTooHigh, EmptyMessage, BlockTooLong, MarkOutside, PageTooSmall, PageLength, BufferLength, OutOfRange}
 use Rattle.replies.specs.Replies as replies
 use Rattle.replies.specs.Replies.{rule, verdict}
-use Rattle.replies.specs.declared.Verdict.TheVariants as verdict
 use Rattle.replies.specs.Given.{None, ascending}
 use Rattle.replies.specs.Edition.{offered, highest}
 use Rattle.layout_plan.specs.declared.Fields.{Fields}
@@ -23,15 +22,13 @@ use Rattle.layout_plan.specs.declared.Shape.{Shape}
 use Rattle.layout_plan.specs.declared.Plan.{Plan}
 use Rattle.layout_plan.specs.declared.Layout.{Layout}
 use Rattle.layout.specs.declared.Refusal.{Refusal}
-use Rattle.layout.specs.declared.Acceptance.{Acceptance}
-use Rattle.layout.specs.declared.Acceptance.TheVariants.{Accepted, Refused}
 use Rattle.layout_plan.specs.Record.{Words, fields_in, layout_of, record_length}
 use Rattle.layout_plan.specs.Plan.{plan_of, covered, used, room}
 use Rattle.layout.specs.Acceptance.{refusal_of}
 
-pub data Ruled (before : List replies.Rule) : Plan → Acceptance → Type 0 where
-  accepts : (l : Layout) → None before → Ruled before (plan_of l) (Accepted l)
-  refuses : (q : Plan) (r : Refusal) → verdict before ≡ verdict.Refused (refusal_of r) → Ruled before q (Refused r)
+pub data Ruled (before : List replies.Rule) : Plan → Result Layout Refusal → Type 0 where
+  accepts : (l : Layout) → None before → Ruled before (plan_of l) (Ok l)
+  refuses : (q : Plan) (r : Refusal) → verdict before ≡ Err (refusal_of r) → Ruled before q (Err r)
 
 pub record Ascends (n : ℕ) (before : List replies.Rule) : Type 0 where
   pub first : n ≤ length before
