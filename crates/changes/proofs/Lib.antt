@@ -1,3 +1,2 @@
 -- The laws of what a comparison shows of a block.
 pub mod Showing
-pub mod Sign

@@ -6,6 +6,7 @@
 -- flips-ruined, flips-written, flips-erased          what is shown by a count, in its three cases
 -- flips-shown           what is shown by the count of a block is what its outcome says
 -- line-shown            the line by the counts of two pages is the line of the block
+use Rattle.std.specs.Prelude.{Some, None}
 use mathlib.Core.Path.{◌≡◌, refl, sym, ap, ◌∙◌}
 use mathlib.Core.Bool.{Bool, true, false, cond}
 use mathlib.Core.List.{List}
@@ -25,7 +26,6 @@ use Rattle.layout_plan.specs.Plan.{bits, Valid}
 use Rattle.code.specs.Outcome.{Outcome, good, erased, ruined, erased_count}
 use Rattle.code.proofs.Outcome.{repaired-judge, erased-judge}
 use Rattle.page_theory.specs.Reading.{outcome, count_of, counts}
-use Rattle.changes.specs.declared.Flips.TheVariants.{Number, Ruined}
 use Rattle.changes.specs.Lines.{shown, difference, line, flips_of, line_of}
 
 pub difference-exact : (first second : ℕ) → pos first +ℤ difference first second ≡ pos second
@@ -63,15 +63,15 @@ difference-fits (suc first) second l m = go (ltb second (suc first))
 pub bytes_fit : {first second : ℕ} → Fits w8 first → Fits w8 second → SFits w16 (to_z w16 second -ℤ to_z w16 first)
 bytes_fit {first} {second} a b = rw (as-signed first a.fits, as-signed second b.fits) (difference-fits first second a.fits b.fits)
 
-pub flips-ruined : (n : ℕ) → n ≡ 255 → Ruined ≡ flips_of n
+pub flips-ruined : (n : ℕ) → n ≡ 255 → None ≡ flips_of n
 unfolding flips_of
 flips-ruined n e = rw (eq-eqb n 255 e)
 
-pub flips-written : (n : ℕ) → n < 128 → Number n ≡ flips_of n
+pub flips-written : (n : ℕ) → n < 128 → Some n ≡ flips_of n
 unfolding flips_of
 flips-written n l = rw (ne_eqb n 255 (omega arith), lt-ltb n 128 l)
 
-pub flips-erased : (n : ℕ) → (n ≡ 255 → ⊥) → 128 ≤ n → Number (n - 128) ≡ flips_of n
+pub flips-erased : (n : ℕ) → (n ≡ 255 → ⊥) → 128 ≤ n → Some (n - 128) ≡ flips_of n
 unfolding flips_of
 flips-erased n e l = rw (ne_eqb n 255 e, le-ltb n 128 l)
 
@@ -89,7 +89,7 @@ module _ (q : Plan) (valid : Valid q) (page : List ℕ) (b : ℕ) (inside : b < 
           let r = erased-judge _ _ (bits q b) _ m z e in
           let few : z ≤ 62 = omega (arith, r.few, r.count, valid.strong b inside) in
           let back : 128 + z - 128 ≡ z = omega arith in
-          sym (flips-erased (128 + z) (λ s. omega arith) (omega arith)) ∙ ap Number back
+          sym (flips-erased (128 + z) (λ s. omega arith) (omega arith)) ∙ ap Some back
       go ruined e = sym (flips-ruined 255 refl)
 
   pub count-shown : flips_of (get_or (counts q page) b 0) ≡ shown (outcome q page b)

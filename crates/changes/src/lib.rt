@@ -11,26 +11,13 @@
 ghost use Rattle.std.specs.Prelude.{◌≡◌, true, false, nat_abs};
 ghost use Rattle.changes.specs.Lines.{flips_of, difference, change_of, line_of};
 
-// What is shown of a block of one page: its flips or, where it is erased, its zeros; no number where it is ruined.
-#[derive(Clone, Copy)]
-pub enum Flips {
-    Number(u8),
-    Ruined,
-}
-
-// The change from the first page to the second: a signed number, or none where the block is ruined in one of them.
-#[derive(Clone, Copy)]
-pub enum Change {
-    By(i16),
-    Unknown,
-}
-
-// A line of the report.
+// A line of the report: of a page the block's flips or, where it is erased, its zeros, and none where it is ruined; and the change from the first
+// page to the second, none where the block is ruined in one of them.
 #[derive(Clone, Copy)]
 pub struct BlockLine {
-    pub first: Flips,
-    pub second: Flips,
-    pub change: Change,
+    pub first: Option<u8>,
+    pub second: Option<u8>,
+    pub change: Option<i16>,
 }
 
 // Whether a count is that of a ruined block.
@@ -41,16 +28,16 @@ fn is_ruined(count: u8) -> bool
 }
 
 // What is shown of a block by its count.
-fn flips_of(count: u8) -> Flips
+fn flips_of(count: u8) -> Option<u8>
     ensures { result ≡ flips_of count }
 {
     if is_ruined(count) {
-        return Flips::Ruined;
+        return None;
     }
     if count < 128 {
-        return Flips::Number(count);
+        return Some(count);
     }
-    Flips::Number(count - 128)
+    Some(count - 128)
 }
 
 // Second minus first, which may be negative.
@@ -64,30 +51,14 @@ pub fn difference(first: u8, second: u8) -> i16
 pub fn magnitude(change: i16) -> u16
     ensures { result ≡ nat_abs change }
 {
-    if change < 0 {
-        return (-1 - change) as u16 + 1;
-    }
-    change as u16
-}
-
-// The change to a second number of flips.
-fn change_to(first: u8, second: Flips) -> Change
-    ensures { result ≡ change_of (Flips.Number first) second }
-{
-    match second {
-        Flips::Number(n) => Change::By(difference(first, n)),
-        Flips::Ruined => Change::Unknown,
-    }
+    change.unsigned_abs()
 }
 
 // The change between two pages.
-fn change_of(first: Flips, second: Flips) -> Change
+fn change_of(first: Option<u8>, second: Option<u8>) -> Option<i16>
     ensures { result ≡ change_of first second }
 {
-    match first {
-        Flips::Number(n) => change_to(n, second),
-        Flips::Ruined => Change::Unknown,
-    }
+    Some(difference(first?, second?))
 }
 
 // What the report shows of a block by its counts in the two pages, as looking writes them.

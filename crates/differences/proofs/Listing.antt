@@ -13,7 +13,7 @@ use Prim.Native.Nat.{ℕ, zero, suc, ◌+◌, ◌-◌, ◌*◌, ◌<◌, ◌≤�
 use native.Mathlib.Omega.{arith}
 use native.Mathlib.Decide.{ℕ_discrete}
 use Rattle.mark.specs.declared.Mark.{Mark}
-use Rattle.differences.specs.declared.Difference.TheVariants.{At, Alike}
+use Rattle.std.specs.Prelude.{Some, None}
 use Rattle.differences.specs.Differences.{differs, next_of, next, positions_of, positions_from, positions, followed, Ascending, none, below}
 
 module _ (k : Mark) (first second : List ℕ) where
@@ -31,11 +31,11 @@ module _ (k : Mark) (first second : List ℕ) where
   unfolding positions_of
   list-past p n e = rw e
 
-  next-end : (p : ℕ) → next_of k first second p 0 ≡ Alike
+  next-end : (p : ℕ) → next_of k first second p 0 ≡ None
   unfolding next_of
   next-end p = refl
 
-  next_here : (p n : ℕ) → differs k first second p ≡ true → next_of k first second p (suc n) ≡ At p
+  next_here : (p n : ℕ) → differs k first second p ≡ true → next_of k first second p (suc n) ≡ Some p
   unfolding next_of
   next_here p n e = rw e
 

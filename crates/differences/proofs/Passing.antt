@@ -19,7 +19,7 @@ use borrow.Author.Tests.{eq-eqb, le-leb}
 use Rattle.bits.specs.Bits.{bit, bit_at}
 use Rattle.mark.specs.declared.Mark.{Mark}
 use Rattle.mark.specs.Mark.{marked}
-use Rattle.differences.specs.declared.Difference.TheVariants.{At, Alike}
+use Rattle.std.specs.Prelude.{Some, None}
 use Rattle.differences.specs.Differences.{differs, next_of, next}
 
 pub marked-past : (k : Mark) (p : ℕ) → 8 * k.offset ≤ p → marked k p ≡ ltb p (8 * (k.offset + k.length))
@@ -75,10 +75,10 @@ module _ (k : Mark) (first second : List ℕ) where
         let e : 8 * size - p - s ≡ 8 * size - (p + s) = omega arith in
         next-past-of s (8 * size - p) p (omega arith) h ∙ ap (next_of k first second (p + s)) e
 
-    pub next_here : (p : ℕ) → p < 8 * size → differs k first second p ≡ true → next k size first second p ≡ At p
+    pub next_here : (p : ℕ) → p < 8 * size → differs k first second p ≡ true → next k size first second p ≡ Some p
     unfolding next next_of
     next_here p l e = let n : 8 * size - p ≡ suc (8 * size - suc p) = omega arith in rw (n, e)
 
-    pub next-end : (p : ℕ) → 8 * size ≤ p → next k size first second p ≡ Alike
+    pub next-end : (p : ℕ) → 8 * size ≤ p → next k size first second p ≡ None
     unfolding next next_of
     next-end p l = let n : 8 * size - p ≡ 0 = omega arith in rw n

@@ -15,13 +15,6 @@ ghost use Rattle.differences.specs.Passing.{Passed};
 use bits::read::bit_at;
 use mark::Mark;
 
-// The next position at which two pages differ, or that they are alike from there on.
-#[derive(Clone, Copy)]
-pub enum Difference {
-    At(usize),
-    Alike,
-}
-
 // Whether a page position lies in the mark.
 fn is_marked(mark: Mark, p: usize) -> bool
     ensures { result ≡ marked mark p }
@@ -50,7 +43,7 @@ fn differs_at(mark: Mark, first: &[u8], second: &[u8], p: usize) -> bool
 fn byte_of(page: &[u8], i: usize) -> u8
     ensures { result ≡ get_or page.now i 0 }
 {
-    if i < page.len() { page[i] } else { 0 }
+    page.get(i).copied().unwrap_or(0)
 }
 
 // Whether byte i is the same in both pages.
@@ -77,9 +70,9 @@ fn passed(mark: Mark, first: &[u8], second: &[u8], p: usize) -> usize
     1
 }
 
-// The first position from `from` on at which two pages of `size` bytes differ outside the mark. Of a page that is shorter the bits that it
+// The first position from `from` on at which two pages of `size` bytes differ outside the mark, if there is one. Of a page that is shorter the bits that it
 // lacks count as 0; what stands behind `size` bytes is not looked at.
-pub fn next_from(mark: Mark, size: u16, first: &[u8], second: &[u8], from: usize) -> Difference
+pub fn next_from(mark: Mark, size: u16, first: &[u8], second: &[u8], from: usize) -> Option<usize>
     ensures { result ≡ next mark size first.now second.now from }
 {
     let end = 8 * size as usize;
@@ -87,9 +80,9 @@ pub fn next_from(mark: Mark, size: u16, first: &[u8], second: &[u8], from: usize
     while p < end {
         let step = passed(mark, first, second, p);
         if step == 0 {
-            return Difference::At(p);
+            return Some(p);
         }
         p += step;
     }
-    Difference::Alike
+    None
 }
