@@ -16,7 +16,7 @@ ghost use Rattle.std.specs.Io.{ReadsAtMost};
 
 use std::env::Env;
 use std::fs::{File, Files, OpenOptions};
-use std::io::{Error, ErrorKind, Read, Stderr, Stdin, Stdout, Write};
+use std::io::{ErrorKind, Read, Stderr, Stdin, Stdout, Write};
 use std::time::Clock;
 use std::{fs, io};
 
@@ -60,13 +60,6 @@ pub enum Sink<'a> {
     File(&'a File),
 }
 
-// What came of reading: so many bytes are in the buffer, or a read failed.
-#[derive(Clone, Copy)]
-pub enum Filled {
-    Bytes(usize),
-    Failed(Error),
-}
-
 fn read_some(source: Source<'_>, buffer: &mut [u8]) -> io::Result<usize>
     ensures { ReadsAtMost result buffer.new }
 {
@@ -87,17 +80,11 @@ fn read_some(source: Source<'_>, buffer: &mut [u8]) -> io::Result<usize>
 pub fn left(turns: u64, more: bool) -> u64
     ensures { result ≤ turns - 1 }
 {
-    if !more {
-        return 0;
-    }
-    if turns == 0 {
-        return 0;
-    }
-    turns - 1
+    if more { turns.saturating_sub(1) } else { 0 }
 }
 
 // Fills the buffer from place `from` on, as far as the source goes, and says how many bytes it then holds.
-pub fn fill(source: Source<'_>, buffer: &mut [u8], from: usize) -> Filled {
+pub fn fill(source: Source<'_>, buffer: &mut [u8], from: usize) -> io::Result<usize> {
     let mut at = from;
     for _ in 0..u64::MAX {
         if buffer.len() <= at {
@@ -108,12 +95,12 @@ pub fn fill(source: Source<'_>, buffer: &mut [u8], from: usize) -> Filled {
             Ok(n) => at += n,
             Err(error) => {
                 if error.kind() != ErrorKind::Interrupted {
-                    return Filled::Failed(error);
+                    return Err(error);
                 }
             }
         }
     }
-    Filled::Bytes(at)
+    Ok(at)
 }
 
 // Writes all bytes.
