@@ -6,9 +6,7 @@
 -- readable text room        an even number of digits, and no more bytes than there is room for
 -- bytes_number text room     how many bytes a text says, where they are readable
 -- bytes_placed text out      what `out` holds afterwards
-use Rattle.std.specs.Prelude.{Bool, true, false, cond, List, ℕ, zero, suc, ◌+◌, ◌*◌, ◌/◌, ◌%◌, length, get_or, set, eqb, ltb}
-use Rattle.text.specs.declared.Number.{Number}
-use Rattle.text.specs.declared.Number.TheVariants.{Is, Bad}
+use Rattle.std.specs.Prelude.{Bool, true, false, cond, List, ℕ, zero, suc, ◌+◌, ◌*◌, ◌/◌, ◌%◌, length, get_or, set, eqb, ltb, Option, Some, None}
 use Rattle.text.specs.Numbers.{digit_of}
 
 unfoldable pub all_hex : List ℕ → ℕ → Bool
@@ -25,8 +23,8 @@ placed text out (suc n) = set (placed text out n) n (pair_of (get_or text (n + n
 unfoldable pub readable : List ℕ → ℕ → Bool
 readable text room = cond (eqb (length text % 2) 0) (cond (ltb room (length text / 2)) false (all_hex text (length text))) false
 
-unfoldable pub bytes_number : List ℕ → ℕ → Number
-bytes_number text room = cond (readable text room) (Is (length text / 2)) Bad
+unfoldable pub bytes_number : List ℕ → ℕ → Option ℕ
+bytes_number text room = cond (readable text room) (Some (length text / 2)) None
 
 unfoldable pub bytes_placed : List ℕ → List ℕ → List ℕ
 bytes_placed text out = cond (readable text (length out)) (placed text out (length text / 2)) out

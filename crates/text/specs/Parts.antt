@@ -3,7 +3,6 @@
 -- record_of v w k  the layout record of three words (document 01, "Layout words"; document 02, E7, has the third): word 0 first, most
 --                 significant byte first
 -- plus_of a b      the sum of two numbers; the first where the sum has more than 64 bits
--- larger_of a b    the larger of two numbers
 use Rattle.std.specs.Prelude.{cond, List, [], ◌∷◌, ℕ, ◌+◌, ◌/◌, ◌%◌, ◌^◌, ltb}
 
 unfoldable pub record_of : ℕ → ℕ → ℕ → List ℕ
@@ -14,6 +13,3 @@ record_of v w k =
 
 unfoldable pub plus_of : ℕ → ℕ → ℕ
 plus_of a b = cond (ltb (a + b) (2 ^ 64)) (a + b) a
-
-abbrev pub larger_of : ℕ → ℕ → ℕ
-larger_of a b = cond (ltb a b) b a

@@ -1,21 +1,9 @@
-// Buffers, and whether two hold the same.
+// Buffers.
 ghost use Rattle.std.specs.Prelude.{◌≡◌, length};
 
-// 4,096 zeros, as many as any path has bytes.
-pub fn buffer() -> [u8; 4096]
-    ensures { 4096 ≡ length result }
+// As many zeros as are wanted: 4,096, the most bytes that a path has, or 65,536, for a page or the data of one.
+pub fn buffer<const N: usize>() -> [u8; N]
+    ensures { N ≡ length result }
 {
-    [0; 4096]
-}
-
-// 65,536 zeros, for a page or the data of one.
-pub fn large_buffer() -> [u8; 65536]
-    ensures { 65536 ≡ length result }
-{
-    [0; 65536]
-}
-
-// Whether two buffers hold the same bytes.
-pub fn same(a: &[u8], b: &[u8]) -> bool {
-    a == b
+    [0; N]
 }

@@ -1,66 +1,42 @@
 // Digits to numbers.
-ghost use Rattle.std.specs.Prelude.{◌≡◌, ◌<◌, ◌≤◌};
+ghost use Rattle.std.specs.Prelude.{◌≡◌, ◌<◌, ◌≤◌, Some};
 ghost use Rattle.text.specs.Numbers.{digit_of, appended, digits_of, is_hex, without_prefix, number_of};
 
-use crate::Number;
-
 // The value of a digit, in either case of its letter; 16 where the character is none.
+#[tactic(auto, unfolding(crate::specs::Numbers::digit_of))]
 pub fn digit(c: u8) -> u8
     ensures { result ≡ digit_of c }
 {
-    if c < 48 {
-        return 16;
+    match c {
+        b'0'..=b'9' => c - b'0',
+        b'A'..=b'F' => c - b'A' + 10,
+        b'a'..=b'f' => c - b'a' + 10,
+        _ => 16,
     }
-    if c < 58 {
-        return c - 48;
-    }
-    if c < 65 {
-        return 16;
-    }
-    if c < 71 {
-        return c - 55;
-    }
-    if c < 97 {
-        return 16;
-    }
-    if c < 103 {
-        return c - 87;
-    }
-    16
 }
 
 // A number with one digit more.
-fn append(base: u64, v: u64, c: u8) -> Number
+fn append(base: u64, v: u64, c: u8) -> Option<u64>
     requires { (0 < base) × (base ≤ 16) }
-    ensures { result ≡ appended base (Number.Is v) c }
+    ensures { result ≡ appended base (Some v) c }
 {
     let d = digit(c) as u64;
     if base <= d {
-        return Number::Bad;
+        return None;
     }
-    let most = (18446744073709551615 - d) / base;
-    if most < v {
-        return Number::Bad;
-    }
-    Number::Is(v * base + d)
+    v.checked_mul(base)?.checked_add(d)
 }
 
 // The number of the digits of a text in a base.
-fn digits(base: u64, text: &[u8]) -> Number
+fn digits(base: u64, text: &[u8]) -> Option<u64>
     requires { (0 < base) × (base ≤ 16) }
     ensures { result ≡ digits_of base text.now }
 {
     let mut v = 0;
-    let mut i = 0;
-    while i < text.len() {
-        let c = text[i];
-        let Number::Is(next) = append(base, v, c) else {
-            return Number::Bad;
-        };
-        v = next;
-        i += 1;
+    for c in text {
+        v = append(base, v, *c)?;
     }
-    Number::Is(v)
+    Some(v)
 }
 
 // Whether the text starts with 0x and goes on.
@@ -87,11 +63,11 @@ pub fn without_prefix(text: &[u8]) -> &[u8]
 }
 
 // The number that a text says: decimal digits, or 0x and hexadecimal ones.
-pub fn parse_number(text: &[u8]) -> Number
+pub fn parse_number(text: &[u8]) -> Option<u64>
     ensures { result ≡ number_of text.now }
 {
-    if text.len() == 0 {
-        return Number::Bad;
+    if text.is_empty() {
+        return None;
     }
     if is_hex(text) {
         return digits(16, &text[2..]);

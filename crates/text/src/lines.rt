@@ -11,12 +11,10 @@ pub fn put(line: &mut [u8], at: usize, b: u8) -> usize {
 
 // Bytes, one after the other: the next place.
 pub fn put_all(line: &mut [u8], at: usize, bytes: &[u8]) -> usize {
-    let n = bytes.len();
-    let mut p = at;
-    let mut i = 0;
-    while i < n {
-        p = put(line, p, bytes[i]);
-        i += 1;
+    if line.len() <= at {
+        return at;
     }
-    p
+    let n = bytes.len().min(line.len() - at);
+    line[at..at + n].copy_from_slice(&bytes[..n]);
+    at + n
 }

@@ -1,23 +1,15 @@
 // Pairs of hexadecimal digits to bytes.
-ghost use Rattle.std.specs.Prelude.{◌≡◌, ◌+◌, ◌*◌, ◌<◌, ◌≤◌, length};
+ghost use Rattle.std.specs.Prelude.{◌≡◌, ◌+◌, ◌*◌, ◌<◌, ◌≤◌, length, IsTrue, ◌↔◌, All};
+ghost use Rattle.text.specs.Numbers.{digit_of};
 ghost use Rattle.text.specs.Bytes.{all_hex, pair_of, placed, bytes_number, bytes_placed};
 
-use crate::Number;
 use crate::digits::digit;
 
 // Whether every character is a hexadecimal digit.
 fn all_hex(text: &[u8]) -> bool
-    ensures { result ≡ all_hex text.now (length text.now) }
+    ensures { IsTrue result ↔ All (λ c. digit_of c < 16) text.now }
 {
-    let mut i = 0;
-    while i < text.len() {
-        let c = text[i];
-        if 15 < digit(c) {
-            return false;
-        }
-        i += 1;
-    }
-    true
+    text.iter().all(|c| digit(*c) < 16)
 }
 
 // The byte of two digits.
@@ -32,29 +24,27 @@ fn place(text: &[u8], n: usize, out: &mut [u8])
     requires { (n + n ≤ length text.now) × (n ≤ length out.old) }
     ensures { out.new ≡ placed text.now out.old n }
 {
-    let mut i = 0;
-    while i < n {
+    for i in 0..n {
         out[i] = pair(text[i + i], text[i + i + 1]);
-        i += 1;
     }
 }
 
 // Puts the bytes that the digits of the text say to the front of `out`, and says how many they are. Where it says none,
 // because a character is no digit, the digits are odd in number or the bytes too many, `out` is as it was.
-pub fn parse_bytes(text: &[u8], out: &mut [u8]) -> Number
+pub fn parse_bytes(text: &[u8], out: &mut [u8]) -> Option<u64>
     ensures value { result ≡ bytes_number text.now (length out.old) }
     ensures out_after { out.new ≡ bytes_placed text.now out.old }
 {
     let n = text.len() / 2;
     if text.len() % 2 != 0 {
-        return Number::Bad;
+        return None;
     }
     if out.len() < n {
-        return Number::Bad;
+        return None;
     }
     if !all_hex(text) {
-        return Number::Bad;
+        return None;
     }
     place(text, n, out);
-    Number::Is(n as u64)
+    Some(n as u64)
 }

@@ -3,8 +3,8 @@ use mathlib.Core.Path.{sym, ◌∙◌}
 use native.Mathlib.Omega.{arith}
 use Rattle.text.proofs.digits.parse_number.Goals as goal
 
-pub returns-then-text-eq0 : goal.returns-then-text-eq0
-returns-then-text-eq0 c = number-empty _ c.if-text-eq0.true
+pub returns-then-is_empty : goal.returns-then-is_empty
+returns-then-is_empty c = number-empty _ (sym c.if-is_empty.true ∙ c.is_empty.ensures)
 
 pub slice_bounds-digits-count : goal.slice_bounds-digits-count
 slice_bounds-digits-count c = let h = is-hex-long _ (sym c.if-is_hex.true ∙ c.is_hex.ensures) in omega arith
@@ -13,7 +13,7 @@ pub slice_bounds-digits-start : goal.slice_bounds-digits-start
 slice_bounds-digits-start c = let h = is-hex-long _ (sym c.if-is_hex.true ∙ c.is_hex.ensures) in omega arith
 
 pub returns-then-is_hex : goal.returns-then-is_hex
-returns-then-is_hex c = c.digits.ensures ∙ number-hex _ c.if-text-eq0.false (sym c.if-is_hex.true ∙ c.is_hex.ensures)
+returns-then-is_hex c = c.digits.ensures ∙ number-hex _ (sym c.if-is_empty.false ∙ c.is_empty.ensures) (sym c.if-is_hex.true ∙ c.is_hex.ensures)
 
 pub returns : goal.returns
-returns c = c.digits-2.ensures ∙ number-decimal _ c.if-text-eq0.false (sym c.if-is_hex.false ∙ c.is_hex.ensures)
+returns c = c.digits-2.ensures ∙ number-decimal _ (sym c.if-is_empty.false ∙ c.is_empty.ensures) (sym c.if-is_hex.false ∙ c.is_hex.ensures)

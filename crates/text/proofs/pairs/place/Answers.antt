@@ -7,10 +7,10 @@ use Rattle.text.proofs.pairs.place.Goals as goal
 
 pub loop-i-init : goal.loop-i-init
 unfolding placed
-loop-i-init c = (search rules, refl, refl)
+loop-i-init c = (refl, refl)
 
 pub loop-i-preserved : goal.loop-i-preserved
-loop-i-preserved c = (search rules, search rules, placed-next _ _ _ _ _ c.loop-i.invariant.2 c.pair.ensures)
+loop-i-preserved c = (search rules, placed-next _ _ _ _ _ c.loop-i.invariant.1 c.pair.ensures)
 
 pub returns : goal.returns
-returns c = let e : c.loop-i.i ≡ c.args.n = omega arith in c.loop-i.invariant.2 ∙ ap (placed c.args.text.now c.args.out.now) e
+returns c = let e : c.loop-i.i ≡ c.args.n = omega arith in c.loop-i.invariant.1 ∙ ap (placed c.args.text.now c.args.out.now) e
