@@ -40,7 +40,7 @@ pub fn log_of(logs: &[u16; 16384], x: u16) -> usize
 }
 
 // 1 + the logarithm of an element, 0 for 0.
-fn marked_log(logs: &[u16; 16384], x: u16) -> u16 {
+pub fn marked_log(logs: &[u16; 16384], x: u16) -> u16 {
     if x == 0 {
         return 0;
     }
@@ -72,11 +72,8 @@ pub fn take_logs(
     requires { (at + count ≤ length row.now) × (to + count ≤ length out.old) }
     ensures { length out.new ≡ length out.old }
 {
-    let mut j: usize = 0;
-    while j < count {
-        let x = row[at + j];
-        out[to + j] = marked_log(logs, x);
-        j += 1;
+    for (log, &x) in out[to..to + count].iter_mut().zip(&row[at..]) {
+        *log = marked_log(logs, x);
     }
 }
 
@@ -94,13 +91,8 @@ pub fn add_multiple(
     requires { (to + count ≤ length sum.old) × (at + count ≤ length row.now) × (e < 16384) }
     ensures { length sum.new ≡ length sum.old }
 {
-    let mut j: usize = 0;
-    while j < count {
-        let log = row[at + j];
-        let p = scaled_term(powers, n, log, e);
-        let old = sum[to + j];
-        sum[to + j] = old ^ p;
-        j += 1;
+    for (term, &log) in sum[to..to + count].iter_mut().zip(&row[at..]) {
+        *term ^= scaled_term(powers, n, log, e);
     }
 }
 
@@ -145,9 +137,7 @@ pub fn divide(
     requires { (at + count ≤ length a.old) × (low ≤ length divisor.now) × (lead < 16384) }
     ensures { length a.new ≡ length a.old }
 {
-    let mut i = count;
-    while low < i {
-        i -= 1;
+    for i in (low..count).rev() {
         let from = at + i - low;
         divide_step(powers, logs, n, a, from, divisor, low, lead);
     }
@@ -158,15 +148,8 @@ pub fn terms(row: &[u16], at: usize, count: usize) -> usize
     requires { at + count ≤ length row.now }
     ensures { result ≤ count }
 {
-    let mut k = count;
-    while 0 < k {
-        let last = at + k - 1;
-        if row[last] != 0 {
-            return k;
-        }
-        k -= 1;
-    }
-    0
+    let last = row[at..at + count].iter().rposition(|&x| x != 0);
+    last.map_or(0, |k| k + 1)
 }
 
 // Copies `count` terms.
@@ -174,11 +157,7 @@ pub fn copy(row: &[u16], at: usize, out: &mut [u16], to: usize, count: usize)
     requires { (at + count ≤ length row.now) × (to + count ≤ length out.old) }
     ensures { length out.new ≡ length out.old }
 {
-    let mut j: usize = 0;
-    while j < count {
-        out[to + j] = row[at + j];
-        j += 1;
-    }
+    out[to..to + count].copy_from_slice(&row[at..at + count]);
 }
 
 // Copies a monic polynomial of degree d, which stands as its d terms below the leading 1, with that.

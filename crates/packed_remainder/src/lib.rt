@@ -34,14 +34,9 @@ fn pack(row: &[u16], at: usize, count: usize, pad: usize, words: &mut [u64], bas
     requires { (at + count ≤ length row.now) × (pad + count ≤ 64) × (base ≤ 240) × (base + 16 ≤ length words.old) }
     ensures { length words.new ≡ length words.old }
 {
-    let mut j: usize = 0;
-    while j < count {
+    for j in 0..count {
         let p = pad + j;
-        let w = base + p / 4;
-        let x = shifted(row[at + j], lane(p));
-        let old = words[w];
-        words[w] = old ^ x;
-        j += 1;
+        words[base + p / 4] ^= shifted(row[at + j], lane(p));
     }
 }
 
@@ -50,12 +45,9 @@ fn unpack(words: &[u64], pad: usize, row: &mut [u16], count: usize)
     requires { (count ≤ length row.old) × (pad + count ≤ 64) × (length words.now ≡ 16) }
     ensures { length row.new ≡ length row.old }
 {
-    let mut j: usize = 0;
-    while j < count {
+    for (j, x) in row[..count].iter_mut().enumerate() {
         let p = pad + j;
-        let w = p / 4;
-        row[j] = coefficient(words[w], lane(p));
-        j += 1;
+        *x = coefficient(words[p / 4], lane(p));
     }
 }
 
@@ -83,11 +75,8 @@ fn put_times_a(rows: &mut [u64], from: usize, to: usize, used: usize, m: usize)
     ensures { length rows.new ≡ length rows.old }
 {
     let low = low_bits(m);
-    let mut i: usize = 0;
-    while i < used {
-        let w = rows[from + i];
-        rows[to + i] = times_a(w, m, low);
-        i += 1;
+    for i in 0..used {
+        rows[to + i] = times_a(rows[from + i], m, low);
     }
 }
 
@@ -96,12 +85,8 @@ fn put_sum(rows: &mut [u64], from: usize, to: usize, used: usize)
     requires { (used ≤ 16) × (from ≤ 240) × (to ≤ 240) × (length rows.old ≡ 256) }
     ensures { length rows.new ≡ length rows.old }
 {
-    let mut i: usize = 0;
-    while i < used {
-        let x = rows[from + i];
-        let y = rows[16 + i];
-        rows[to + i] = x ^ y;
-        i += 1;
+    for i in 0..used {
+        rows[to + i] = rows[from + i] ^ rows[16 + i];
     }
 }
 
@@ -120,10 +105,8 @@ fn fill(rows: &mut [u64], used: usize, m: usize)
     requires { (9 ≤ m) × (m ≤ 16) × (used ≤ 16) × (length rows.old ≡ 256) }
     ensures { length rows.new ≡ length rows.old }
 {
-    let mut v: usize = 1;
-    while v < 8 {
+    for v in 1..8 {
         put_two(rows, v, used, m);
-        v += 1;
     }
 }
 
@@ -144,10 +127,8 @@ fn put_unit(before: &[u64; 256], rows: &mut [u64], used: usize, m: usize)
     ensures { length rows.new ≡ length rows.old }
 {
     let low = low_bits(m);
-    let mut i: usize = 0;
-    while i < used {
-        rows[16 + i] = times_a(before[128 + i], m, low);
-        i += 1;
+    for (word, &w) in rows[16..16 + used].iter_mut().zip(&before[128..]) {
+        *word = times_a(w, m, low);
     }
 }
 
@@ -190,14 +171,12 @@ fn step(
     let r2 = digit_row(top, 8);
     let r3 = digit_row(top, 12);
     let mut carry = brought;
-    let mut i: usize = 0;
-    while i < used {
+    for i in 0..used {
         let w = register[i];
         let low = rows0[r0 + i] ^ rows1[r1 + i];
         let high = rows2[r2 + i] ^ rows3[r3 + i];
         register[i] = (w << 16) ^ carry ^ low ^ high;
         carry = w >> 48;
-        i += 1;
     }
 }
 
@@ -222,12 +201,18 @@ pub fn reduce(
     let pad = 4 * used - d;
     let by = lane(pad);
     let mut register = [0u64; 16];
-    let mut i = count - d;
-    pack(row, i, d, pad, &mut register, 0);
-    while 0 < i {
-        i -= 1;
-        let x = shifted(row[i], by);
-        step(rows0, rows1, rows2, rows3, &mut register, used, x);
+    let above = count - d;
+    pack(row, above, d, pad, &mut register, 0);
+    for &x in row[..above].iter().rev() {
+        step(
+            rows0,
+            rows1,
+            rows2,
+            rows3,
+            &mut register,
+            used,
+            shifted(x, by),
+        );
     }
     unpack(&register, pad, row, d);
 }
