@@ -189,10 +189,7 @@ fn split(
     let found = common(powers, logs, n, &mut pair, g + 1, rest);
     let side = found.side;
     let h = found.terms - 1;
-    if h == 0 {
-        return g;
-    }
-    if g <= h {
+    if h == 0 || g <= h {
         return g;
     }
     put_split(powers, logs, n, &pair, side, h, factors, at, g);
@@ -205,13 +202,7 @@ pub fn fitted(degree: u16, room: usize) -> usize
     ensures { (0 < result) × (result ≤ room) }
 {
     let g = degree as usize;
-    if g == 0 {
-        return room;
-    }
-    if room < g {
-        return room;
-    }
-    g
+    if g == 0 { room } else { g.min(room) }
 }
 
 // Notes the degrees of the two parts of a factor of degree g, of which the first has degree h; none where it is whole.
@@ -226,10 +217,6 @@ fn note(degrees: &mut [u16], at: usize, h: usize, g: usize)
     let rest = g - h;
     degrees[next] = rest as u16;
     degrees[at] = h as u16;
-}
-
-fn larger(x: usize, y: usize) -> usize {
-    if x < y { y } else { x }
 }
 
 // Splits each factor by a trace modulo f, whose degree is d. The largest degree that is left.
@@ -247,12 +234,12 @@ pub fn split_all(
 {
     let mut largest: usize = 0;
     let mut at: usize = 0;
+    // By hand: (d) no loop by an index: its step is the degree of a factor, read on the way.
     while at < d {
         let g = fitted(degrees[at], d - at);
         let h = split(powers, logs, n, trace, d, factors, at, g);
         note(degrees, at, h, g);
-        largest = larger(largest, h);
-        largest = larger(largest, g - h);
+        largest = largest.max(h).max(g - h);
         at += g;
     }
     largest
