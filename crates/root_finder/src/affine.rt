@@ -6,7 +6,7 @@
 // A row of the system is a word: what the linear terms make of an element in its upper 16 bits, and the element in its lower ones.
 ghost use Rattle.std.specs.Prelude.{◌≡◌, ◌<◌, ◌≤◌, length};
 
-use coefficient_rows::{inverse, log_of, scaled_term, wrapped};
+use coefficient_rows::{inverse, log_of, marked_log, scaled_term, wrapped};
 
 // x^4 + a x^2 + b x + c. A root y of it stands for y + shift, or for 1 / y + shift.
 #[derive(Clone, Copy)]
@@ -20,10 +20,7 @@ struct Affine {
 
 // The product of two elements.
 fn times(powers: &[u16; 16384], logs: &[u16; 16384], n: usize, x: u16, y: u16) -> u16 {
-    if x == 0 {
-        return 0;
-    }
-    if y == 0 {
+    if x == 0 || y == 0 {
         return 0;
     }
     let e = wrapped(n, log_of(logs, x) + log_of(logs, y));
@@ -99,71 +96,48 @@ fn of_quartic(
     }
 }
 
-// 1 + the logarithm of an element, 0 for 0.
-fn marked(logs: &[u16; 16384], x: u16) -> u16 {
-    if x == 0 {
-        return 0;
-    }
-    let l = log_of(logs, x);
-    (l + 1) as u16
-}
-
-fn wide(x: u16) -> u32 {
-    x as u32
-}
-
 // A row of the system: its upper and its lower half.
 fn row_of(image: u16, element: u16) -> u32 {
-    (wide(image) << 16) ^ wide(element)
+    (u32::from(image) << 16) ^ u32::from(element)
 }
 
 // Rows 0 to m - 1 for the powers of a, and c in row 15.
 fn system(powers: &[u16; 16384], logs: &[u16; 16384], n: usize, m: usize, p: Affine) -> [u32; 16]
     requires { m ≤ 15 }
 {
-    let a = marked(logs, p.a);
-    let b = marked(logs, p.b);
+    let a = marked_log(logs, p.a);
+    let b = marked_log(logs, p.b);
     let mut rows = [0u32; 16];
-    let mut i: usize = 0;
-    while i < m {
-        let double = i + i;
-        let fourth = double + double;
-        let second = scaled_term(powers, n, a, double);
+    for i in 0..m {
+        let second = scaled_term(powers, n, a, 2 * i);
         let first = scaled_term(powers, n, b, i);
-        rows[i] = row_of(powers[fourth] ^ second ^ first, powers[i]);
-        i += 1;
+        rows[i] = row_of(powers[4 * i] ^ second ^ first, powers[i]);
     }
     rows[15] = row_of(p.c, 0);
     rows
 }
 
 // Adds a row to each that has the given bit.
-fn add_where(rows: &mut [u32], row: u32, bit: u32)
+fn add_where(rows: &mut [u32; 16], row: u32, bit: u32)
     requires { length rows.old ≡ 16 }
     ensures { length rows.new ≡ length rows.old }
 {
-    let mut j: usize = 0;
-    while j < 16 {
-        let x = rows[j];
-        let part = if x & bit == 0 { 0 } else { row };
-        rows[j] = x ^ part;
-        j += 1;
+    for x in rows {
+        *x ^= if *x & bit == 0 { 0 } else { row };
     }
 }
 
 // Solves the system: of each of the first m rows the lowest bit of its upper half, where there is one, is cleared in all rows. The row
 // itself becomes zero; a row with no such bit has an element that the linear terms make 0.
-fn eliminate(rows: &mut [u32], m: usize)
+fn eliminate(rows: &mut [u32; 16], m: usize)
     requires { (m ≤ 15) × (length rows.old ≡ 16) }
     ensures { length rows.new ≡ length rows.old }
 {
-    let mut k: usize = 0;
-    while k < m {
+    for k in 0..m {
         let row = rows[k];
         let image = row & 0xffff0000;
-        let bit = image & std::num::wrapping_sub_u32(0, image);
+        let bit = image & image.wrapping_neg();
         add_where(rows, row, bit);
-        k += 1;
     }
 }
 
@@ -177,14 +151,12 @@ fn solutions(rows: &[u32; 16], m: usize) -> [u16; 4]
 {
     let mut first: u16 = 0;
     let mut second: u16 = 0;
-    let mut k: usize = 0;
-    while k < m {
-        let x = lower(rows[k]);
+    for &row in &rows[..m] {
+        let x = lower(row);
         if x != 0 {
             second = first;
             first = x;
         }
-        k += 1;
     }
     let last = lower(rows[15]);
     [last, last ^ first, last ^ second, last ^ first ^ second]
@@ -236,10 +208,8 @@ pub fn affine_roots(
     let mut rows = system(powers, logs, n, m, p);
     eliminate(&mut rows, m);
     let mut roots = solutions(&rows, m);
-    let mut k: usize = 0;
-    while k < 4 {
-        roots[k] = stands_for(powers, logs, n, p, roots[k]);
-        k += 1;
+    for root in &mut roots {
+        *root = stands_for(powers, logs, n, p, *root);
     }
     roots
 }

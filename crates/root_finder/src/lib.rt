@@ -29,10 +29,8 @@ fn reversed(c: &[u16; 128], len: usize) -> [u16; 64]
     requires { len ≤ 62 }
 {
     let mut row = [0u16; 64];
-    let mut j: usize = 0;
-    while j < len {
-        row[j] = c[len - j];
-        j += 1;
+    for (term, &x) in row.iter_mut().zip(c[1..len + 1].iter().rev()) {
+        *term = x;
     }
     row
 }
@@ -65,14 +63,12 @@ fn split_fully(
     if !conjugates(powers, logs, n, m, factors, d, &mut rows) {
         return false;
     }
-    let mut i: usize = 0;
-    while i < m {
+    for i in 0..m {
         let mut t = [0u16; 64];
         trace(powers, n, m, i, &rows, d, &mut t);
         if split_all(powers, logs, n, &t, d, factors, degrees) < 5 {
             return true;
         }
-        i += 1;
     }
     false
 }
@@ -82,15 +78,13 @@ fn insert(places: &mut [u16], count: usize, p: u16)
     requires { (count < 64) × (length places.old ≡ 64) }
     ensures { length places.new ≡ length places.old }
 {
-    let mut k = count;
-    while 0 < k {
-        let before = places[k - 1];
+    for k in (0..count).rev() {
+        let before = places[k];
         if p < before {
-            places[k] = p;
+            places[k + 1] = p;
             return;
         }
-        places[k] = before;
-        k -= 1;
+        places[k + 1] = before;
     }
     places[0] = p;
 }
@@ -122,11 +116,8 @@ fn put_affine_roots(
     let n = f.longest() as usize;
     let m = degree_of(f);
     let roots = affine_roots(powers, logs, n, m, factors, at, g);
-    let mut k: usize = 0;
-    while k < 4 {
-        let z = roots[3 - k];
+    for (k, &z) in roots.iter().rev().enumerate() {
         put_root(logs, at, g, k, z, places);
-        k += 1;
     }
 }
 
@@ -170,6 +161,7 @@ fn read_off(
 {
     let mut places = [0u16; 64];
     let mut at: usize = 0;
+    // By hand: (d) no loop by an index: its step is the degree of a factor, read on the way.
     while at < d {
         let g = fitted(degrees[at], d - at);
         put_roots(f, powers, logs, factors, at, g, &mut places);
@@ -188,19 +180,14 @@ pub fn find_roots(
     len: usize,
 ) -> [u16; 64] {
     let nothing = [0u16; 64];
-    if len == 0 {
-        return nothing;
-    }
-    if 62 < len {
+    if len == 0 || 62 < len {
         return nothing;
     }
     let mut factors = reversed(c, len);
     let mut degrees = [0u16; 64];
     degrees[0] = len as u16;
-    if 4 < len {
-        if !split_fully(f, powers, logs, len, &mut factors, &mut degrees) {
-            return nothing;
-        }
+    if 4 < len && !split_fully(f, powers, logs, len, &mut factors, &mut degrees) {
+        return nothing;
     }
     read_off(f, powers, logs, &factors, &degrees, len)
 }

@@ -61,12 +61,9 @@ fn half_of(f: Field, v: u16, j: u16) -> u16 {
 fn half(f: Field, v: u16) -> u16 {
     let mut y: u16 = 0;
     let mut left = v;
-    let mut j: u16 = 0;
-    while j < 14 {
-        let part = half_of(f, left, j);
-        y = y ^ part;
-        left = left / 2;
-        j += 1;
+    for j in 0..14 {
+        y ^= half_of(f, left, j);
+        left /= 2;
     }
     y
 }

@@ -23,14 +23,9 @@ fn square(powers: &[u16; 16384], n: usize, row: &[u16], at: usize, out: &mut [u1
     requires { (at + count ≤ length row.now) × (2 * count ≤ length out.old) }
     ensures { length out.new ≡ length out.old }
 {
-    let mut j: usize = 0;
-    while j < count {
-        let log = row[at + j];
-        let even = j + j;
-        let odd = even + 1;
-        out[even] = square_term(powers, n, log);
-        out[odd] = 0;
-        j += 1;
+    for (j, &log) in row[at..at + count].iter().enumerate() {
+        out[2 * j] = square_term(powers, n, log);
+        out[2 * j + 1] = 0;
     }
 }
 
@@ -38,15 +33,10 @@ fn square(powers: &[u16; 16384], n: usize, row: &[u16], at: usize, out: &mut [u1
 fn is_x(row: &[u16], count: usize) -> bool
     requires { count ≤ length row.now }
 {
-    let mut j: usize = 0;
-    while j < count {
-        let wanted: u16 = if j == 1 { 1 } else { 0 };
-        if row[j] != wanted {
-            return false;
-        }
-        j += 1;
-    }
-    true
+    row[..count]
+        .iter()
+        .enumerate()
+        .all(|(j, &c)| c == u16::from(j == 1))
 }
 
 // Squares x m times modulo a polynomial of degree d with the given digits, and leaves the logarithms of x^(2^k) in row k. Whether the
@@ -68,14 +58,12 @@ fn raise(
 {
     let mut power = [0u16; 128];
     power[1] = 1;
-    let mut k: usize = 0;
-    while k < m {
+    for k in 0..m {
         let at = 64 * k;
         take_logs(logs, &power, 0, rows, at, d);
         square(powers, n, rows, at, &mut power, d);
         let count = terms(&power, 0, d + d);
         reduce(rows0, rows1, rows2, rows3, &mut power, count, d);
-        k += 1;
     }
     is_x(&power, d)
 }
@@ -115,11 +103,8 @@ pub fn trace(
     ensures { length out.new ≡ length out.old }
 {
     let mut e = i;
-    let mut k: usize = 0;
-    while k < m {
-        let at = 64 * k;
-        add_multiple(powers, n, out, 0, rows, at, e, d);
+    for k in 0..m {
+        add_multiple(powers, n, out, 0, rows, 64 * k, e, d);
         e = wrapped(n, e + e);
-        k += 1;
     }
 }
