@@ -11,10 +11,8 @@ pub fn row_added(state: Register, words: &[u64], from: usize, used: usize) -> Re
     ensures { register result.words ≡ bit_xor (low (drop from words.now) used) (register state.words) }
 {
     let mut sum = state.words;
-    let mut i = 0;
-    while i < used {
+    for i in 0..used {
         sum[i] = words[from + i] ^ sum[i];
-        i += 1;
     }
     Register { words: sum }
 }

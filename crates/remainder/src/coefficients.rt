@@ -45,15 +45,7 @@ pub fn coefficient(state: Register, p: usize) -> u64
 pub fn is_zero(state: Register) -> bool
     ensures { result ≡ eqb (register state.words) 0 }
 {
-    let words = state.words;
-    let mut i = 0;
-    while i < 14 {
-        if words[i] != 0 {
-            return false;
-        }
-        i += 1;
-    }
-    true
+    state.words.iter().all(|&w| w == 0)
 }
 
 // Whether no coefficient from x^degree on is one.
@@ -63,15 +55,5 @@ pub fn is_below(state: Register, degree: usize) -> bool
 {
     let words = state.words;
     let k = degree / 64;
-    if words[k] >> (degree % 64) != 0 {
-        return false;
-    }
-    let mut j = k + 1;
-    while j < 14 {
-        if words[j] != 0 {
-            return false;
-        }
-        j += 1;
-    }
-    true
+    words[k] >> (degree % 64) == 0 && words[k + 1..].iter().all(|&w| w == 0)
 }

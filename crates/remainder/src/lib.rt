@@ -8,7 +8,7 @@
 //
 // Registers are moved up and down in the crate `register_shifts`, and read from bits and put into pages and bytes in `register_digits`.
 // What a remainder is stands in specs/Remainder.antt and in the crate `code`; proofs/ has the laws: Words (numbers in words of 64 bits), Fold
-// (the remainder as a fold over the bits), Parity (division is linear, and what follows).
+// (the remainder as a fold over the bits), Parity (division is linear, and what follows), Tests (whether all words are zero).
 #![tactic(auto)]
 
 pub mod add;

@@ -18,11 +18,10 @@ pub loop-i-preserved : goal.loop-i-preserved
 loop-i-preserved c = let s = c.loop-i in
     let a = c.args in
     let row : List ℕ = drop a.from a.words.now in (
-      omega arith,
       search rules,
       xor-store s.sum a.state.words row s.i (omega arith) (low-lt a.state.words (λ k. search rules) s.i)
-          (low-lt row (words-drop _ c.shared_slice_known-1.given a.from) s.i) s.invariant.2 (sym (get_or-drop a.from _ s.i 0)) (s.invariant.3 _ (le_refl _)),
-      above-store s.sum a.state.words s.i _ s.invariant.3,
+          (low-lt row (words-drop _ c.shared_slice_known-1.given a.from) s.i) s.invariant.1 (sym (get_or-drop a.from _ s.i 0)) (s.invariant.2 _ (le_refl _)),
+      above-store s.sum a.state.words s.i _ s.invariant.2,
     )
 
 pub returns : goal.returns
@@ -30,4 +29,4 @@ returns c = let s = c.loop-i in
     let v = c.args.state.words in
     let l : length v ≡ 14 = search rules in
     let e : s.i ≡ c.args.used = omega arith in
-    xor-low-end s.sum v (drop c.args.from c.args.words.now) s.i (omega arith) (s.invariant.1 ∙ sym l) s.invariant.2 s.invariant.3 (rw e c.requires.2) ∙ rw e
+    xor-low-end s.sum v (drop c.args.from c.args.words.now) s.i (omega arith) (s.invariant.0 ∙ sym l) s.invariant.1 s.invariant.2 (rw e c.requires.2) ∙ rw e

@@ -1,4 +1,4 @@
-use Prim.Native.Nat.{ℕ, ◌≤◌, ◌-◌}
+use Prim.Native.Nat.{ℕ, ◌≤◌}
 use mathlib.Core.Path.{◌≡◌}
 use lib.ListN.{length, get_or, drop}
 use lib.Bits.{bit_xor}
@@ -6,8 +6,4 @@ use Rattle.code.specs.Register.{low}
 use Rattle.remainder.proofs.add.row_added.Given as goal
 
 abbrev pub invariant-loop-i : goal.invariant-loop-i
-invariant-loop-i l = (l.i ≤ l.used) × (length l.sum ≡ 14) × (low l.sum l.i ≡ bit_xor (low (drop l.from l.words) l.i) (low l.initial.sum l.i))
-    × ((k : ℕ) → l.i ≤ k → get_or l.sum k 0 ≡ get_or l.initial.sum k 0)
-
-abbrev pub decreases-loop-i : goal.decreases-loop-i
-decreases-loop-i l = l.used - l.i
+invariant-loop-i l = (length l.sum ≡ 14) × (low l.sum l.i ≡ bit_xor (low (drop l.from l.words) l.i) (low l.initial.sum l.i)) × ((k : ℕ) → l.i ≤ k → get_or l.sum k 0 ≡ get_or l.initial.sum k 0)
