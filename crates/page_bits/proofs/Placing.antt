@@ -13,7 +13,7 @@ use Rattle.layout_plan.specs.Plan.{covered, start, used, Valid}
 use Rattle.layout.specs.Bits.{within, block_below, block_of, exponent_at, located}
 use Rattle.layout_plan.proofs.Plans.{pitch, start-next, start-firsts, start-laters, start-order, start_up}
 use Rattle.page_bits.specs.Places.{Near}
-use Rattle.layout.specs.declared.BitAnswer.TheVariants as bit
+use Rattle.layout.specs.declared.BitPlace.TheVariants as bit
 
 -- stream position p lies in block b
 pub record Lies (q : Plan) (b p : ℕ) : Type 0 where

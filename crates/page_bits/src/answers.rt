@@ -2,29 +2,26 @@
 ghost use Rattle.std.specs.Prelude.{◌≡◌};
 ghost use Rattle.layout.specs.Answers.{bit_numbers, position_numbers};
 
-use layout::{BitAnswer, PositionAnswer, refusal_reply};
+use layout::{BitPlace, Refusal, refusal_reply};
 
 // The reply of an answer to a page bit.
-pub fn bit_reply(answer: BitAnswer) -> u8
+#[tactic(auto, unfolding(layout::specs::Answers::bit_numbers, layout::specs::Answers::done, layout::specs::Answers::refused))]
+pub fn bit_reply(answer: Result<BitPlace, Refusal>) -> u8
     ensures { result ≡ (bit_numbers answer).reply }
 {
     match answer {
-        BitAnswer::InBlock {
-            block: _,
-            exponent: _,
-        } => 0,
-        BitAnswer::Tail => 0,
-        BitAnswer::Mark => 0,
-        BitAnswer::Refused(refusal) => refusal_reply(refusal),
+        Ok(_) => 0,
+        Err(refusal) => refusal_reply(refusal),
     }
 }
 
 // The reply of an answer to a code bit.
-pub fn position_reply(answer: PositionAnswer) -> u8
+#[tactic(auto, unfolding(layout::specs::Answers::position_numbers, layout::specs::Answers::done, layout::specs::Answers::refused))]
+pub fn position_reply(answer: Result<u64, Refusal>) -> u8
     ensures { result ≡ (position_numbers answer).reply }
 {
     match answer {
-        PositionAnswer::Position(_) => 0,
-        PositionAnswer::Refused(refusal) => refusal_reply(refusal),
+        Ok(_) => 0,
+        Err(refusal) => refusal_reply(refusal),
     }
 }

@@ -16,38 +16,38 @@ ghost use Rattle.layout_plan.specs.Record.{words_of};
 ghost use Rattle.layout.specs.Bits.{bit_for, bit_answer, position_for, position_answer};
 
 pub use answers::{bit_reply, position_reply};
-use layout::{Acceptance, BitAnswer, PositionAnswer, check_layout};
-use layout_plan::plan_of;
+use layout::{BitPlace, Refusal, check_layout};
+use layout_plan::{Layout, plan_of};
 
 // Where does the page bit at `position` belong, under the answer to a layout, whatever names it?
-pub fn bit_for(answer: Acceptance, position: u64) -> BitAnswer
+#[tactic(auto, unfolding(layout::specs::Bits::bit_for))]
+pub fn bit_for(answer: Result<Layout, Refusal>, position: u64) -> Result<BitPlace, Refusal>
     ensures { result ≡ bit_for answer position }
 {
-    match answer {
-        Acceptance::Accepted(layout) => places::bit_in(plan_of(layout), position),
-        Acceptance::Refused(refusal) => BitAnswer::Refused(refusal),
-    }
+    places::bit_in(plan_of(answer?), position)
 }
 
 // Where does the coefficient of x^exponent of a block lie, under the answer to a layout?
-pub fn position_for(answer: Acceptance, block: u64, exponent: u64) -> PositionAnswer
+#[tactic(auto, unfolding(layout::specs::Bits::position_for))]
+pub fn position_for(
+    answer: Result<Layout, Refusal>,
+    block: u64,
+    exponent: u64,
+) -> Result<u64, Refusal>
     ensures { result ≡ position_for answer block exponent }
 {
-    match answer {
-        Acceptance::Accepted(layout) => places::position_in(plan_of(layout), block, exponent),
-        Acceptance::Refused(refusal) => PositionAnswer::Refused(refusal),
-    }
+    places::position_in(plan_of(answer?), block, exponent)
 }
 
 // Where does the page bit at `position` belong?
-pub fn locate_bit(edition: u64, words: &[u8], position: u64) -> BitAnswer
+pub fn locate_bit(edition: u64, words: &[u8], position: u64) -> Result<BitPlace, Refusal>
     ensures { result ≡ bit_answer (words_of edition words.now) position }
 {
     bit_for(check_layout(edition, words), position)
 }
 
 // Where does the coefficient of x^exponent of a block lie?
-pub fn bit_position(edition: u64, words: &[u8], block: u64, exponent: u64) -> PositionAnswer
+pub fn bit_position(edition: u64, words: &[u8], block: u64, exponent: u64) -> Result<u64, Refusal>
     ensures { result ≡ position_answer (words_of edition words.now) block exponent }
 {
     position_for(check_layout(edition, words), block, exponent)

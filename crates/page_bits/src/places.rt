@@ -3,7 +3,7 @@ ghost use Rattle.std.specs.Prelude.{◌≡◌, ◌<◌};
 ghost use Rattle.layout.specs.Bits.{block_of, located, bit_in, position_in};
 ghost use Rattle.page_bits.specs.Places.{Near};
 
-use layout::{BitAnswer, PositionAnswer, Refusal};
+use layout::{BitPlace, Refusal};
 use layout_plan::{Plan, block_covered, block_start, pitch};
 use mark::place;
 
@@ -46,56 +46,56 @@ pub fn block_of(plan: Plan, position: u32) -> usize
 }
 
 // The block and the exponent at a position of the stream.
-pub fn located(plan: Plan, position: u32) -> BitAnswer
+pub fn located(plan: Plan, position: u32) -> BitPlace
     ensures { result ≡ located plan position }
 {
     let found = block_of(plan, position);
     let blocks = plan.blocks as usize;
     if blocks <= found {
-        return BitAnswer::Tail;
+        return BitPlace::Tail;
     }
     let block = found as u16;
     let offset = position as usize - block_start(plan, block);
-    BitAnswer::InBlock {
+    BitPlace::InBlock {
         block: found as u64,
         exponent: (block_covered(plan, block) - 1 - offset) as u64,
     }
 }
 
 // The answer to a position, in the page or not: outside the mark, that of the stream position that stands there.
-pub fn bit_in(plan: Plan, position: u64) -> BitAnswer
+pub fn bit_in(plan: Plan, position: u64) -> Result<BitPlace, Refusal>
     ensures { result ≡ bit_in plan position }
 {
     if 8 * plan.size as u64 <= position {
-        return BitAnswer::Refused(Refusal::Range);
+        return Err(Refusal::Range);
     }
     let mark = plan.mark;
     let at = position as u32;
     let start = 8 * mark.offset as u32;
     let length = 8 * mark.length as u32;
     if at < start {
-        return located(plan, at);
+        return Ok(located(plan, at));
     }
     if at < start + length {
-        return BitAnswer::Mark;
+        return Ok(BitPlace::Mark);
     }
-    located(plan, at - length)
+    Ok(located(plan, at - length))
 }
 
 // The answer to a block and an exponent, in their ranges or not.
-pub fn position_in(plan: Plan, block: u64, exponent: u64) -> PositionAnswer
+pub fn position_in(plan: Plan, block: u64, exponent: u64) -> Result<u64, Refusal>
     ensures { result ≡ position_in plan block exponent }
 {
     if plan.blocks as u64 <= block {
-        return PositionAnswer::Refused(Refusal::Range);
+        return Err(Refusal::Range);
     }
     let number = block as u16;
     let length = block_covered(plan, number) as u64;
     if length <= exponent {
-        return PositionAnswer::Refused(Refusal::Range);
+        return Err(Refusal::Range);
     }
     let start = block_start(plan, number) as u64;
     let mark = plan.mark;
     let at = start + (length - 1 - exponent);
-    PositionAnswer::Position(place(mark, at as usize) as u64)
+    Ok(place(mark, at as usize) as u64)
 }
