@@ -16,8 +16,8 @@ use lib.ListN.{length, get_or, take, drop, set, length-drop, drop_of_length-le, 
 use lib.Seq.{drop-cons, take-suc, append_snoc, set_at, take_at, drop_at, take-add, take-take, length-take-le, get_or-take, get_or-drop, get_or-append-add}
 use lib.Dec.{eqb, ltb}
 use borrow.Author.Tests.{eqb-true, eq-eqb, ne_eqb, ltb-true, ltb-false}
+use Rattle.std.specs.Prelude.{Some, None}
 use Rattle.version_list.specs.declared.Numbered.{Numbered}
-use Rattle.version_list.specs.declared.Lookup.TheVariants.{Found, Unknown}
 use Rattle.version_list.specs.Plain.{find, holds, without}
 use Rattle.version_list.specs.Places.{held, index_of, closed}
 
@@ -75,24 +75,24 @@ module _ (d : Numbered) (layouts : List Numbered) (count : ℕ) (fits : count �
 -- ---- the list's functions by that place
 
 module _ (d : Numbered) where
-  pub find-index : (l : List Numbered) (n : ℕ) → index_of l n < length l → find l n ≡ Found (get_or l (index_of l n) d)
+  pub find-index : (l : List Numbered) (n : ℕ) → index_of l n < length l → find l n ≡ Some (get_or l (index_of l n) d)
   unfolding index_of find
   find-index [] n h = absurd (omega arith)
   find-index (e ∷ l) n h = go (eqb e.number n) (find-index l n) h
     where
-      go : (t : Bool) → (index_of l n < length l → find l n ≡ Found (get_or l (index_of l n) d))
+      go : (t : Bool) → (index_of l n < length l → find l n ≡ Some (get_or l (index_of l n) d))
           → cond t 0 (suc (index_of l n)) < suc (length l)
-          → cond t (Found e) (find l n) ≡ Found (get_or (e ∷ l) (cond t 0 (suc (index_of l n))) d)
+          → cond t (Some e) (find l n) ≡ Some (get_or (e ∷ l) (cond t 0 (suc (index_of l n))) d)
       go true ih k = refl
       go false ih k = ih (omega arith)
 
-pub find_none : (l : List Numbered) (n : ℕ) → length l ≤ index_of l n → find l n ≡ Unknown
+pub find_none : (l : List Numbered) (n : ℕ) → length l ≤ index_of l n → find l n ≡ None
 unfolding index_of find
 find_none [] n h = refl
 find_none (e ∷ l) n h = go (eqb e.number n) (find_none l n) h
   where
-    go : (t : Bool) → (length l ≤ index_of l n → find l n ≡ Unknown)
-        → suc (length l) ≤ cond t 0 (suc (index_of l n)) → cond t (Found e) (find l n) ≡ Unknown
+    go : (t : Bool) → (length l ≤ index_of l n → find l n ≡ None)
+        → suc (length l) ≤ cond t 0 (suc (index_of l n)) → cond t (Some e) (find l n) ≡ None
     go true ih k = absurd (omega arith)
     go false ih k = ih (omega arith)
 
@@ -127,30 +127,30 @@ without-index (e ∷ l) n h = go (eqb e.number n) (without-index l n) h
 
 -- ---- what is found has the number
 
-pub find-number : (l : List Numbered) (n : ℕ) (e : Numbered) → find l n ≡ Found e → e.number ≡ n
+pub find-number : (l : List Numbered) (n : ℕ) (e : Numbered) → find l n ≡ Some e → e.number ≡ n
 unfolding find
 find-number [] n e h = let z : ◌≡◌ {A = ℕ} 0 1 = cc in absurd (omega arith)
 find-number (x ∷ l) n e h = go (eqb x.number n) refl (find-number l n e) h
   where
-    go : (t : Bool) → eqb x.number n ≡ t → (find l n ≡ Found e → e.number ≡ n) → cond t (Found x) (find l n) ≡ Found e → e.number ≡ n
+    go : (t : Bool) → eqb x.number n ≡ t → (find l n ≡ Some e → e.number ≡ n) → cond t (Some x) (find l n) ≡ Some e → e.number ≡ n
     go true s ih k = let y : x ≡ e = cc in rw y at (eqb-true _ n s)
     go false s ih k = ih k
 
-pub find-holds : (l : List Numbered) (n : ℕ) (e : Numbered) → find l n ≡ Found e → holds l n ≡ true
+pub find-holds : (l : List Numbered) (n : ℕ) (e : Numbered) → find l n ≡ Some e → holds l n ≡ true
 unfolding find holds
 find-holds [] n e h = let z : ◌≡◌ {A = ℕ} 0 1 = cc in absurd (omega arith)
 find-holds (x ∷ l) n e h = go (eqb x.number n) (find-holds l n e) h
   where
-    go : (t : Bool) → (find l n ≡ Found e → holds l n ≡ true) → cond t (Found x) (find l n) ≡ Found e → cond t true (holds l n) ≡ true
+    go : (t : Bool) → (find l n ≡ Some e → holds l n ≡ true) → cond t (Some x) (find l n) ≡ Some e → cond t true (holds l n) ≡ true
     go true ih k = refl
     go false ih k = ih k
 
-pub find-unknown : (l : List Numbered) (n : ℕ) → find l n ≡ Unknown → holds l n ≡ false
+pub find-unknown : (l : List Numbered) (n : ℕ) → find l n ≡ None → holds l n ≡ false
 unfolding find holds
 find-unknown [] n h = refl
 find-unknown (x ∷ l) n h = go (eqb x.number n) (find-unknown l n) h
   where
-    go : (t : Bool) → (find l n ≡ Unknown → holds l n ≡ false) → cond t (Found x) (find l n) ≡ Unknown → cond t true (holds l n) ≡ false
+    go : (t : Bool) → (find l n ≡ None → holds l n ≡ false) → cond t (Some x) (find l n) ≡ None → cond t true (holds l n) ≡ false
     go true ih k = let z : ◌≡◌ {A = ℕ} 0 1 = cc in absurd (omega arith)
     go false ih k = ih k
 

@@ -15,17 +15,16 @@ use lib.ListN.{length, get_or, take, set}
 use lib.Seq.{take-suc-set, length-take-le, get_or-take}
 use lib.Dec.{ltb}
 use borrow.Author.Tests.{lt-ltb, le-ltb, ltb-true, ltb-false, eq-eqb, ne_eqb}
+use Rattle.std.specs.Prelude.{Ok, Err, Some, None}
 use Rattle.replies.specs.declared.Refusal as table
 use Rattle.replies.specs.Replies.{number, among}
 use Rattle.layout_plan.specs.declared.Plan.{Plan}
 use Rattle.layout_plan.specs.declared.Layout.{Layout}
 use Rattle.layout.specs.declared.Refusal as layout
-use Rattle.layout.specs.declared.Acceptance.TheVariants.{Accepted, Refused}
 use Rattle.layout_plan.specs.Record.{Words}
 use Rattle.layout_plan.specs.Plan.{plan_of}
 use Rattle.layout.specs.Acceptance.{acceptance, refusal_of, refusal_reply}
 use Rattle.version_list.specs.declared.Numbered.{Numbered}
-use Rattle.version_list.specs.declared.Lookup.TheVariants.{Found, Unknown}
 use Rattle.version_list.specs.Plain.{Listed, ended, find, holds, known, without, numbered, added, add_reply, add_of, store_for, store_of}
 use Rattle.version_list.specs.Plain.{remove_reply, removed, remove_of, with_uses, set_reply, set_of}
 use Rattle.version_list.specs.Places.{held, index_of, closed}
@@ -56,15 +55,15 @@ module _ (layouts : List Numbered) (k count : ℕ) (whole : length layouts ≡ 3
     inside : at < count → index_of (take count layouts) n < length (take count layouts)
     inside h = omega (arith, taken-length)
 
-    pub looked-none : count ≤ at → find (take (held k) layouts) n ≡ Unknown
+    pub looked-none : count ≤ at → find (take (held k) layouts) n ≡ None
     looked-none h = rw few at (find_none (take count layouts) n (past h))
 
-    pub looked-found : (d : Numbered) → at < count → find (take (held k) layouts) n ≡ Found (get_or layouts at d)
+    pub looked-found : (d : Numbered) → at < count → find (take (held k) layouts) n ≡ Some (get_or layouts at d)
     looked-found d h =
         ap (λ (j : ℕ). find (take j layouts) n) (sym few)
         ∙ find-index d (take count layouts) n (inside h)
-        ∙ ap (λ (j : ℕ). Found (get_or (take count layouts) j d)) (sym place)
-        ∙ ap Found (get_or-take count layouts at d h)
+        ∙ ap (λ (j : ℕ). Some (get_or (take count layouts) j d)) (sym place)
+        ∙ ap Some (get_or-take count layouts at d h)
 
     pub held_none : count ≤ at → holds (take (held k) layouts) n ≡ false
     held_none h = rw few at (holds-none (take count layouts) n (past h))
@@ -102,11 +101,11 @@ module _ (s : Listed) (edition : ℕ) (plan : Plan) where
   unfolding add_of add_reply
   add_done h k = rw (lt-ltb (length s.layouts) 32 h, lt-ltb s.next 65536 k)
 
-pub store-accepted : (s : Listed) (w : Words) (l : Layout) → acceptance w ≡ Accepted l → add_of s w.edition (plan_of l) ≡ store_of s w
+pub store-accepted : (s : Listed) (w : Words) (l : Layout) → acceptance w ≡ Ok l → add_of s w.edition (plan_of l) ≡ store_of s w
 unfolding store_of store_for
 store-accepted s w l e = rw e
 
-pub store-refused : (s : Listed) (w : Words) {t : table.Refusal} (r : layout.Refusal) → t ≡ refusal_of r → acceptance w ≡ Refused r
+pub store-refused : (s : Listed) (w : Words) {t : table.Refusal} (r : layout.Refusal) → t ≡ refusal_of r → acceptance w ≡ Err r
     → ended (number t) 0 s ≡ store_of s w
 unfolding store_of store_for refusal_reply
 store-refused s w r e h = rw (h, e)

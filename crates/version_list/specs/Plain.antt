@@ -15,17 +15,15 @@
 -- use_of s c            the version in use at chip select c
 --
 -- Of each call `..Reply` is the reply, 0 where nothing is refused.
-use Rattle.std.specs.Prelude.{Bool, true, false, cond, List, [], ◌∷◌, ◌++◌, ℕ, ◌+◌, length, get_or, set, replicate, eqb, ltb}
+use Rattle.layout.specs.declared.Refusal.{Refusal}
+use Rattle.layout_plan.specs.declared.Layout.{Layout}
+use Rattle.std.specs.Prelude.{Bool, true, false, cond, List, [], ◌∷◌, ◌++◌, ℕ, ◌+◌, length, get_or, set, replicate, eqb, ltb, Result, Ok, Err, Option, Some, None}
 use Rattle.replies.specs.Replies.{among, unless}
 use Rattle.layout_plan.specs.declared.Plan.{Plan}
-use Rattle.layout.specs.declared.Acceptance.{Acceptance}
-use Rattle.layout.specs.declared.Acceptance.TheVariants.{Accepted, Refused}
 use Rattle.layout_plan.specs.Record.{Words}
 use Rattle.layout_plan.specs.Plan.{plan_of}
 use Rattle.layout.specs.Acceptance.{acceptance, refusal_reply}
 use Rattle.version_list.specs.declared.Numbered.{Numbered}
-use Rattle.version_list.specs.declared.Lookup.{Lookup}
-use Rattle.version_list.specs.declared.Lookup.TheVariants.{Found, Unknown}
 
 pub record Listed : Type 0 where
   pub layouts : List Numbered
@@ -43,9 +41,9 @@ pub record Ended : Type 0 where
 abbrev pub ended : ℕ → ℕ → Listed → Ended
 ended reply version s = record { reply = reply; version = version; store = s }
 
-unfoldable pub find : List Numbered → ℕ → Lookup
-find [] n = Unknown
-find (e ∷ l) n = cond (eqb e.number n) (Found e) (find l n)
+unfoldable pub find : List Numbered → ℕ → Option Numbered
+find [] n = None
+find (e ∷ l) n = cond (eqb e.number n) (Some e) (find l n)
 
 unfoldable pub holds : List Numbered → ℕ → Bool
 holds [] n = false
@@ -82,9 +80,9 @@ add_of s edition plan =
     (ended (add_reply s) 0 s)
 
 -- What a layout is refused for comes first: 7 for its edition, 6 for its record's length, then 1, 2, 3, 11 or 4.
-unfoldable pub store_for : Acceptance → ℕ → Listed → Ended
-store_for (Accepted l) edition s = add_of s edition (plan_of l)
-store_for (Refused r) edition s = ended (refusal_reply r) 0 s
+unfoldable pub store_for : Result Layout Refusal → ℕ → Listed → Ended
+store_for (Ok l) edition s = add_of s edition (plan_of l)
+store_for (Err r) edition s = ended (refusal_reply r) 0 s
 
 unfoldable pub store_of : Listed → Words → Ended
 store_of s w = store_for (acceptance w) w.edition s

@@ -20,10 +20,3 @@ pub struct Numbered {
     pub edition: u64,
     pub plan: Plan,
 }
-
-// The layout of a version, if the store has it.
-#[derive(Clone, Copy)]
-pub enum Lookup {
-    Found(Numbered),
-    Unknown,
-}
