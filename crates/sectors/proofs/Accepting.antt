@@ -3,6 +3,8 @@
 -- one-plan, more-plan       the plan of one sector, and of more
 -- sectors-taken             what holds of numbers that are accepted
 -- sectors-valid             their plan is valid
+use Rattle.std.specs.Prelude.{⊤, Result, Ok, Err}
+use Rattle.layout.specs.declared.Reason.{Reason}
 use mathlib.Core.Path.{◌≡◌, refl, ap}
 use mathlib.Core.Bool.{Bool, true, false, cond}
 use Prim.Native.Nat.{ℕ, suc, ◌+◌, ◌-◌, ◌*◌, ◌≤◌, ◌<◌}
@@ -19,10 +21,7 @@ use Rattle.layout_plan.specs.declared.Sectors.{Sectors}
 use Rattle.layout_plan.specs.declared.Shape.{Shape}
 use Rattle.layout_plan.specs.declared.Layout.{Layout}
 use Rattle.layout_plan.specs.declared.Plan.{Plan}
-use Rattle.layout.specs.declared.Finding.{Finding}
-use Rattle.layout.specs.declared.Finding.TheVariants.{Kept, Broken}
 use Rattle.layout.specs.declared.Refusal.TheVariants as refusal
-use Rattle.layout.specs.declared.Acceptance.TheVariants.{Accepted, Refused}
 use Rattle.layout_plan.specs.Plan.{plan_of, shape, start, used, room, from, payload, Summed, Valid}
 use Rattle.layout_plan.specs.SectorPlan.{sector_shape, own_shape, last_shape, sectors_plan, sector_plan, sector_layout}
 use Rattle.layout.specs.Acceptance.{finding_of, judged}
@@ -142,24 +141,24 @@ pub record Taken (s : Sectors) (l : Layout) : Type 0 where
   pub choice : s.choice ≤ 1
   pub edition : offered s.edition ≡ true
   pub layout : l ≡ sector_layout s
-  pub kept : finding_of (sector_fields s) (sector_plan s) ≡ Kept
+  pub kept : finding_of (sector_fields s) (sector_plan s) ≡ Ok _
 
-pub sectors-taken : (s : Sectors) (l : Layout) → sector_acceptance s ≡ Accepted l → Taken s l
+pub sectors-taken : (s : Sectors) (l : Layout) → sector_acceptance s ≡ Ok l → Taken s l
 unfolding sector_acceptance sector_found judged
 sectors-taken s l h = go (in_count s.count) refl (leb s.choice 1) refl (offered s.edition) refl (finding_of (sector_fields s) (sector_plan s)) refl h
   where
     go : (c : Bool) → in_count s.count ≡ c → (g : Bool) → leb s.choice 1 ≡ g → (o : Bool) → offered s.edition ≡ o
-        → (f : Finding) → finding_of (sector_fields s) (sector_plan s) ≡ f
-        → cond c (cond g (cond o (judged (sector_layout s) f) (Refused refusal.Edition)) (Refused refusal.Range)) (Refused refusal.Range) ≡ Accepted l
+        → (f : Result ⊤ Reason) → finding_of (sector_fields s) (sector_plan s) ≡ f
+        → cond c (cond g (cond o (judged (sector_layout s) f) (Err refusal.Edition)) (Err refusal.Range)) (Err refusal.Range) ≡ Ok l
         → Taken s l
-    go true ec true eg true eo Kept ef x =
+    go true ec true eg true eo (Ok _) ef x =
         let y : l ≡ sector_layout s = cc x in record { count = count-range _ ec; choice = leb-true _ _ eg; edition = eo; layout = y; kept = ef }
-    go true ec true eg true eo (Broken r) ef x = let z : ◌≡◌ {A = ℕ} 0 1 = cc x in absurd (omega arith)
+    go true ec true eg true eo (Err r) ef x = let z : ◌≡◌ {A = ℕ} 0 1 = cc x in absurd (omega arith)
     go true ec true eg false eo f ef x = let z : ◌≡◌ {A = ℕ} 0 1 = cc x in absurd (omega arith)
     go true ec false eg o eo f ef x = let z : ◌≡◌ {A = ℕ} 0 1 = cc x in absurd (omega arith)
     go false ec g eg o eo f ef x = let z : ◌≡◌ {A = ℕ} 0 1 = cc x in absurd (omega arith)
 
-module _ (s : Sectors) (l : Layout) (h : sector_acceptance s ≡ Accepted l) where
+module _ (s : Sectors) (l : Layout) (h : sector_acceptance s ≡ Ok l) where
   pub sectors-plan : plan_of l ≡ sector_plan s
   unfolding plan_of sector_layout
   sectors-plan = rw (sectors-taken s l h).layout

@@ -6,14 +6,14 @@
 -- SectorCases                                  the table of cases
 use mathlib.Core.Path.{◌≡◌, refl}
 use Prim.Native.Nat.{ℕ}
+use Rattle.std.specs.Prelude.{Ok, Err}
 use Rattle.field.specs.Field.{degree, longest}
 use Rattle.field.specs.declared.Field.TheVariants.{Thirteen, Fourteen}
 use Rattle.replies.specs.Replies.{number}
 use Rattle.replies.specs.Edition.{offered, highest}
 use Rattle.mark.specs.Mark.{place, marked, streamed}
 use Rattle.layout_plan.specs.declared.Sectors.{Sectors}
-use Rattle.layout.specs.declared.BitAnswer.TheVariants as bit
-use Rattle.layout.specs.declared.PositionAnswer.TheVariants as position
+use Rattle.layout.specs.declared.BitPlace.TheVariants as bit
 use Rattle.layout.specs.declared.Refusal.TheVariants.{Range}
 use Rattle.layout_plan.specs.Record.{field_of}
 use Rattle.layout_plan.specs.Plan.{plan_of, shape, start, room}
@@ -65,13 +65,13 @@ pub record SectorCases : Type 0 where
   pub no_room : replied (layout 2 16 1 4 0 47) ≡ 4
   -- Where the bits of the second sector lie, and that pads answer as tail.
   pub last-starts : start (sector_plan (layout 2 16 1 4 0 48)) 1 ≡ 256
-  pub first_ends : bit_for (sector_acceptance (layout 2 16 1 4 0 48)) 231 ≡ bit.InBlock 0 0
-  pub pad-starts : bit_for (sector_acceptance (layout 2 16 1 4 0 48)) 232 ≡ bit.Tail
-  pub pad-ends : bit_for (sector_acceptance (layout 2 16 1 4 0 48)) 255 ≡ bit.Tail
-  pub second-starts : bit_for (sector_acceptance (layout 2 16 1 4 0 48)) 256 ≡ bit.InBlock 1 111
-  pub last-pad : bit_for (sector_acceptance (layout 2 16 1 4 0 48)) 383 ≡ bit.Tail
-  pub past-page : bit_for (sector_acceptance (layout 2 16 1 4 0 48)) 384 ≡ bit.Refused Range
-  pub second-position : position_for (sector_acceptance (layout 2 16 1 4 0 48)) 1 111 ≡ position.Position 256
+  pub first_ends : bit_for (sector_acceptance (layout 2 16 1 4 0 48)) 231 ≡ Ok (bit.InBlock 0 0)
+  pub pad-starts : bit_for (sector_acceptance (layout 2 16 1 4 0 48)) 232 ≡ Ok bit.Tail
+  pub pad-ends : bit_for (sector_acceptance (layout 2 16 1 4 0 48)) 255 ≡ Ok bit.Tail
+  pub second-starts : bit_for (sector_acceptance (layout 2 16 1 4 0 48)) 256 ≡ Ok (bit.InBlock 1 111)
+  pub last-pad : bit_for (sector_acceptance (layout 2 16 1 4 0 48)) 383 ≡ Ok bit.Tail
+  pub past-page : bit_for (sector_acceptance (layout 2 16 1 4 0 48)) 384 ≡ Err Range
+  pub second-position : position_for (sector_acceptance (layout 2 16 1 4 0 48)) 1 111 ≡ Ok 256
 
 pub sector-cases : SectorCases
 unfolding layout replied in_count block_fields sector_fields sector_found sector_acceptance missing parity_pads pad_bytes sector_shape sectors_plan sector_plan sector_layout field_of

@@ -9,8 +9,8 @@ use mathlib.Core.Bool.{Bool, true, false, cond}
 use Prim.Native.Nat.{ℕ}
 use native.Mathlib.Omega.{arith}
 use lib.Dec.{leb}
+use Rattle.std.specs.Prelude.{⊤, Result, Ok, Err}
 use Rattle.replies.specs.declared.Refusal.TheVariants as row
-use Rattle.replies.specs.declared.Verdict.TheVariants as verdict
 use Rattle.replies.specs.Replies.{number, verdict}
 use Rattle.replies.specs.Edition.{offered}
 use Rattle.replies.specs.Given.{turn, at_most, ascending}
@@ -18,10 +18,7 @@ use Rattle.replies.proofs.Given.{verdict-none}
 use Rattle.layout_plan.specs.declared.Sectors.{Sectors}
 use Rattle.layout.specs.declared.Reason.{Reason}
 use Rattle.layout.specs.declared.Rule.TheVariants.{Outside}
-use Rattle.layout.specs.declared.Finding.{Finding}
-use Rattle.layout.specs.declared.Finding.TheVariants.{Kept, Broken}
 use Rattle.layout.specs.declared.Refusal.TheVariants as refusal
-use Rattle.layout.specs.declared.Acceptance.TheVariants.{Refused}
 use Rattle.layout_plan.specs.Plan.{plan_of}
 use Rattle.layout_plan.specs.SectorPlan.{sector_plan, sector_layout}
 use Rattle.layout.specs.Acceptance.{finding_of, judged, refusal_of}
@@ -32,17 +29,17 @@ use Rattle.layout.proofs.Reasons.{level_reason, message_reason, length_reason, m
 use Rattle.sectors.specs.Sectors.{in_count, sector_fields, sector_found, sector_acceptance, sector_rules}
 
 module _ (s : Sectors) where
-  count-wrong : in_count s.count ≡ false → verdict (sector_rules s) ≡ verdict.Refused row.OutOfRange
+  count-wrong : in_count s.count ≡ false → verdict (sector_rules s) ≡ Err row.OutOfRange
   unfolding sector_rules verdict
   count-wrong e = rw e
 
   module _ (count : in_count s.count ≡ true) where
-    choice-wrong : leb s.choice 1 ≡ false → verdict (sector_rules s) ≡ verdict.Refused row.OutOfRange
+    choice-wrong : leb s.choice 1 ≡ false → verdict (sector_rules s) ≡ Err row.OutOfRange
     unfolding sector_rules verdict
     choice-wrong e = rw (count, e)
 
     module _ (choice : leb s.choice 1 ≡ true) where
-      edition-wrong : offered s.edition ≡ false → verdict (sector_rules s) ≡ verdict.Refused row.OutOfRange
+      edition-wrong : offered s.edition ≡ false → verdict (sector_rules s) ≡ Err row.OutOfRange
       unfolding sector_rules verdict
       edition-wrong e = rw (count, choice, e)
 
@@ -59,10 +56,10 @@ module _ (s : Sectors) where
   sectors-ruled = go (in_count s.count) refl (leb s.choice 1) refl (offered s.edition) refl (finding_of (sector_fields s) (sector_plan s)) refl
     where
       go : (c : Bool) → in_count s.count ≡ c → (g : Bool) → leb s.choice 1 ≡ g → (o : Bool) → offered s.edition ≡ o
-          → (f : Finding) → finding_of (sector_fields s) (sector_plan s) ≡ f
-          → Ruled (sector_rules s) (sector_plan s) (cond c (cond g (cond o (judged (sector_layout s) f) (Refused refusal.Edition)) (Refused refusal.Range)) (Refused refusal.Range))
-      go true ec true eg true eo Kept ef = rw (← plan-of) (accepts (sector_layout s) (verdict-none _ (numbers-right ec eg eo ∙ ap found ef)))
-      go true ec true eg true eo (Broken r) ef = refuses _ (refusal.Rule r) (numbers-right ec eg eo ∙ ap found ef)
+          → (f : Result ⊤ Reason) → finding_of (sector_fields s) (sector_plan s) ≡ f
+          → Ruled (sector_rules s) (sector_plan s) (cond c (cond g (cond o (judged (sector_layout s) f) (Err refusal.Edition)) (Err refusal.Range)) (Err refusal.Range))
+      go true ec true eg true eo (Ok _) ef = rw (← plan-of) (accepts (sector_layout s) (verdict-none _ (numbers-right ec eg eo ∙ ap found ef)))
+      go true ec true eg true eo (Err r) ef = refuses _ (refusal.Rule r) (numbers-right ec eg eo ∙ ap found ef)
       go true ec true eg false eo f ef = refuses _ refusal.Edition (edition-wrong ec eg eo)
       go true ec false eg o eo f ef = refuses _ refusal.Range (choice-wrong ec eg)
       go false ec g eg o eo f ef = refuses _ refusal.Range (count-wrong ec)
@@ -84,5 +81,5 @@ module _ (s : Sectors) where
   unmarked r (zeros-set a h) e = omega arith
   unmarked r (page-room h) e = let z : ◌≡◌ {A = ℕ} 0 1 = cc e in omega arith
 
-  pub sectors-unmarked : (r : Reason) → finding_of (sector_fields s) (sector_plan s) ≡ Broken r → r.rule ≡ Outside → ⊥
+  pub sectors-unmarked : (r : Reason) → finding_of (sector_fields s) (sector_plan s) ≡ Err r → r.rule ≡ Outside → ⊥
   sectors-unmarked r e = unmarked r (reason-true (sector_fields s) (sector_plan s) r e)

@@ -5,7 +5,9 @@
 -- sector_found s           the answer by the rules of layout words, of the plan of the sectors
 -- sector_acceptance s      the answer to the six numbers and the edition
 -- sector_rules s           the same as a list of rules: 7 for the count, for the field choice and for the edition, then 1, 2, 3 and 4
-use Rattle.std.specs.Prelude.{ℕ, ◌-◌, List, ◌∷◌, Bool, false, not, cond, eqb, leb}
+use Rattle.layout.specs.declared.Refusal.{Refusal}
+use Rattle.layout_plan.specs.declared.Layout.{Layout}
+use Rattle.std.specs.Prelude.{ℕ, ◌-◌, List, ◌∷◌, Bool, false, not, cond, eqb, leb, Result, Err}
 use Rattle.replies.specs.declared.Refusal.TheVariants as row
 use Rattle.replies.specs.Replies.{Rule, rule}
 use Rattle.replies.specs.Edition.{offered}
@@ -13,8 +15,6 @@ use Rattle.layout_plan.specs.declared.Sectors.{Sectors}
 use Rattle.layout_plan.specs.declared.BlockFields.{BlockFields}
 use Rattle.layout_plan.specs.declared.Fields.{Fields}
 use Rattle.layout.specs.declared.Refusal.TheVariants as refusal
-use Rattle.layout.specs.declared.Acceptance.{Acceptance}
-use Rattle.layout.specs.declared.Acceptance.TheVariants.{Refused}
 use Rattle.layout_plan.specs.Record.{field_of}
 use Rattle.layout_plan.specs.SectorPlan.{sector_plan, sector_layout}
 use Rattle.layout.specs.Acceptance.{finding_of, judged}
@@ -40,19 +40,19 @@ sector_fields s = record {
   edition = s.edition;
 }
 
-unfoldable pub sector_found : Sectors → Acceptance
+unfoldable pub sector_found : Sectors → Result Layout Refusal
 sector_found s = judged (sector_layout s) (finding_of (sector_fields s) (sector_plan s))
 
 -- The count is looked at first, then the field choice and the edition.
-unfoldable pub sector_acceptance : Sectors → Acceptance
+unfoldable pub sector_acceptance : Sectors → Result Layout Refusal
 sector_acceptance s =
     cond (in_count s.count)
     (cond (leb s.choice 1)
     (cond (offered s.edition)
     (sector_found s)
-    (Refused refusal.Edition))
-    (Refused refusal.Range))
-    (Refused refusal.Range)
+    (Err refusal.Edition))
+    (Err refusal.Range))
+    (Err refusal.Range)
 
 unfoldable pub sector_rules : Sectors → List Rule
 sector_rules s =

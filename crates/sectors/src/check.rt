@@ -3,8 +3,8 @@ ghost use Rattle.std.specs.Prelude.{◌≡◌, ◌≤◌, ◌<◌};
 ghost use Rattle.sectors.specs.Sectors.{in_count, sector_fields, sector_found, sector_acceptance};
 
 use layout::rules::finding_of;
-use layout::{Acceptance, Finding, Kind, Reason, Refusal, Rule};
-use layout_plan::{BlockFields, Fields, Sectors, field_of, plan_of, sectors_layout};
+use layout::{Kind, Reason, Refusal, Rule};
+use layout_plan::{BlockFields, Fields, Layout, Sectors, field_of, plan_of, sectors_layout};
 use mark::Mark;
 use replies::{highest, offered};
 
@@ -45,34 +45,32 @@ fn sector_fields(sectors: Sectors) -> Fields
 }
 
 // The answer where the level field is one of the edition's.
-fn check_plan(sectors: Sectors) -> Acceptance
+fn check_plan(sectors: Sectors) -> Result<Layout, Refusal>
     requires { (0 < sectors.count) × (sectors.count ≤ 16) × (sectors.level ≤ 31) × (sectors.choice ≤ 1) }
     ensures { result ≡ sector_found sectors }
 {
     let layout = sectors_layout(sectors);
-    match finding_of(sector_fields(sectors), plan_of(layout)) {
-        Finding::Kept => Acceptance::Accepted(layout),
-        Finding::Broken(reason) => Acceptance::Refused(Refusal::Rule(reason)),
-    }
+    finding_of(sector_fields(sectors), plan_of(layout))?;
+    Ok(layout)
 }
 
 // Is this layout of sectors acceptable?
-pub fn check_sectors(sectors: Sectors) -> Acceptance
+pub fn check_sectors(sectors: Sectors) -> Result<Layout, Refusal>
     ensures { result ≡ sector_acceptance sectors }
 {
     if !in_count(sectors.count) {
-        return Acceptance::Refused(Refusal::Range);
+        return Err(Refusal::Range);
     }
     if 1 < sectors.choice {
-        return Acceptance::Refused(Refusal::Range);
+        return Err(Refusal::Range);
     }
     if !offered(sectors.edition) {
-        return Acceptance::Refused(Refusal::Edition);
+        return Err(Refusal::Edition);
     }
     let found = sectors.level as u64;
     let limit = highest(sectors.edition);
     if limit < found {
-        return Acceptance::Refused(Refusal::Rule(Reason {
+        return Err(Refusal::Rule(Reason {
             rule: Rule::Level,
             kind: Kind::First,
             found: found,
