@@ -4,12 +4,11 @@
 //   parse_bytes       bytes in hexadecimal, two digits each
 //   hex_byte          a byte in hexadecimal
 //   layout_record     the layout record of three words
-//   decimal           a number in decimal digits
 //   plus, times       of two numbers
 //   natural           a number that is not below 0
 //   without_prefix    the digits after 0x
 //   index_of          the number of a word in a list
-//   put, put_all      bytes onto a buffer
+//   Line, put, put_all   text that is gathered in a buffer; bytes onto one
 //   front, front_mut  the first places of a buffer
 //   buffer            a buffer of zeros
 //
@@ -17,7 +16,6 @@
 #![tactic(auto)]
 
 mod buffers;
-mod decimals;
 mod digits;
 mod hex;
 mod lines;
@@ -26,10 +24,9 @@ mod parts;
 mod words;
 
 pub use buffers::buffer;
-pub use decimals::decimal;
 pub use digits::{parse_number, without_prefix};
 pub use hex::hex_byte;
-pub use lines::{put, put_all};
+pub use lines::{Line, put, put_all};
 pub use pairs::parse_bytes;
 pub use parts::{front, front_mut, layout_record, natural, plus, times};
 pub use words::index_of;
