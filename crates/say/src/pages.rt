@@ -1,42 +1,38 @@
 // What an answer says of a page.
-use crate::{fact, facts, meaning, put, reply};
+use crate::{Answer, meaning};
 
-// A length that was found, and the one that is wanted. A file is not read further than one byte beyond that.
-pub fn length(out: &mut [u8; 32768], what: &[u8], found: usize, wanted: usize) {
-    put(out, what);
-    if wanted < found {
-        facts(
-            out,
-            b"more than # bytes (# wanted)",
-            &[wanted as u64, wanted as u64],
-        );
-    } else {
-        facts(out, b"# bytes (# wanted)", &[found as u64, wanted as u64]);
+impl Answer {
+    // A length that was found, and the one that is wanted. A file is not read further than one byte beyond that.
+    pub fn length(&mut self, what: &str, found: usize, wanted: usize) {
+        if wanted < found {
+            self.put(format_args!("{what}more than {wanted} bytes ({wanted} wanted)"));
+        } else {
+            self.put(format_args!("{what}{found} bytes ({wanted} wanted)"));
+        }
     }
-}
 
-// The number of a page in a dump, before its answer.
-pub fn page_number(out: &mut [u8; 32768], page: u64) {
-    fact(out, b"page ", page, b": ");
-}
-
-// A page of so many bytes that is refused, and what is wrong with it. Where another length is wanted both are shown, and where a
-// block is not there the number of blocks is.
-pub fn page_refused(out: &mut [u8; 32768], number: u8, found: usize, wanted: u16, blocks: u16) {
-    reply(out, number);
-    meaning(out, number);
-    if number == 5 {
-        length(out, b": ", found, wanted as usize);
+    // The number of a page in a dump, before its answer.
+    pub fn page_number(&mut self, page: u64) {
+        self.put(format_args!("page {page}: "));
     }
-    if number == 7 {
-        fact(out, b": the page has ", blocks as u64, b" blocks");
-    }
-    put(out, b"\n");
-}
 
-// A block that has no codeword within t flips. Its line is not ended.
-pub fn ruined(out: &mut [u8; 32768], block: u16) {
-    crate::note(out, 9);
-    fact(out, b"reply 9 block ", block as u64, b": ");
-    meaning(out, 9);
+    // A page of so many bytes that is refused, and what is wrong with it. Where another length is wanted both are shown, and where a
+    // block is not there the number of blocks is.
+    pub fn page_refused(&mut self, number: u8, found: usize, wanted: u16, blocks: u16) {
+        self.reply(number);
+        self.put(meaning(number));
+        if number == 5 {
+            self.length(": ", found, wanted as usize);
+        }
+        if number == 7 {
+            self.put(format_args!(": the page has {blocks} blocks"));
+        }
+        self.put("\n");
+    }
+
+    // A block that has no codeword within t flips. Its line is not ended.
+    pub fn ruined(&mut self, block: u16) {
+        self.note(9);
+        self.put(format_args!("reply 9 block {block}: {}", meaning(9)));
+    }
 }
