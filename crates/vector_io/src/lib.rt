@@ -16,6 +16,7 @@ ghost use Rattle.std.specs.Prelude.{◌≡◌, ◌+◌, get_or};
 ghost use Rattle.vector_io.specs.Number.{number_at};
 
 use std::io::Read;
+use text::Line;
 pub use text::{put, put_all};
 
 // Fills the buffer from standard input: false where the input ends before it is full.
@@ -60,9 +61,9 @@ fn put_gap(line: &mut [u8], at: usize) -> usize {
 // A number in decimal onto the line, after a space where it is not the first.
 pub fn put_number(line: &mut [u8], at: usize, n: u64) -> usize {
     let p = put_gap(line, at);
-    let mut digits = [0u8; 20];
-    let k = text::decimal(n, &mut digits);
-    put_all(line, p, &digits[..k])
+    let mut digits = Line::<20>::new();
+    digits.put(n);
+    put_all(line, p, digits.bytes())
 }
 
 // Numbers onto the line.
