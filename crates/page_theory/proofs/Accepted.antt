@@ -1,11 +1,11 @@
 -- Under an accepted layout a call is the call under its plan, whatever names the layout; and layout words name one.
+use Rattle.std.specs.Prelude.{Result, Ok}
+use Rattle.layout.specs.declared.Refusal.{Refusal}
 use mathlib.Core.Path.{◌≡◌, refl}
 use mathlib.Core.List.{List}
 use Prim.Native.Nat.{ℕ}
 use Rattle.layout_plan.specs.declared.Plan.{Plan}
 use Rattle.layout_plan.specs.declared.Layout.{Layout}
-use Rattle.layout.specs.declared.Acceptance.{Acceptance}
-use Rattle.layout.specs.declared.Acceptance.TheVariants.{Accepted}
 use Rattle.layout_plan.specs.Record.{Words}
 use Rattle.layout_plan.specs.Plan.{plan_of}
 use Rattle.layout.specs.Acceptance.{acceptance}
@@ -14,10 +14,10 @@ use Rattle.page_theory.specs.Damage.{Accepts}
 use Rattle.page_theory.specs.Calls.{write_in, write_for, look_in, look_for, take_in, take_for, judge_in, judge_for, claim_in, claim_for}
 
 -- So what is proved of every accepted layout holds for all layout words that are accepted, with nothing else to suppose.
-pub words-accepts : (w : Words) (l : Layout) → acceptance w ≡ Accepted l → Accepts (acceptance w) (plan_of l)
+pub words-accepts : (w : Words) (l : Layout) → acceptance w ≡ Ok l → Accepts (acceptance w) (plan_of l)
 words-accepts w l e = record { layout = l; accepted = e; plan = refl; valid = accepted-valid w l e }
 
-module _ (a : Acceptance) (q : Plan) (h : Accepts a q) where
+module _ (a : Result Layout Refusal) (q : Plan) (h : Accepts a q) where
   pub write-accepted : (m d page : List ℕ) → write_for a m d page ≡ write_in q m d page
   unfolding write_for
   write-accepted m d page = rw (h.accepted, h.plan)

@@ -7,6 +7,7 @@ use Prim.Native.Nat.{ℕ, zero, suc, ◌*◌, ◌≤◌, ◌<◌}
 use native.Mathlib.Omega.{arith}
 use lib.ListN.{length, get_or, replicate}
 use lib.Dec.{lit<, lit≤}
+use Rattle.std.specs.Prelude.{Ok}
 use Rattle.field.specs.declared.Field.{Field}
 use Rattle.field.specs.declared.Field.TheVariants.{Thirteen, Fourteen}
 use Rattle.field.specs.Field.{degree, a^}
@@ -16,7 +17,7 @@ use Rattle.bits.specs.Bits.{bit, bit_at, bit_of, run, digit, number, digits, byt
 use Rattle.mark.specs.Mark.{place, marked, streamed, stream_bit}
 use Rattle.layout_plan.specs.declared.BlockFields.{BlockFields}
 use Rattle.layout_plan.specs.declared.Plan.{Plan}
-use Rattle.layout.specs.declared.BitAnswer.TheVariants.{InBlock}
+use Rattle.layout.specs.declared.BitPlace.TheVariants.{InBlock}
 use Rattle.layout_plan.specs.Record.{Words}
 use Rattle.layout_plan.specs.Plan.{shape_with, shape_of, later_shape, data_bytes, plan_for, layout_for, plan_of, shape, field, level, start, from, Valid}
 use Rattle.layout.specs.Acceptance.{acceptance}
@@ -60,7 +61,7 @@ pub record CaseG : Type 0 where
   pub looks : (counts : List ℕ) → length counts ≡ 2 → look_of record_e page_g counts ≡ look_ended 0 0 (1 ∷ 0 ∷ [])
   pub takes : («data» : List ℕ) → length «data» ≡ 8 → take_of record_e page_g [] «data» ≡ take_ended 0 0 [] (replicate 8 0)
   pub flipped : turned (block_word (plan_of layout_e) page_g 0) 57 ≡ block_word (plan_of layout_e) page_f 0
-  pub exponent : bit_answer record_e 0 ≡ InBlock 0 57
+  pub exponent : bit_answer record_e 0 ≡ Ok (InBlock 0 57)
 
 -- H: a^13 is 0x1B for m = 13; a^14 is 0x2B for m = 14.
 pub record CaseH : Type 0 where

@@ -1,12 +1,14 @@
 -- Claims. "Accepted exactly if they are distinct, each below n, at most t in number, and flipping them gives a codeword.
 -- Otherwise 10." (document 01, "Claim")
+use Rattle.std.specs.Prelude.{Result}
+use Rattle.layout.specs.declared.Refusal.{Refusal}
+use Rattle.layout_plan.specs.declared.Layout.{Layout}
 use mathlib.Core.Path.{◌≡◌, refl, sym, ap, ◌∙◌}
 use mathlib.Core.List.{List}
 use Prim.Native.Nat.{ℕ, ◌<◌}
 use native.Mathlib.Omega.{arith}
 use lib.ListN.{length}
 use Rattle.field.specs.declared.Field.{Field}
-use Rattle.layout.specs.declared.Acceptance.{Acceptance}
 use Rattle.layout_plan.specs.declared.Plan.{Plan}
 use Rattle.layout_plan.specs.Plan.{field, level}
 use Rattle.code.specs.Word.{Word}
@@ -44,7 +46,7 @@ module _ (q : Plan) (page : List ℕ) (b : ℕ) (size : length page ≡ q.size) 
   pub claim-wrong : (Right (field q b) (level q b) (block_word q page b) claims → ⊥) → claim_in q page b claims ≡ claim_ended 10
   claim-wrong h = claim-by ∙ by-wrong h (right? _ _ _ _)
 
-module _ (a : Acceptance) (q : Plan) (accepted : Accepts a q) (page : List ℕ) (b : ℕ) (size : length page ≡ q.size) (inside : b < q.blocks)
+module _ (a : Result Layout Refusal) (q : Plan) (accepted : Accepts a q) (page : List ℕ) (b : ℕ) (size : length page ≡ q.size) (inside : b < q.blocks)
     (claims : List ℕ) where
   pub accepted-when : Right (field q b) (level q b) (block_word q page b) claims → claim_for a page b claims ≡ claim_ended 0
   accepted-when h = claim-accepted a q accepted page b claims ∙ claim-right q page b size inside claims h

@@ -3,6 +3,9 @@
 -- the last sentence: but for the counts of a look that answers 9. A look then writes the count of every block (proofs/Demand2 `look-blocks`).
 --
 -- The definitions of the calls are functions of everything that is lent, so each call ends; what follows says how.
+use Rattle.std.specs.Prelude.{Result, Ok, Err}
+use Rattle.layout.specs.declared.Refusal.{Refusal}
+use Rattle.layout_plan.specs.declared.Layout.{Layout}
 use mathlib.Core.Path.{◌≡◌, refl}
 use mathlib.Core.Bool.{Bool, true, false, cond}
 use mathlib.Core.List.{List, ◌∷◌, ◌++◌}
@@ -14,8 +17,6 @@ use lib.ListN.{length}
 use lib.Dec.{eqb, ltb}
 use Rattle.replies.specs.Replies.{among}
 use Rattle.layout_plan.specs.declared.Plan.{Plan}
-use Rattle.layout.specs.declared.Acceptance.{Acceptance}
-use Rattle.layout.specs.declared.Acceptance.TheVariants.{Accepted, Refused}
 use Rattle.layout_plan.specs.Plan.{plan_of, field, level}
 use Rattle.layout.specs.Acceptance.{refusal_reply}
 use Rattle.layout.proofs.Numbers.{refusal-reply-early}
@@ -88,10 +89,10 @@ module _ (m d page : List ℕ) where
       go true = record { table = among-small 0 _ (omega arith); kept = λ n. absurd (n refl); block = refl }
       go false = ends-write _ (inl (write-small q _ _ _))
 
-  pub write-ends : (a : Acceptance) → WriteEnds page (write_for a m d page)
+  pub write-ends : (a : Result Layout Refusal) → WriteEnds page (write_for a m d page)
   unfolding write_for
-  write-ends (Accepted l) = write-in (plan_of l)
-  write-ends (Refused r) = ends-write (refusal_reply r) (refusal-reply-early r)
+  write-ends (Ok l) = write-in (plan_of l)
+  write-ends (Err r) = ends-write (refusal_reply r) (refusal-reply-early r)
 
 module _ (page c : List ℕ) where
   ends-look : (x : ℕ) → Early x → LookEnds c (look_ended x 0 c)
@@ -109,10 +110,10 @@ module _ (page c : List ℕ) where
     | no n ↦ rw (look-wrong q page c n) (ends-look _ (inl (look-small q _ _)))
   ]
 
-  pub look-ends : (a : Acceptance) → LookEnds c (look_for a page c)
+  pub look-ends : (a : Result Layout Refusal) → LookEnds c (look_for a page c)
   unfolding look_for
-  look-ends (Accepted l) = look-in (plan_of l)
-  look-ends (Refused r) = ends-look (refusal_reply r) (refusal-reply-early r)
+  look-ends (Ok l) = look-in (plan_of l)
+  look-ends (Err r) = ends-look (refusal_reply r) (refusal-reply-early r)
 
 module _ (page m d : List ℕ) where
   ends-take : (x : ℕ) → Early x → TakeEnds m d (take_ended x 0 m d)
@@ -130,10 +131,10 @@ module _ (page m d : List ℕ) where
     | no n ↦ rw (take-wrong q page m d n) (ends-take _ (inl (take-small q _ _ _)))
   ]
 
-  pub take_ends : (a : Acceptance) → TakeEnds m d (take_for a page m d)
+  pub take_ends : (a : Result Layout Refusal) → TakeEnds m d (take_for a page m d)
   unfolding take_for
-  take_ends (Accepted l) = take_in_lem (plan_of l)
-  take_ends (Refused r) = ends-take (refusal_reply r) (refusal-reply-early r)
+  take_ends (Ok l) = take_in_lem (plan_of l)
+  take_ends (Err r) = ends-take (refusal_reply r) (refusal-reply-early r)
 
 -- the replies about a page and a block number
 data BlockReply : ℕ → Type 0 where
@@ -174,10 +175,10 @@ module _ (page : List ℕ) (b : ℕ) where
       go x length-wrong = ends-judge 5 (inl (omega arith))
       go x range-wrong = ends-judge 7 (inl (omega arith))
 
-  pub judge-ends : (a : Acceptance) → JudgeEnds b (judge_for a page b)
+  pub judge-ends : (a : Result Layout Refusal) → JudgeEnds b (judge_for a page b)
   unfolding judge_for
-  judge-ends (Accepted l) = judge-in (plan_of l)
-  judge-ends (Refused r) = ends-judge (refusal_reply r) (refusal-reply-early r)
+  judge-ends (Ok l) = judge-in (plan_of l)
+  judge-ends (Err r) = ends-judge (refusal_reply r) (refusal-reply-early r)
 
 module _ (page : List ℕ) (b : ℕ) (claims : List ℕ) where
   ends-claim : (x : ℕ) → Early x → ClaimEnds (claim_ended x)
@@ -198,7 +199,7 @@ module _ (page : List ℕ) (b : ℕ) (claims : List ℕ) where
       go x length-wrong = ends-claim 5 (inl (omega arith))
       go x range-wrong = ends-claim 7 (inl (omega arith))
 
-  pub claim-ends : (a : Acceptance) → ClaimEnds (claim_for a page b claims)
+  pub claim-ends : (a : Result Layout Refusal) → ClaimEnds (claim_for a page b claims)
   unfolding claim_for
-  claim-ends (Accepted l) = claim-in (plan_of l)
-  claim-ends (Refused r) = ends-claim (refusal_reply r) (refusal-reply-early r)
+  claim-ends (Ok l) = claim-in (plan_of l)
+  claim-ends (Err r) = ends-claim (refusal_reply r) (refusal-reply-early r)

@@ -3,6 +3,9 @@
 -- exactly that distance." Document 02, E1, adds the erased block: there is no such codeword, the covered bits hold at most t zeros,
 -- the message is all ones, and the count is 128 plus the zeros. Document 02, E6, parts reading: looking gives the counts, 255 for a ruined
 -- block, and taking gives the messages. Document 02, E7, leaves the mark out: a written page has there what the lent page held.
+use Rattle.std.specs.Prelude.{Result}
+use Rattle.layout.specs.declared.Refusal.{Refusal}
+use Rattle.layout_plan.specs.declared.Layout.{Layout}
 use mathlib.Core.Path.{◌≡◌, refl, sym, ap, ◌∙◌, subst}
 use mathlib.Core.Bool.{true, false}
 use mathlib.Core.List.{List, ◌++◌}
@@ -13,7 +16,6 @@ use lib.ListN.{length, get_or}
 use Rattle.bits.specs.Bits.{bit_of}
 use Rattle.bits.proofs.Runs.{run-cong}
 use Rattle.mark.specs.Mark.{marked, stream_bit}
-use Rattle.layout.specs.declared.Acceptance.{Acceptance}
 use Rattle.layout_plan.specs.declared.Plan.{Plan}
 use Rattle.layout_plan.specs.Plan.{bits, field, level, room, from, payload, Valid}
 use Rattle.layout.specs.Bits.{block_of}
@@ -32,7 +34,7 @@ use Rattle.page_theory.proofs.Reading.{from-order, reading-parts, counts-at, cou
 use Rattle.page_theory.proofs.Calls.{bytes_at-bytes, bytes_at-join, write-right, look-right, look-wrong, take-wrong}
 use Rattle.page_theory.proofs.Accepted.{write-accepted, look-accepted, take-accepted}
 
-module _ (a : Acceptance) (q : Plan) (accepted : Accepts a q) where
+module _ (a : Result Layout Refusal) (q : Plan) (accepted : Accepts a q) where
   -- "A written page is the one that the layout words and the BCH definition give."
   module _ (m d page : List ℕ) (payload : Payload q m d) (lent : length page ≡ q.size) where
     pub write_done : write_for a m d page ≡ write_ended 0 0 (page_of q page (m ++ d))
@@ -110,7 +112,7 @@ module _ (q : Plan) (v : Valid q) (page m d : List ℕ) where
     | no n ↦ absurd (n (ap (λ (r : Taken). r.reply) (sym (take-wrong q page m d n)) ∙ h))
   ]
 
-module _ (a : Acceptance) (q : Plan) (accepted : Accepts a q) (page : List ℕ) where
+module _ (a : Result Layout Refusal) (q : Plan) (accepted : Accepts a q) (page : List ℕ) where
   take-gave : (m d : List ℕ) → (take_for a page m d).reply ≡ 0 → Gave q page (take_for a page m d)
   take-gave m d h = let e = take-accepted a q accepted page m d in
       rw e (in_taken q accepted.valid page m d (ap (λ (r : Taken). r.reply) (sym e) ∙ h))

@@ -1,6 +1,9 @@
 -- Demand 3, of any accepted layout and of the calls as they are lent anything: two different payloads never make the same page,
 -- every page that was written and damaged reads back, and a page is refused exactly where a block is ruined. Document 02, E6: reading back is
 -- looking, then taking the same page, and each of the two refuses so.
+use Rattle.std.specs.Prelude.{Result}
+use Rattle.layout.specs.declared.Refusal.{Refusal}
+use Rattle.layout_plan.specs.declared.Layout.{Layout}
 use mathlib.Core.Path.{◌≡◌, refl, sym, ap, ◌∙◌}
 use mathlib.Core.Bool.{Bool}
 use mathlib.Core.List.{List, ◌++◌}
@@ -8,7 +11,6 @@ use Prim.Native.Nat.{ℕ, ◌<◌}
 use native.Mathlib.Omega.{arith}
 use lib.ListN.{length}
 use Rattle.bits.specs.Bits.{run}
-use Rattle.layout.specs.declared.Acceptance.{Acceptance}
 use Rattle.layout_plan.specs.declared.Plan.{Plan}
 use Rattle.layout_plan.specs.Plan.{Valid}
 use Rattle.page_theory.specs.Page.{page_of}
@@ -22,7 +24,7 @@ use Rattle.page_theory.proofs.Calls.{look-right, look-refuses, take-right, take-
 use Rattle.page_theory.proofs.Accepted.{look-accepted, take-accepted}
 use Rattle.page_theory.proofs.Demand2.{write_done}
 
-module _ (a : Acceptance) (q : Plan) (accepted : Accepts a q) where
+module _ (a : Result Layout Refusal) (q : Plan) (accepted : Accepts a q) where
   module _ (m d page : List ℕ) (s : ℕ → ℕ → Bool) (h : WrittenAndDamaged a q m d page s) where
     as_written : Damaged q (page_of q h.lent (m ++ d)) page s
     as_written = rw (write_done a q accepted m d h.lent h.payload h.size) at h.damaged

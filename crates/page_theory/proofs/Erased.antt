@@ -1,5 +1,8 @@
 -- A page that was never written (document 02, E1): under every accepted layout a page whose bits outside the mark are all ones is never refused,
 -- neither by looking at it nor by taking it nor by judging a block. The mark may hold anything, as the factory left it.
+use Rattle.std.specs.Prelude.{Result}
+use Rattle.layout.specs.declared.Refusal.{Refusal}
+use Rattle.layout_plan.specs.declared.Layout.{Layout}
 use mathlib.Core.Path.{◌≡◌, refl, sym, ap, ◌∙◌}
 use mathlib.Core.Bool.{true}
 use mathlib.Core.List.{List}
@@ -8,7 +11,6 @@ use native.Mathlib.Omega.{arith}
 use lib.ListN.{length, replicate, length-replicate}
 use Rattle.bits.proofs.Runs.{run-ext}
 use Rattle.mark.specs.Mark.{stream_bit}
-use Rattle.layout.specs.declared.Acceptance.{Acceptance}
 use Rattle.layout_plan.specs.declared.Plan.{Plan}
 use Rattle.layout_plan.specs.Plan.{covered, start, room}
 use Rattle.code.specs.Word.{zeros}
@@ -24,7 +26,7 @@ use Rattle.page_theory.proofs.Reading.{ruined-outcome}
 use Rattle.page_theory.proofs.OneBlock.{judge-outcome}
 use Rattle.page_theory.proofs.Demand3.{look-refused-only, look-otherwise, take-refused-only, take-otherwise}
 
-module _ (a : Acceptance) (q : Plan) (accepted : Accepts a q) (page : List ℕ) (size : length page ≡ q.size)
+module _ (a : Result Layout Refusal) (q : Plan) (accepted : Accepts a q) (page : List ℕ) (size : length page ≡ q.size)
     (blank : (p : ℕ) → p < room q → stream_bit q.mark page p ≡ true) where
   blank-zeros : (b : ℕ) → b < q.blocks → zeros (block_word q page b) ≡ 0
   unfolding block_word

@@ -1,6 +1,8 @@
 -- Document 02, E6: "With right lengths, looking then taking the same page must give what the old call gave, but for counts under 9."
 -- Document 01 reads a page in one joint call. Its definition is kept here, as it stood, for this theorem alone; there is no such call, and nothing
 -- else names it.
+use Rattle.std.specs.Prelude.{Result, Ok, Err}
+use Rattle.layout.specs.declared.Refusal.{Refusal}
 use mathlib.Core.Path.{◌≡◌, refl, sym, ap, ◌∙◌}
 use mathlib.Core.Bool.{Bool, true, false, cond}
 use mathlib.Core.List.{List, [], ◌∷◌, ◌++◌}
@@ -13,8 +15,6 @@ use Rattle.bits.specs.Bits.{run}
 use Rattle.replies.specs.Replies.{unless}
 use Rattle.layout_plan.specs.declared.Plan.{Plan}
 use Rattle.layout_plan.specs.declared.Layout.{Layout}
-use Rattle.layout.specs.declared.Acceptance.{Acceptance}
-use Rattle.layout.specs.declared.Acceptance.TheVariants.{Accepted, Refused}
 use Rattle.layout_plan.specs.Plan.{plan_of}
 use Rattle.layout.specs.Acceptance.{refusal_reply}
 use Rattle.code.specs.Word.{Word}
@@ -80,9 +80,9 @@ read_in q page metadata «data» counts =
     (read_by q (reading q page) metadata «data» counts)
     (read_ended (read_reply q (length page) (length metadata) (length «data») (length counts)) 0 metadata «data» counts)
 
-unfoldable pub read_for : Acceptance → List ℕ → List ℕ → List ℕ → List ℕ → Read
-read_for (Accepted l) page metadata «data» counts = read_in (plan_of l) page metadata «data» counts
-read_for (Refused r) page metadata «data» counts = read_ended (refusal_reply r) 0 metadata «data» counts
+unfoldable pub read_for : Result Layout Refusal → List ℕ → List ℕ → List ℕ → List ℕ → Read
+read_for (Ok l) page metadata «data» counts = read_in (plan_of l) page metadata «data» counts
+read_for (Err r) page metadata «data» counts = read_ended (refusal_reply r) 0 metadata «data» counts
 
 -- ---- looking, then taking
 
@@ -153,11 +153,11 @@ module _ (q : Plan) (page : List ℕ) where
       ) (by_both (reading q page) (parted.reading q page) both)
 
 -- Whatever names the layout: where it is accepted, with page and outputs of the lengths that its plan gives.
-pub looked-then-taken : (a : Acceptance) (page m d c : List ℕ) → ((l : Layout) → a ≡ Accepted l → (length page ≡ (plan_of l).size) × Outputs (plan_of l) m d c)
+pub looked-then-taken : (a : Result Layout Refusal) (page m d c : List ℕ) → ((l : Layout) → a ≡ Ok l → (length page ≡ (plan_of l).size) × Outputs (plan_of l) m d c)
     → Parted (read_for a page m d c) (look_for a page c) (take_for a page m d) c
 unfolding read_for look_for take_for joined
-looked-then-taken (Accepted l) page m d c lengths = let (size, outputs) = lengths l refl in parted-in (plan_of l) page m d c size outputs
-looked-then-taken (Refused r) page m d c lengths =
+looked-then-taken (Ok l) page m d c lengths = let (size, outputs) = lengths l refl in parted-in (plan_of l) page m d c size outputs
+looked-then-taken (Err r) page m d c lengths =
     record { same = ap (read_ended (refusal_reply r) 0 m d) (either (eqb (refusal_reply r) 0)); reply = refl; block = refl }
   where
     either : (b : Bool) → c ≡ cond b c c

@@ -1,6 +1,9 @@
 -- The mark is left alone (document 02, E7): "writing never touches them, so demand 2's page has there what the lent page held, and no answer
 -- depends on them". Of a lent page of the right length nothing but the mark goes into the written one, and nothing but the length into the reply.
 -- That the other calls do not depend on the mark is in Tail.
+use Rattle.std.specs.Prelude.{Result, Ok, Err}
+use Rattle.layout.specs.declared.Refusal.{Refusal}
+use Rattle.layout_plan.specs.declared.Layout.{Layout}
 use mathlib.Core.Path.{◌≡◌, refl, sym, ap, ◌∙◌}
 use mathlib.Core.Bool.{Bool, true, false, cond, true≢false}
 use mathlib.Core.List.{List, ◌++◌}
@@ -16,8 +19,6 @@ use Rattle.mark.specs.declared.Mark.{Mark}
 use Rattle.mark.specs.Mark.{marked}
 use Rattle.mark.proofs.Places.{marked-before, marked-after, marked-within}
 use Rattle.layout_plan.specs.declared.Plan.{Plan}
-use Rattle.layout.specs.declared.Acceptance.{Acceptance}
-use Rattle.layout.specs.declared.Acceptance.TheVariants.{Accepted, Refused}
 use Rattle.layout_plan.specs.Plan.{plan_of}
 use Rattle.page_theory.specs.Page.{page_bit, page_of}
 use Rattle.page_theory.specs.Damage.{Accepts, Payload}
@@ -58,7 +59,7 @@ module _ (q : Plan) (d : List ℕ) where
       go p true e = rw (e, same.bytes (p / 8) (marked-first q.mark p e) (marked-last q.mark p e))
       go p false e = rw e
 
-module _ (a : Acceptance) (q : Plan) (accepted : Accepts a q) (m d : List ℕ) (payload : Payload q m d) where
+module _ (a : Result Layout Refusal) (q : Plan) (accepted : Accepts a q) (m d : List ℕ) (payload : Payload q m d) where
   -- the mark's bytes are those that were lent
   pub write_kept : (lent : List ℕ) → Bytes q.size lent → SameMark q (write_for a m d lent).page lent
   write_kept lent small = rw (write_done a q accepted m d lent payload small.count) (page-kept q (m ++ d) lent small accepted.valid.inside)
@@ -85,7 +86,7 @@ module _ (m d lent other : List ℕ) (size : length lent ≡ length other) where
       go true r = (refl, refl)
       go false r = (refl, refl)
 
-  pub write-replied : (a : Acceptance) → ((write_for a m d lent).reply ≡ (write_for a m d other).reply) × ((write_for a m d lent).block ≡ (write_for a m d other).block)
+  pub write-replied : (a : Result Layout Refusal) → ((write_for a m d lent).reply ≡ (write_for a m d other).reply) × ((write_for a m d lent).block ≡ (write_for a m d other).block)
   unfolding write_for
-  write-replied (Accepted l) = in-replied (plan_of l)
-  write-replied (Refused r) = (refl, refl)
+  write-replied (Ok l) = in-replied (plan_of l)
+  write-replied (Err r) = (refl, refl)

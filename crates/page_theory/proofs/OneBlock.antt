@@ -1,5 +1,7 @@
 -- Judging one block. "It depends on the block number, the layout words, the page's length and that block's own bits, on no
 -- other page bit" (document 01, "One block").
+use Rattle.std.specs.Prelude.{Result, Ok, Err}
+use Rattle.layout.specs.declared.Refusal.{Refusal}
 use mathlib.Core.Path.{◌≡◌, refl, ◌∙◌}
 use mathlib.Core.Bool.{cond}
 use mathlib.Core.List.{List}
@@ -10,8 +12,6 @@ use lib.Dec.{eqb}
 use borrow.Author.Tests.{eq-eqb, ne_eqb, lt-ltb}
 use Rattle.layout_plan.specs.declared.Plan.{Plan}
 use Rattle.layout_plan.specs.declared.Layout.{Layout}
-use Rattle.layout.specs.declared.Acceptance.{Acceptance}
-use Rattle.layout.specs.declared.Acceptance.TheVariants.{Accepted, Refused}
 use Rattle.layout_plan.specs.Plan.{plan_of, Valid}
 use Rattle.code.specs.Word.{Word}
 use Rattle.code.specs.Outcome.{Outcome}
@@ -31,11 +31,11 @@ unfolding judge_in outcome
 judge-block q page other b l h = rw (l, block_word-cong q page other b h)
 
 -- Two pages of one length that agree on the covered bits of the block judge the same, whether or not a layout is accepted.
-pub judge-own : (a : Acceptance) (page other : List ℕ) (b : ℕ) → length page ≡ length other
-    → ((l : Layout) → a ≡ Accepted l → SameBits (plan_of l) page other b) → judge_for a page b ≡ judge_for a other b
+pub judge-own : (a : Result Layout Refusal) (page other : List ℕ) (b : ℕ) → length page ≡ length other
+    → ((l : Layout) → a ≡ Ok l → SameBits (plan_of l) page other b) → judge_for a page b ≡ judge_for a other b
 unfolding judge_for
-judge-own (Accepted l) page other b n h = judge-block (plan_of l) page other b n (h l refl)
-judge-own (Refused r) page other b n h = refl
+judge-own (Ok l) page other b n h = judge-block (plan_of l) page other b n (h l refl)
+judge-own (Err r) page other b n h = refl
 
 module _ (q : Plan) (page : List ℕ) (b : ℕ) (size : length page ≡ q.size) (inside : b < q.blocks) where
   pub block_reply-right : block_reply q (length page) b ≡ 0
@@ -65,7 +65,7 @@ unfoldable pub judge_counted : ℕ → ℕ → Judged
 judge_counted b n = cond (eqb n 255) (judge_ended 9 b 0) (judge_ended 0 0 n)
 
 -- "Answers the flip count, or 9 with that block's number."
-module _ (a : Acceptance) (q : Plan) (accepted : Accepts a q) (page : List ℕ) (b : ℕ) (size : length page ≡ q.size) (inside : b < q.blocks) where
+module _ (a : Result Layout Refusal) (q : Plan) (accepted : Accepts a q) (page : List ℕ) (b : ℕ) (size : length page ≡ q.size) (inside : b < q.blocks) where
   pub judge-flips : (m : Word) (n : ℕ) → GivesAt q page b m n → judge_for a page b ≡ judge_ended 0 0 n
   judge-flips m n g = judge-accepted a q accepted page b ∙ judge-gives q page b size inside accepted.valid m n g
 

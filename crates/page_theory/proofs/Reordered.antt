@@ -1,4 +1,7 @@
 -- A claim in another order gets the same answer (document 01, "Claim": "a list of exponents in any order").
+use Rattle.std.specs.Prelude.{Result, Ok, Err}
+use Rattle.layout.specs.declared.Refusal.{Refusal}
+use Rattle.layout_plan.specs.declared.Layout.{Layout}
 use mathlib.Core.Path.{◌≡◌, refl, sym, ap, ◌∙◌}
 use mathlib.Core.Bool.{Bool, true, false, cond}
 use mathlib.Core.List.{List, [], ◌∷◌}
@@ -9,8 +12,6 @@ use lib.Dec.{eqb}
 use Rattle.algebra.specs.Word.{flip}
 use Rattle.field.specs.declared.Field.{Field}
 use Rattle.layout_plan.specs.declared.Plan.{Plan}
-use Rattle.layout.specs.declared.Acceptance.{Acceptance}
-use Rattle.layout.specs.declared.Acceptance.TheVariants.{Accepted, Refused}
 use Rattle.layout_plan.specs.Plan.{plan_of, field, level}
 use Rattle.code.specs.Word.{Word, turned, flipped}
 use Rattle.code.proofs.Flips.{turned-length}
@@ -134,7 +135,7 @@ claim_in-reordered : (q : Plan) (page : List ℕ) (b : ℕ) {claims other : List
 unfolding claim_in
 claim_in-reordered q page b r = rw (by-reordered r (right? (field q b) (level q b) (block_word q page b) _) (right? (field q b) (level q b) (block_word q page b) _))
 
-pub claim-reordered : (a : Acceptance) (page : List ℕ) (b : ℕ) {claims other : List ℕ} → Reordered claims other → claim_for a page b claims ≡ claim_for a page b other
+pub claim-reordered : (a : Result Layout Refusal) (page : List ℕ) (b : ℕ) {claims other : List ℕ} → Reordered claims other → claim_for a page b claims ≡ claim_for a page b other
 unfolding claim_for
-claim-reordered (Accepted l) page b r = claim_in-reordered (plan_of l) page b r
-claim-reordered (Refused x) page b r = refl
+claim-reordered (Ok l) page b r = claim_in-reordered (plan_of l) page b r
+claim-reordered (Err x) page b r = refl

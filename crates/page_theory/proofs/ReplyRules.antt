@@ -3,6 +3,9 @@
 -- all the turns never fall: where several rules apply the smallest number wins, but that 11 comes between 3 and 4 (document 02, E7; replies/Given
 -- `smallest-after`). All are said of whatever names the layout, with its list of rules; layout_replies/ReplyRules `words-ruled` and `words-ascends` give that of
 -- layout words, where the edition and the record's length are looked at first.
+use Rattle.std.specs.Prelude.{Result, Err}
+use Rattle.layout.specs.declared.Refusal.{Refusal}
+use Rattle.layout_plan.specs.declared.Layout.{Layout}
 use mathlib.Core.Path.{◌≡◌, refl, ◌∙◌}
 use mathlib.Core.Bool.{Bool, true, false, cond}
 use mathlib.Core.List.{List, [], ◌∷◌, ◌++◌}
@@ -12,14 +15,12 @@ use lib.ListN.{length, drop}
 use lib.Dec.{eqb, ltb, lit≤}
 use borrow.Author.Tests.{le-leb}
 use Rattle.replies.specs.declared.Refusal.TheVariants.{PageLength, BufferLength, OutOfRange, Uncorrectable, ClaimWrong}
-use Rattle.replies.specs.declared.Verdict.TheVariants.{Refused}
 use Rattle.replies.specs.Replies.{number, block, verdict_number, verdict_block, unequal, Rule, rule, verdict, reply, reply_block}
 use Rattle.replies.specs.Given as none
 use Rattle.replies.specs.Given.{None, Follows, Exactly, turn, at_most, ascending}
 use Rattle.replies.proofs.Tests.{leb-not}
 use Rattle.replies.proofs.Given.{follows_next, none-verdict, verdict-none, append-kept, append-refused, exactly}
 use Rattle.layout_plan.specs.declared.Plan.{Plan}
-use Rattle.layout.specs.declared.Acceptance.{Acceptance}
 use Rattle.layout_plan.specs.Plan.{plan_of, field, level}
 use Rattle.layout_replies.specs.ReplyRules.{Ruled, accepts, refuses, Ascends}
 use Rattle.layout_replies.proofs.ReplyRules.{refused-follows, accepted-follows, ascends-after}
@@ -55,13 +56,13 @@ module _ (m d page : List ℕ) where
       go true false c = record { number = refl; beside = refl }
       go false b c = record { number = refl; beside = refl }
 
-pub write-replies : {before : List Rule} {q : Plan} {a : Acceptance} → Ruled before q a → (m d page : List ℕ)
+pub write-replies : {before : List Rule} {q : Plan} {a : Result Layout Refusal} → Ruled before q a → (m d page : List ℕ)
     → Follows (write_rules before q m d page) (write_for a m d page).reply (write_for a m d page).block
 unfolding write_rules write_for
 write-replies (accepts l none) m d page = accepted-follows none (write-in m d page (plan_of l))
 write-replies {before} (refuses q r e) m d page = refused-follows before r e _
 
-pub write-exactly : {before : List Rule} {q : Plan} {a : Acceptance} → Ruled before q a → (m d page : List ℕ)
+pub write-exactly : {before : List Rule} {q : Plan} {a : Result Layout Refusal} → Ruled before q a → (m d page : List ℕ)
     → Exactly (write_rules before q m d page) (write_for a m d page).reply (write_for a m d page).block
 write-exactly h m d page = exactly (write_rules _ _ m d page) (write-replies h m d page)
 
@@ -70,7 +71,7 @@ write-exactly h m d page = exactly (write_rules _ _ m d page) (write-replies h m
 -- A reading of the first n blocks, and what the rules about them say.
 data Reads (q : Plan) (page : List ℕ) (n : ℕ) : Reading → Type 0 where
   whole : (w : Word) → None (ruined_rules q page n) → Reads q page n (done w)
-  named : (b : ℕ) → verdict (ruined_rules q page n) ≡ Refused (Uncorrectable b) → Reads q page n (refused b)
+  named : (b : ℕ) → verdict (ruined_rules q page n) ≡ Err (Uncorrectable b) → Reads q page n (refused b)
 
 module _ (q : Plan) (page : List ℕ) where
   reads-next : (n : ℕ) (r : Reading) → Reads q page n r → (o : Outcome) → outcome q page n ≡ o → Reads q page (suc n) (more n r o)
@@ -129,23 +130,23 @@ module _ (q : Plan) (page : List ℕ) where
         go true false z = record { number = refl; beside = refl }
         go false y z = record { number = refl; beside = refl }
 
-pub look-replies : {before : List Rule} {q : Plan} {a : Acceptance} → Ruled before q a → (page c : List ℕ)
+pub look-replies : {before : List Rule} {q : Plan} {a : Result Layout Refusal} → Ruled before q a → (page c : List ℕ)
     → Follows (look_rules before q page c) (look_for a page c).reply (look_for a page c).block
 unfolding look_rules look_for
 look-replies (accepts l none) page c = accepted-follows none (look-in (plan_of l) page c)
 look-replies {before} (refuses q r e) page c = refused-follows before r e _
 
-pub look-exactly : {before : List Rule} {q : Plan} {a : Acceptance} → Ruled before q a → (page c : List ℕ)
+pub look-exactly : {before : List Rule} {q : Plan} {a : Result Layout Refusal} → Ruled before q a → (page c : List ℕ)
     → Exactly (look_rules before q page c) (look_for a page c).reply (look_for a page c).block
 look-exactly h page c = exactly (look_rules _ _ page c) (look-replies h page c)
 
-pub take-replies : {before : List Rule} {q : Plan} {a : Acceptance} → Ruled before q a → (page m d : List ℕ)
+pub take-replies : {before : List Rule} {q : Plan} {a : Result Layout Refusal} → Ruled before q a → (page m d : List ℕ)
     → Follows (take_rules before q page m d) (take_for a page m d).reply (take_for a page m d).block
 unfolding take_rules take_for
 take-replies (accepts l none) page m d = accepted-follows none (take_in_lem (plan_of l) page m d)
 take-replies {before} (refuses q r e) page m d = refused-follows before r e _
 
-pub take-exactly : {before : List Rule} {q : Plan} {a : Acceptance} → Ruled before q a → (page m d : List ℕ)
+pub take-exactly : {before : List Rule} {q : Plan} {a : Result Layout Refusal} → Ruled before q a → (page m d : List ℕ)
     → Exactly (take_rules before q page m d) (take_for a page m d).reply (take_for a page m d).block
 take-exactly h page m d = exactly (take_rules _ _ page m d) (take-replies h page m d)
 
@@ -185,23 +186,23 @@ module _ (q : Plan) (page : List ℕ) (b : ℕ) where
         go true false o = record { number = refl; beside = refl }
         go false y o = record { number = refl; beside = refl }
 
-pub judge-replies : {before : List Rule} {q : Plan} {a : Acceptance} → Ruled before q a → (page : List ℕ) (b : ℕ)
+pub judge-replies : {before : List Rule} {q : Plan} {a : Result Layout Refusal} → Ruled before q a → (page : List ℕ) (b : ℕ)
     → Follows (judge_rules before q page b) (judge_for a page b).reply (judge_for a page b).block
 unfolding judge_rules judge_for
 judge-replies (accepts l none) page b = accepted-follows none (judge-in (plan_of l) page b)
 judge-replies {before} (refuses q r e) page b = refused-follows before r e _
 
-pub judge-exactly : {before : List Rule} {q : Plan} {a : Acceptance} → Ruled before q a → (page : List ℕ) (b : ℕ)
+pub judge-exactly : {before : List Rule} {q : Plan} {a : Result Layout Refusal} → Ruled before q a → (page : List ℕ) (b : ℕ)
     → Exactly (judge_rules before q page b) (judge_for a page b).reply (judge_for a page b).block
 judge-exactly h page b = exactly (judge_rules _ _ page b) (judge-replies h page b)
 
-pub claim-replies : {before : List Rule} {q : Plan} {a : Acceptance} → Ruled before q a → (page : List ℕ) (b : ℕ) (claims : List ℕ)
+pub claim-replies : {before : List Rule} {q : Plan} {a : Result Layout Refusal} → Ruled before q a → (page : List ℕ) (b : ℕ) (claims : List ℕ)
     → Follows (claim_rules before q page b claims) (claim_for a page b claims).reply (claim_for a page b claims).block
 unfolding claim_rules claim_for
 claim-replies (accepts l none) page b claims = accepted-follows none (claim-in (plan_of l) page b claims)
 claim-replies {before} (refuses q r e) page b claims = refused-follows before r e _
 
-pub claim-exactly : {before : List Rule} {q : Plan} {a : Acceptance} → Ruled before q a → (page : List ℕ) (b : ℕ) (claims : List ℕ)
+pub claim-exactly : {before : List Rule} {q : Plan} {a : Result Layout Refusal} → Ruled before q a → (page : List ℕ) (b : ℕ) (claims : List ℕ)
     → Exactly (claim_rules before q page b claims) (claim_for a page b claims).reply (claim_for a page b claims).block
 claim-exactly h page b claims = exactly (claim_rules _ _ page b claims) (claim-replies h page b claims)
 

@@ -1,6 +1,8 @@
 -- The tail is ignored (document 01, "Layout words"), and so is the mark (document 02, E7): two pages of one length that agree in every covered bit
 -- are looked at, taken, judged and claimed about with the same answers, whatever their tails and marks hold; whether or not a layout is accepted, with
 -- any pages and any lent buffers.
+use Rattle.std.specs.Prelude.{Result, Ok, Err}
+use Rattle.layout.specs.declared.Refusal.{Refusal}
 use mathlib.Core.Path.{◌≡◌, refl, ap, ap₂}
 use mathlib.Core.List.{List}
 use Prim.Native.Nat.{ℕ, zero, suc, ◌≤◌, ◌<◌}
@@ -14,8 +16,6 @@ use mathlib.Core.Bool.{Bool, true, false, cond}
 use Rattle.bits.proofs.Runs.{run-cong}
 use Rattle.layout_plan.specs.declared.Plan.{Plan}
 use Rattle.layout_plan.specs.declared.Layout.{Layout}
-use Rattle.layout.specs.declared.Acceptance.{Acceptance}
-use Rattle.layout.specs.declared.Acceptance.TheVariants.{Accepted, Refused}
 use Rattle.layout_plan.specs.Plan.{plan_of}
 use Rattle.page_theory.specs.Page.{block_word}
 use Rattle.page_theory.specs.Reading.{outcome, more, reading_of, reading, count_of, counts}
@@ -69,26 +69,26 @@ module _ (q : Plan) (page other : List ℕ) (size : length page ≡ length other
     | no l ↦ rw (size, outside b (omega arith) (length other))
   ]
 
-module _ (l : Layout) (page other : List ℕ) (alike : SameBlocks (Accepted l) page other) where
+module _ (l : Layout) (page other : List ℕ) (alike : SameBlocks (Ok l) page other) where
   same-words : (b : ℕ) → b < (plan_of l).blocks → block_word (plan_of l) page b ≡ block_word (plan_of l) other b
   same-words b h = block_word-cong (plan_of l) page other b (alike.bits l refl b h)
 
-pub tail-look : (a : Acceptance) (page other : List ℕ) → SameBlocks a page other → (c : List ℕ) → look_for a page c ≡ look_for a other c
+pub tail-look : (a : Result Layout Refusal) (page other : List ℕ) → SameBlocks a page other → (c : List ℕ) → look_for a page c ≡ look_for a other c
 unfolding look_for
-tail-look (Refused r) page other alike c = refl
-tail-look (Accepted l) page other alike c = tail-look_in (plan_of l) page other alike.size (same-words l page other alike) c
+tail-look (Err r) page other alike c = refl
+tail-look (Ok l) page other alike c = tail-look_in (plan_of l) page other alike.size (same-words l page other alike) c
 
-pub tail-take : (a : Acceptance) (page other : List ℕ) → SameBlocks a page other → (m d : List ℕ) → take_for a page m d ≡ take_for a other m d
+pub tail-take : (a : Result Layout Refusal) (page other : List ℕ) → SameBlocks a page other → (m d : List ℕ) → take_for a page m d ≡ take_for a other m d
 unfolding take_for
-tail-take (Refused r) page other alike m d = refl
-tail-take (Accepted l) page other alike m d = tail-take_in (plan_of l) page other alike.size (same-words l page other alike) m d
+tail-take (Err r) page other alike m d = refl
+tail-take (Ok l) page other alike m d = tail-take_in (plan_of l) page other alike.size (same-words l page other alike) m d
 
-pub tail-judge : (a : Acceptance) (page other : List ℕ) → SameBlocks a page other → (b : ℕ) → judge_for a page b ≡ judge_for a other b
+pub tail-judge : (a : Result Layout Refusal) (page other : List ℕ) → SameBlocks a page other → (b : ℕ) → judge_for a page b ≡ judge_for a other b
 unfolding judge_for
-tail-judge (Refused r) page other alike b = refl
-tail-judge (Accepted l) page other alike b = tail-judge_in (plan_of l) page other alike.size (same-words l page other alike) b
+tail-judge (Err r) page other alike b = refl
+tail-judge (Ok l) page other alike b = tail-judge_in (plan_of l) page other alike.size (same-words l page other alike) b
 
-pub tail-claim : (a : Acceptance) (page other : List ℕ) → SameBlocks a page other → (b : ℕ) (claims : List ℕ) → claim_for a page b claims ≡ claim_for a other b claims
+pub tail-claim : (a : Result Layout Refusal) (page other : List ℕ) → SameBlocks a page other → (b : ℕ) (claims : List ℕ) → claim_for a page b claims ≡ claim_for a other b claims
 unfolding claim_for
-tail-claim (Refused r) page other alike b claims = refl
-tail-claim (Accepted l) page other alike b claims = tail-claim_in (plan_of l) page other alike.size (same-words l page other alike) b claims
+tail-claim (Err r) page other alike b claims = refl
+tail-claim (Ok l) page other alike b claims = tail-claim_in (plan_of l) page other alike.size (same-words l page other alike) b claims

@@ -3,6 +3,9 @@
 -- flips never passes as an untouched block."
 --
 -- It is said of one block, whatever became of the others, and of what looking at the page and judging the block report.
+use Rattle.std.specs.Prelude.{Result}
+use Rattle.layout.specs.declared.Refusal.{Refusal}
+use Rattle.layout_plan.specs.declared.Layout.{Layout}
 use mathlib.Core.Path.{◌≡◌, refl, sym, ap, ◌∙◌}
 use mathlib.Core.Bool.{Bool}
 use mathlib.Core.List.{List, ◌++◌}
@@ -11,7 +14,6 @@ use native.Mathlib.Omega.{arith}
 use native.Mathlib.Decide.{dec_le, dec_lt, ℕ_discrete}
 use lib.ListN.{length, get_or}
 use Rattle.mark.specs.Mark.{stream_bit}
-use Rattle.layout.specs.declared.Acceptance.{Acceptance}
 use Rattle.layout_plan.specs.declared.Plan.{Plan}
 use Rattle.layout_plan.specs.Plan.{bits, field, level, covered, start, Valid}
 use Rattle.code.specs.Word.{Word, distance}
@@ -102,7 +104,7 @@ look_by-counts (refused b) c = refl
 
 -- of the calls
 
-module _ (a : Acceptance) (q : Plan) (accepted : Accepts a q) (m d page : List ℕ) (s : ℕ → ℕ → Bool) (h : WrittenAndChanged a q m d page s)
+module _ (a : Result Layout Refusal) (q : Plan) (accepted : Accepts a q) (m d page : List ℕ) (s : ℕ → ℕ → Bool) (h : WrittenAndChanged a q m d page s)
     (lent : List ℕ) (room : length lent ≡ q.blocks) where
   as_written : Changed q (page_of q h.lent (m ++ d)) page s
   as_written = rw (write_done a q accepted m d h.lent h.payload h.size) at h.changed

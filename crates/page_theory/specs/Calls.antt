@@ -16,14 +16,14 @@
 -- Of each call: `..Ended` is what it ends with; `..Reply` the reply about lengths and numbers under a plan, 0 where they are
 -- right; `..By` how it ends by what the page, the block or the claim turns out to be; `..In` the call under a plan, `..For`
 -- with the answer to a layout, whatever names it, `..Of` with layout words: a record and the edition beside it (document 02, E13).
-use Rattle.std.specs.Prelude.{false, cond, List, ◌++◌, ℕ, ◌+◌, ◌*◌, length, get_or, eqb, ltb}
+use Rattle.layout.specs.declared.Refusal.{Refusal}
+use Rattle.layout_plan.specs.declared.Layout.{Layout}
+use Rattle.std.specs.Prelude.{false, cond, List, ◌++◌, ℕ, ◌+◌, ◌*◌, length, get_or, eqb, ltb, Result, Ok, Err}
 use Rattle.field.specs.declared.Field.{Field}
 use Rattle.bits.specs.Bits.{bytes}
 use Rattle.replies.specs.Replies.{unless}
 use Rattle.layout_plan.specs.Record.{Words}
 use Rattle.layout_plan.specs.declared.Plan.{Plan}
-use Rattle.layout.specs.declared.Acceptance.{Acceptance}
-use Rattle.layout.specs.declared.Acceptance.TheVariants.{Accepted, Refused}
 use Rattle.layout_plan.specs.Plan.{plan_of, field, level}
 use Rattle.layout.specs.Acceptance.{acceptance, refusal_reply}
 use Rattle.code.specs.Word.{Word}
@@ -56,9 +56,9 @@ write_in q metadata «data» page =
     (write_ended 0 0 (page_of q page (metadata ++ «data»)))
     (write_ended (write_reply q (length metadata) (length «data») (length page)) 0 page)
 
-unfoldable pub write_for : Acceptance → List ℕ → List ℕ → List ℕ → Written
-write_for (Accepted l) metadata «data» page = write_in (plan_of l) metadata «data» page
-write_for (Refused r) metadata «data» page = write_ended (refusal_reply r) 0 page
+unfoldable pub write_for : Result Layout Refusal → List ℕ → List ℕ → List ℕ → Written
+write_for (Ok l) metadata «data» page = write_in (plan_of l) metadata «data» page
+write_for (Err r) metadata «data» page = write_ended (refusal_reply r) 0 page
 
 abbrev pub write_of : Words → List ℕ → List ℕ → List ℕ → Written
 write_of rec metadata «data» page = write_for (acceptance rec) metadata «data» page
@@ -91,9 +91,9 @@ look_in q page lent =
     (look_by (reading q page) (counts q page))
     (look_ended (look_reply q (length page) (length lent)) 0 lent)
 
-unfoldable pub look_for : Acceptance → List ℕ → List ℕ → Looked
-look_for (Accepted l) page lent = look_in (plan_of l) page lent
-look_for (Refused r) page lent = look_ended (refusal_reply r) 0 lent
+unfoldable pub look_for : Result Layout Refusal → List ℕ → List ℕ → Looked
+look_for (Ok l) page lent = look_in (plan_of l) page lent
+look_for (Err r) page lent = look_ended (refusal_reply r) 0 lent
 
 abbrev pub look_of : Words → List ℕ → List ℕ → Looked
 look_of rec page lent = look_for (acceptance rec) page lent
@@ -131,9 +131,9 @@ take_in q page metadata «data» =
     (take_by q (reading q page) metadata «data»)
     (take_ended (take_reply q (length page) (length metadata) (length «data»)) 0 metadata «data»)
 
-unfoldable pub take_for : Acceptance → List ℕ → List ℕ → List ℕ → Taken
-take_for (Accepted l) page metadata «data» = take_in (plan_of l) page metadata «data»
-take_for (Refused r) page metadata «data» = take_ended (refusal_reply r) 0 metadata «data»
+unfoldable pub take_for : Result Layout Refusal → List ℕ → List ℕ → List ℕ → Taken
+take_for (Ok l) page metadata «data» = take_in (plan_of l) page metadata «data»
+take_for (Err r) page metadata «data» = take_ended (refusal_reply r) 0 metadata «data»
 
 abbrev pub take_of : Words → List ℕ → List ℕ → List ℕ → Taken
 take_of rec page metadata «data» = take_for (acceptance rec) page metadata «data»
@@ -166,9 +166,9 @@ judge_in q page b =
     (judge_by b (outcome q page b))
     (judge_ended (block_reply q (length page) b) 0 0)
 
-unfoldable pub judge_for : Acceptance → List ℕ → ℕ → Judged
-judge_for (Accepted l) page b = judge_in (plan_of l) page b
-judge_for (Refused r) page b = judge_ended (refusal_reply r) 0 0
+unfoldable pub judge_for : Result Layout Refusal → List ℕ → ℕ → Judged
+judge_for (Ok l) page b = judge_in (plan_of l) page b
+judge_for (Err r) page b = judge_ended (refusal_reply r) 0 0
 
 abbrev pub judge_of : Words → List ℕ → ℕ → Judged
 judge_of rec page b = judge_for (acceptance rec) page b
@@ -192,9 +192,9 @@ claim_in q page b claims =
     (claim_by (right? (field q b) (level q b) (block_word q page b) claims))
     (claim_ended (block_reply q (length page) b))
 
-unfoldable pub claim_for : Acceptance → List ℕ → ℕ → List ℕ → Claimed
-claim_for (Accepted l) page b claims = claim_in (plan_of l) page b claims
-claim_for (Refused r) page b claims = claim_ended (refusal_reply r)
+unfoldable pub claim_for : Result Layout Refusal → List ℕ → ℕ → List ℕ → Claimed
+claim_for (Ok l) page b claims = claim_in (plan_of l) page b claims
+claim_for (Err r) page b claims = claim_ended (refusal_reply r)
 
 abbrev pub claim_of : Words → List ℕ → ℕ → List ℕ → Claimed
 claim_of rec page b claims = claim_for (acceptance rec) page b claims

@@ -10,23 +10,22 @@
 -- turn x b                          the bit b, turned over where x is true
 -- Damaged q before after s          the page `after` is the page `before` with the sets s turned over, and any tail and mark
 -- WrittenAndDamaged a q m d page s      metadata m and data d were written, and damage made `page` of the written page
-use Rattle.std.specs.Prelude.{◌≡◌, Bool, cond, List, ℕ, zero, suc, ◌+◌, ◌≤◌, ◌<◌, length}
+use Rattle.layout.specs.declared.Refusal.{Refusal}
+use Rattle.std.specs.Prelude.{◌≡◌, Bool, cond, List, ℕ, zero, suc, ◌+◌, ◌≤◌, ◌<◌, length, Result, Ok}
 use Rattle.algebra.specs.Word.{flip}
 use Rattle.bits.specs.Bits.{digit, Bytes}
 use Rattle.mark.specs.Mark.{stream_bit}
 use Rattle.layout_plan.specs.declared.Plan.{Plan}
 use Rattle.layout_plan.specs.declared.Layout.{Layout}
-use Rattle.layout.specs.declared.Acceptance.{Acceptance}
-use Rattle.layout.specs.declared.Acceptance.TheVariants.{Accepted}
 use Rattle.layout_plan.specs.Plan.{plan_of, level, covered, start, Valid}
 use Rattle.page_theory.specs.Calls.{write_for}
 
 -- The laws about pages speak of an answer that accepts a layout, whatever names the layout: layout words w with their edition have the answer
 -- `acceptance w`. That the plan is valid stands here because an answer could come with any numbers; proofs/Accepted `words-accepts` shows that the
 -- answer to layout words does not, so that nothing is left to suppose.
-pub record Accepts (a : Acceptance) (q : Plan) : Type 0 where
+pub record Accepts (a : Result Layout Refusal) (q : Plan) : Type 0 where
   pub layout : Layout
-  pub accepted : a ≡ Accepted layout
+  pub accepted : a ≡ Ok layout
   pub plan : q ≡ plan_of layout
   pub valid : Valid q
 
@@ -59,7 +58,7 @@ pub record Damaged (q : Plan) (before after : List ℕ) (s : ℕ → ℕ → Boo
 
 -- The writer was lent some page of PAGE_SIZE bytes, and nothing but the damage changed the page that it left. The edition is part of the layout
 -- (document 02, E13): a page is written and read under one answer `a`.
-pub record WrittenAndDamaged (a : Acceptance) (q : Plan) (m d page : List ℕ) (s : ℕ → ℕ → Bool) : Type 0 where
+pub record WrittenAndDamaged (a : Result Layout Refusal) (q : Plan) (m d page : List ℕ) (s : ℕ → ℕ → Bool) : Type 0 where
   pub payload : Payload q m d
   pub lent : List ℕ
   pub size : length lent ≡ q.size

@@ -9,10 +9,11 @@
 -- Answered a page lent b o            o is what looking at the page and judging block b report of that block
 -- Means t c e                           what a count c up to t says of the number e of flips: they are c, or at least 2t + 1 - c
 -- Unharmed q s                          no covered bit was turned over, or in some block more than 2t were
-use Rattle.std.specs.Prelude.{◌≡◌, Bool, List, ℕ, ◌+◌, ◌*◌, ◌≤◌, ◌<◌, length, get_or}
+use Rattle.layout.specs.declared.Refusal.{Refusal}
+use Rattle.layout_plan.specs.declared.Layout.{Layout}
+use Rattle.std.specs.Prelude.{◌≡◌, Bool, List, ℕ, ◌+◌, ◌*◌, ◌≤◌, ◌<◌, length, get_or, Result}
 use Rattle.bits.specs.Bits.{Bytes}
 use Rattle.mark.specs.Mark.{stream_bit}
-use Rattle.layout.specs.declared.Acceptance.{Acceptance}
 use Rattle.layout_plan.specs.declared.Plan.{Plan}
 use Rattle.layout_plan.specs.Plan.{level, covered, start}
 use Rattle.code.specs.Word.{Word}
@@ -28,7 +29,7 @@ pub record Changed (q : Plan) (before after : List ℕ) (s : ℕ → ℕ → Boo
       → stream_bit q.mark after (start q b + j) ≡ turn (s b j) (stream_bit q.mark before (start q b + j))
 
 -- The writer was lent some page of PAGE_SIZE bytes, and nothing but the damage changed the page that it left.
-pub record WrittenAndChanged (a : Acceptance) (q : Plan) (m d page : List ℕ) (s : ℕ → ℕ → Bool) : Type 0 where
+pub record WrittenAndChanged (a : Result Layout Refusal) (q : Plan) (m d page : List ℕ) (s : ℕ → ℕ → Bool) : Type 0 where
   pub payload : Payload q m d
   pub lent : List ℕ
   pub size : length lent ≡ q.size
@@ -49,7 +50,7 @@ pub data Worn (t e : ℕ) : Outcome → Type 0 where
   is_read : (m : Word) (n : ℕ) → 2 * t + 1 ≤ n + e → Worn t e (good m n)
 
 -- The count that looking leaves for the block (255 where it is ruined), and the answer to judging it (9 where it is ruined).
-pub record Answered (a : Acceptance) (page lent : List ℕ) (b : ℕ) (o : Outcome) : Type 0 where
+pub record Answered (a : Result Layout Refusal) (page lent : List ℕ) (b : ℕ) (o : Outcome) : Type 0 where
   pub looked : get_or (look_for a page lent).counts b 0 ≡ count_of o
   pub judged : judge_for a page b ≡ judge_by b o
 
