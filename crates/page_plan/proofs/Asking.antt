@@ -14,10 +14,9 @@ use native.Mathlib.Omega.{arith}
 use lib.ListN.{length}
 use lib.Dec.{eqb, ltb}
 use borrow.Author.Tests.{eqb-true, ltb-true}
+use Rattle.std.specs.Prelude.{⊤, Result, Ok, Err}
 use Rattle.replies.specs.declared.Refusal.{Refusal}
 use Rattle.replies.specs.declared.Refusal.TheVariants as refusal
-use Rattle.replies.specs.declared.Verdict.{Verdict}
-use Rattle.replies.specs.declared.Verdict.TheVariants.{Passed, Refused}
 use Rattle.replies.specs.Replies.{number, block, verdict_number}
 use Rattle.replies.proofs.Given.{number-positive}
 use Rattle.layout.specs.declared.Refusal as kinds
@@ -47,11 +46,11 @@ number-bare refusal.MarkOutside l = refl
 pub layout-bare : (r : kinds.Refusal) → block (refusal_of r) ≡ 0
 layout-bare r = refusal-block r
 
-pub told-passed : {v : Verdict} {n : ℕ} → v ≡ Passed → verdict_number v ≡ n → n ≡ 0
+pub told-passed : {v : Result ⊤ Refusal} {n : ℕ} → v ≡ Ok _ → verdict_number v ≡ n → n ≡ 0
 unfolding verdict_number
 told-passed e k = sym k ∙ ap verdict_number e
 
-pub told-number : {v : Verdict} {r : Refusal} {n : ℕ} → v ≡ Refused r → verdict_number v ≡ n → number r ≡ n
+pub told-number : {v : Result ⊤ Refusal} {r : Refusal} {n : ℕ} → v ≡ Err r → verdict_number v ≡ n → number r ≡ n
 unfolding verdict_number
 told-number e k = sym (ap verdict_number e) ∙ k
 

@@ -8,7 +8,7 @@
 -- block_inside, pads-inside  each of its blocks lies in the stream of the page, without its pads and with them
 -- from_first, from-product   where the message of a block starts in the payload
 -- message-inside             each message lies in the payload
-use mathlib.Core.Path.{◌≡◌, refl, sym, ap, ◌∙◌}
+use mathlib.Core.Path.{◌≡◌, sym, ap, ◌∙◌}
 use mathlib.Core.Bool.{Bool, true, false, cond}
 use mathlib.Core.Logic.{⊎_elim}
 use mathlib.Core.List.{List}
@@ -17,14 +17,13 @@ use lib.Dec.{ltb}
 use native.Mathlib.Nat.{eq-zero-or-pos}
 use native.Mathlib.Omega.{arith}
 use lib.ListN.{length, get_or}
+use Rattle.std.specs.Prelude.{Ok}
 use Rattle.mark.specs.Mark.{InStream}
 use Rattle.replies.proofs.Editions.{highest-small}
 use Rattle.layout_plan.specs.declared.Fields.{Fields}
 use Rattle.layout_plan.specs.declared.Layout.{Layout}
 use Rattle.layout_plan.specs.declared.Shape.{Shape}
 use Rattle.layout_plan.specs.declared.Plan.{Plan}
-use Rattle.layout.specs.declared.Finding.TheVariants.{Kept}
-use Rattle.layout.specs.declared.Acceptance.TheVariants.{Accepted}
 use Rattle.layout_plan.specs.Record.{Words, block_fields, fields_at, fields_under, fields_in}
 use Rattle.layout_plan.specs.Plan.{shape_with, shape_of, data_bytes, plan_for, plan_of, shape, field, level, bits, covered, start, room, from, payload, Valid}
 use Rattle.layout.specs.Acceptance.{finding_of, acceptance}
@@ -70,7 +69,7 @@ one_later : (f : Fields) (b : ℕ) → 0 < b → (field (plan_for f) b ≡ (plan
 unfolding plan_for
 one_later f b l = let e = shape-later (plan_for f) b l in (ap (λ (s : Shape). s.field) (sym e), ap (λ (s : Shape). s.level) (sym e))
 
-fields-planned : (f : Fields) → Ranges f → finding_of f (plan_for f) ≡ Kept → Planned (plan_for f)
+fields-planned : (f : Fields) → Ranges f → finding_of f (plan_for f) ≡ Ok _ → Planned (plan_for f)
 unfolding plan_for data_bytes
 fields-planned f r e =
     let k = keeps f (plan_for f) e in
@@ -90,7 +89,7 @@ fields-planned f r e =
       «data» = omega arith;
     }
 
-pub accepted-planned : (rec : Words) (l : Layout) → ((i : ℕ) → get_or rec.bytes i 0 < 256) → acceptance rec ≡ Accepted l → Planned (plan_of l)
+pub accepted-planned : (rec : Words) (l : Layout) → ((i : ℕ) → get_or rec.bytes i 0 < 256) → acceptance rec ≡ Ok l → Planned (plan_of l)
 accepted-planned rec l b e = rw (accepted-plan rec l e) (fields-planned (fields_in rec) (ranges rec b) (accepted-kept rec l e))
 
 -- so the answer to layout words is sound

@@ -5,12 +5,11 @@
 -- Planned q        what the plan of an accepted layout has
 -- Ready q page     q is such a plan, and the page has its size
 -- Sound a          where the answer a to a layout accepts it, its plan is such a plan; what names the layout does not matter
-use Rattle.std.specs.Prelude.{◌≡◌, List, ℕ, ◌%◌, ◌≤◌, ◌<◌, length}
+use Rattle.layout.specs.declared.Refusal.{Refusal}
+use Rattle.std.specs.Prelude.{◌≡◌, List, ℕ, ◌%◌, ◌≤◌, ◌<◌, length, Result, Ok}
 use Rattle.layout_plan.specs.declared.Shape.{Shape}
 use Rattle.layout_plan.specs.declared.Plan.{Plan}
 use Rattle.layout_plan.specs.declared.Layout.{Layout}
-use Rattle.layout.specs.declared.Acceptance.{Acceptance}
-use Rattle.layout.specs.declared.Acceptance.TheVariants.{Accepted}
 use Rattle.layout_plan.specs.Plan.{plan_of, field, level, Valid}
 
 -- The stored generators are those of t = 0, 2, 4, .., 62 (document 01, "Layout words": t is twice the level field).
@@ -32,8 +31,8 @@ pub record Planned (q : Plan) : Type 0 where
   pub metadata : q.metadata < 256
   pub «data» : q.«data» < 4294967296
 
-abbrev pub Sound : Acceptance → Type 0
-Sound a = (l : Layout) → a ≡ Accepted l → Planned (plan_of l)
+abbrev pub Sound : Result Layout Refusal → Type 0
+Sound a = (l : Layout) → a ≡ Ok l → Planned (plan_of l)
 
 pub record Ready (q : Plan) (page : List ℕ) : Type 0 where
   pub plan : Planned q

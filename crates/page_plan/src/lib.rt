@@ -18,19 +18,19 @@ ghost use Rattle.page_plan.specs.Plans.{Planned};
 
 use division_table::make_table;
 use layout_plan::{Plan, Shape};
-use replies::{Refusal, Verdict};
+use replies::Refusal;
 
 // What a page's length and a block number are refused for (document 01, "Replies").
-pub fn block_reply(plan: Plan, page: usize, block: u64) -> Verdict
+pub fn block_reply(plan: Plan, page: usize, block: u64) -> Result<(), Refusal>
     ensures { verdict_number result ≡ block_reply plan page block }
 {
     if page != plan.size as usize {
-        return Verdict::Refused(Refusal::PageLength);
+        return Err(Refusal::PageLength);
     }
     if plan.blocks as u64 <= block {
-        return Verdict::Refused(Refusal::OutOfRange);
+        return Err(Refusal::OutOfRange);
     }
-    Verdict::Passed
+    Ok(())
 }
 
 // The bits of n messages of a shape.
