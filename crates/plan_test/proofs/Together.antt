@@ -13,13 +13,13 @@ use native.Mathlib.Omega.{arith}
 use lib.Dec.{eqb, leb, ltb}
 use lib.ListN.{get_or}
 use borrow.Author.Tests.{eqb-true, leb-true, leb-false, ltb-true, eq-eqb, le-leb, lt-ltb}
+use Rattle.std.specs.Prelude.{Ok}
 use Rattle.field.specs.Field.{longest}
 use Rattle.field.specs.declared.Field.TheVariants.{Thirteen}
 use Rattle.layout_plan.specs.declared.Fields.{Fields}
 use Rattle.layout_plan.specs.declared.Layout.{Layout}
 use Rattle.layout_plan.specs.declared.Shape.{Shape}
 use Rattle.layout_plan.specs.declared.Plan.{Plan}
-use Rattle.layout.specs.declared.Acceptance.TheVariants.{Accepted}
 use Rattle.layout_plan.specs.Record.{Words, fields_in}
 use Rattle.layout_plan.specs.Plan.{shape_with, shape_of, later_shape, plan_for, plan_of, shape, field, level, start, room, from, payload, Summed, Valid}
 use Rattle.layout.specs.Acceptance.{acceptance}
@@ -258,7 +258,7 @@ module _ (f : Fields) (k : Keeps f (plan_for f)) (p : Planned (plan_for f)) wher
         payload = let w = from-product (plan_for f) (plan_for f).blocks (omega arith) in omega (arith, p.valid.whole);
       }
 
-pub accepted-together : (w : Words) (l : Layout) → ((i : ℕ) → get_or w.bytes i 0 < 256) → acceptance w ≡ Accepted l → holds_together (plan_of l) ≡ true
+pub accepted-together : (w : Words) (l : Layout) → ((i : ℕ) → get_or w.bytes i 0 < 256) → acceptance w ≡ Ok l → holds_together (plan_of l) ≡ true
 accepted-together w l b e =
     let f = fields_in w in
     let p = accepted-plan w l e in

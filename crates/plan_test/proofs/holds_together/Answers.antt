@@ -1,9 +1,7 @@
 use mathlib.Core.Path.{◌≡◌, sym, ◌∙◌}
 use mathlib.Core.Bool.{and-false, false≢true}
-use borrow.Author.Tests.{not-true, not-false}
 use Rattle.plan_test.specs.Together.{holds_together}
 use Rattle.plan_test.proofs.Together.{together-planned}
-use borrow.Author.Rules.{rules}
 use Rattle.plan_test.proofs.holds_together.Goals as goal
 
 pub returns-then-not-counted : goal.returns-then-not-counted

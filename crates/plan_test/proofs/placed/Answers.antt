@@ -1,6 +1,5 @@
 use borrow.Author.Tests.{le-leb, lt-leb}
 use Rattle.plan_test.specs.Together.{placed}
-use borrow.Author.Rules.{rules}
 use Rattle.plan_test.proofs.placed.Goals as goal
 
 pub returns-then-size-end : goal.returns-then-size-end

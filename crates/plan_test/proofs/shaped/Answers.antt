@@ -6,7 +6,6 @@ use borrow.Author.Tests.{ne_eqb, lt-leb}
 use Rattle.plan_test.specs.Together.{shaped}
 use Rattle.layout_plan.proofs.Plans.{degree-small, product_le}
 use Rattle.plan_test.proofs.Shapes.{shaped-odd, shaped-none, shaped-code}
-use borrow.Author.Rules.{rules}
 use Rattle.plan_test.proofs.shaped.Goals as goal
 
 pub returns-then-level-ne0 : goal.returns-then-level-ne0

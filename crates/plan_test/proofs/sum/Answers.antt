@@ -1,6 +1,5 @@
 use native.Mathlib.Omega.{arith}
 use Rattle.layout_plan.proofs.Plans.{product_le}
-use borrow.Author.Rules.{rules}
 use Rattle.plan_test.proofs.sum.Goals as goal
 
 pub overflow_mul-result : goal.overflow_mul-result

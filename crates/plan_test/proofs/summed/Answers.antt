@@ -4,7 +4,6 @@ use native.Mathlib.Omega.{arith}
 use borrow.Author.Tests.{eq-eqb, ne_eqb, lt-ltb, le-ltb}
 use Rattle.plan_test.specs.Together.{summed}
 use Rattle.layout_plan.specs.Plan.{payload}
-use borrow.Author.Rules.{rules}
 use Rattle.plan_test.proofs.summed.Goals as goal
 
 pub returns-then-blocks-eq0 : goal.returns-then-blocks-eq0
