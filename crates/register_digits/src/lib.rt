@@ -24,10 +24,8 @@ fn last_bits(state: Register, n: usize) -> [u8; 112]
 {
     let words = state.words;
     let mut bytes = [0u8; 112];
-    let mut i = (896 - n) / 8;
-    while i < 112 {
+    for i in (896 - n) / 8..112 {
         bytes[i] = ((words[13 - i / 8] >> (56 - 8 * (i % 8))) % 256) as u8;
-        i += 1;
     }
     bytes
 }
@@ -47,10 +45,8 @@ fn whole_words(bytes: &[u8], at: usize, count: usize) -> Register
     ensures { register result.words ≡ number (run (bit_of bytes.now) at (64 * count)) }
 {
     let mut words = [0u64; 14];
-    let mut i = 0;
-    while i < count {
+    for i in 0..count {
         words[i] = word_at(bytes, at + 64 * (count - 1 - i));
-        i += 1;
     }
     Register { words: words }
 }

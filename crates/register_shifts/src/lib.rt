@@ -20,12 +20,10 @@ pub fn pushed(state: Register, used: usize, k: usize, lowest: u64) -> Register
 {
     let mut words = state.words;
     let mut carry = lowest;
-    let mut i = 0;
-    while i < used {
+    for i in 0..used {
         let w = words[i];
         words[i] = (w << k) + carry;
         carry = w >> (64 - k);
-        i += 1;
     }
     Register { words: words }
 }
@@ -45,10 +43,8 @@ fn without_words(state: Register, q: usize) -> Register
 {
     let from = state.words;
     let mut words = [0u64; 14];
-    let mut i = 0;
-    while i + q < 14 {
+    for i in 0..14 - q {
         words[i] = from[i + q];
-        i += 1;
     }
     Register { words: words }
 }
@@ -60,10 +56,8 @@ fn without_digits(state: Register, k: usize) -> Register
 {
     let from = state.words;
     let mut words = [0u64; 14];
-    let mut i = 0;
-    while i < 13 {
+    for i in 0..13 {
         words[i] = (from[i] >> k) + (from[i + 1] << (64 - k));
-        i += 1;
     }
     words[13] = from[13] >> k;
     Register { words: words }
@@ -75,6 +69,7 @@ pub fn raised(state: Register, k: usize) -> Register
 {
     let mut r = state;
     let mut left = k;
+    // By hand: a turn takes 63 digits, the most that `pushed` moves, and not one.
     while 63 < left {
         r = pushed(r, 14, 63, 0);
         left -= 63;

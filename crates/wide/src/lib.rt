@@ -50,10 +50,8 @@ pub fn row_added(state: Wide, rows: &[u8], from: usize, count: usize) -> Wide
     ensures { register result.words ≡ bit_xor (little (drop from rows.now) (8 * count)) (register state.words) }
 {
     let mut sum = state.words;
-    let mut i = 0;
-    while i < count {
+    for i in 0..count {
         sum[i] = eight_low(rows, from + 8 * i) ^ sum[i];
-        i += 1;
     }
     Wide { words: sum }
 }
@@ -63,10 +61,8 @@ pub fn store_word(rows: &mut [u8], to: usize, w: u64)
     requires { to + 8 ≤ length rows.old }
     ensures { (little (drop to rows.new) 8 ≡ w) × Only to 8 rows.old rows.new }
 {
-    let mut i = 0;
-    while i < 8 {
+    for i in 0..8 {
         rows[to + i] = ((w >> (8 * i)) % 256) as u8;
-        i += 1;
     }
 }
 
@@ -76,9 +72,7 @@ pub fn store_row(rows: &mut [u8], to: usize, row: Wide, count: usize)
     ensures { (little (drop to rows.new) (8 * count) ≡ low row.words count) × Only to (8 * count) rows.old rows.new }
 {
     let words = row.words;
-    let mut i = 0;
-    while i < count {
+    for i in 0..count {
         store_word(rows, to + 8 * i, words[i]);
-        i += 1;
     }
 }

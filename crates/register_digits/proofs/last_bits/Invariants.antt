@@ -5,7 +5,4 @@ use Rattle.code.specs.Register.{register}
 use Rattle.register_digits.proofs.last_bits.Given as goal
 
 abbrev pub invariant-loop-i : goal.invariant-loop-i
-invariant-loop-i l = (l.i ≤ 112) × (length l.bytes ≡ 112) × ((k : ℕ) → (896 - l.n) / 8 ≤ k → k < l.i → get_or l.bytes k 0 ≡ register l.words / 2 ^ (8 * (111 - k)) % 256)
-
-abbrev pub decreases-loop-i : goal.decreases-loop-i
-decreases-loop-i l = 112 - l.i
+invariant-loop-i l = (length l.bytes ≡ 112) × ((k : ℕ) → (896 - l.n) / 8 ≤ k → k < l.i → get_or l.bytes k 0 ≡ register l.words / 2 ^ (8 * (111 - k)) % 256)

@@ -6,7 +6,4 @@ use Rattle.code.specs.Register.{low}
 use Rattle.register_digits.proofs.whole_words.Given as goal
 
 abbrev pub invariant-loop-i : goal.invariant-loop-i
-invariant-loop-i l = (l.i ≤ l.count) × (length l.words ≡ 14) × (low l.words l.i ≡ number (run (bit_of l.bytes) (l.at + 64 * (l.count - l.i)) (64 * l.i))) × ((k : ℕ) → l.i ≤ k → get_or l.words k 0 ≡ 0)
-
-abbrev pub decreases-loop-i : goal.decreases-loop-i
-decreases-loop-i l = l.count - l.i
+invariant-loop-i l = (length l.words ≡ 14) × (low l.words l.i ≡ number (run (bit_of l.bytes) (l.at + 64 * (l.count - l.i)) (64 * l.i))) × ((k : ℕ) → l.i ≤ k → get_or l.words k 0 ≡ 0)

@@ -15,19 +15,18 @@ unfolding low
 loop-i-init c = search rules
 
 pub overflow_add-words : goal.overflow_add-words
-overflow_add-words c = record { fits = shift_fits _ _ _ (omega arith) c.loop-i.invariant.2 }
+overflow_add-words c = record { fits = shift_fits _ _ _ (omega arith) c.loop-i.invariant.1 }
 
 pub loop-i-preserved : goal.loop-i-preserved
 loop-i-preserved c = let s = c.loop-i in
     let v = c.args.state.words in
-    let e = s.invariant.4 s.i (le_refl s.i) in
+    let e = s.invariant.3 s.i (le_refl s.i) in
     let f : Fits w64 (get_or v s.i 0) = search rules in (
-      omega arith,
       search rules,
       carry-below _ _ (omega arith) (rw e f.fits),
-      shift-next _ _ _ _ _ _ (omega arith) (omega arith) s.invariant.3 e,
-      above-store s.words v s.i _ s.invariant.4,
-      store_below s.words s.i _ (omega arith) (shift_fits _ _ _ (omega arith) s.invariant.2) s.invariant.5,
+      shift-next _ _ _ _ _ _ (omega arith) (omega arith) s.invariant.2 e,
+      above-store s.words v s.i _ s.invariant.3,
+      store_below s.words s.i _ (omega arith) (shift_fits _ _ _ (omega arith) s.invariant.1) s.invariant.4,
     )
 
 pub returns : goal.returns
@@ -35,4 +34,4 @@ returns c = let s = c.loop-i in
     let v = c.args.state.words in
     let l : length v ≡ 14 = search rules in
     let e : s.i ≡ c.args.used = omega arith in
-    shift-end s.words v s.i c.args.k s.carry c.args.lowest (omega arith) (s.invariant.1 ∙ sym l) s.invariant.5 s.invariant.3 s.invariant.4 (rw e c.requires.4) ∙ rw e
+    shift-end s.words v s.i c.args.k s.carry c.args.lowest (omega arith) (s.invariant.0 ∙ sym l) s.invariant.4 s.invariant.2 s.invariant.3 (rw e c.requires.4) ∙ rw e

@@ -1,12 +1,8 @@
-use Prim.Native.Nat.{ℕ, ◌≤◌, ◌<◌, ◌-◌, ◌+◌, ◌*◌, ◌^◌}
+use Prim.Native.Nat.{ℕ, ◌≤◌, ◌<◌, ◌+◌, ◌*◌, ◌^◌}
 use mathlib.Core.Path.{◌≡◌}
 use lib.ListN.{length, get_or}
 use Rattle.code.specs.Register.{low}
 use Rattle.register_shifts.proofs.pushed.Given as goal
 
 abbrev pub invariant-loop-i : goal.invariant-loop-i
-invariant-loop-i l = (l.i ≤ l.used) × (length l.words ≡ 14) × (l.carry < 2 ^ l.k) × (low l.words l.i + l.carry * 2 ^ (64 * l.i) ≡ low l.initial.words l.i * 2 ^ l.k + l.lowest)
-    × ((j : ℕ) → l.i ≤ j → get_or l.words j 0 ≡ get_or l.initial.words j 0) × (low l.words l.i < 2 ^ (64 * l.i))
-
-abbrev pub decreases-loop-i : goal.decreases-loop-i
-decreases-loop-i l = l.used - l.i
+invariant-loop-i l = (length l.words ≡ 14) × (l.carry < 2 ^ l.k) × (low l.words l.i + l.carry * 2 ^ (64 * l.i) ≡ low l.initial.words l.i * 2 ^ l.k + l.lowest) × ((j : ℕ) → l.i ≤ j → get_or l.words j 0 ≡ get_or l.initial.words j 0) × (low l.words l.i < 2 ^ (64 * l.i))

@@ -8,7 +8,7 @@ use Rattle.register_shifts.proofs.Shifts.{down_fits, down-start, down-next, down
 use Rattle.register_shifts.proofs.without_digits.Goals as goal
 
 pub loop-i-init : goal.loop-i-init
-loop-i-init c = (search rules, search rules, down-start _ _ c.args.k)
+loop-i-init c = (search rules, down-start _ _ c.args.k)
 
 pub overflow_add-words-in-loop-i : goal.overflow_add-words-in-loop-i
 overflow_add-words-in-loop-i c = let s = c.loop-i in
@@ -20,7 +20,7 @@ overflow_add-words-in-loop-i c = let s = c.loop-i in
 pub loop-i-preserved : goal.loop-i-preserved
 loop-i-preserved c = let s = c.loop-i in
     let a = c.args in
-    (omega arith, search rules, down-next s.words a.state.words s.i a.k (omega arith) (omega arith) s.invariant.2)
+    (search rules, down-next s.words a.state.words s.i a.k (omega arith) (omega arith) s.invariant.1)
 
 pub returns : goal.returns
 returns c = let s = c.loop-i in
@@ -28,4 +28,4 @@ returns c = let s = c.loop-i in
     let v = a.state.words in
     let l : length v ≡ 14 = search rules in
     let e : s.i ≡ 13 = omega arith in
-    down-end s.words v 13 a.k s.invariant.1 l (rw e at s.invariant.2)
+    down-end s.words v 13 a.k s.invariant.0 l (rw e at s.invariant.1)

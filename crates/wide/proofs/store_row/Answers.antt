@@ -14,9 +14,9 @@ pub loop-i-preserved : goal.loop-i-preserved
 loop-i-preserved c = let s = c.loop-i in
     let x = c.args in
     let called = c.store_word in
-    (omega arith, search rules, word-stored x.to s.i s.rows called.new.rows x.row.words s.invariant.2 called.ensures.0 called.ensures.1, only-more x.to s.i s.invariant.3 called.ensures.1)
+    (search rules, word-stored x.to s.i s.rows called.new.rows x.row.words s.invariant.1 called.ensures.0 called.ensures.1, only-more x.to s.i s.invariant.2 called.ensures.1)
 
 pub returns : goal.returns
 returns c = let s = c.loop-i in
     let e : s.i ≡ c.args.count = omega arith in
-    (rw e at s.invariant.2, rw e at s.invariant.3)
+    (rw e at s.invariant.1, rw e at s.invariant.2)

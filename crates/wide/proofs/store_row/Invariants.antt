@@ -1,4 +1,4 @@
-use Prim.Native.Nat.{◌≤◌, ◌-◌, ◌*◌}
+use Prim.Native.Nat.{◌*◌}
 use mathlib.Core.Path.{◌≡◌}
 use lib.ListN.{length, drop}
 use Rattle.code.specs.Register.{low}
@@ -6,7 +6,4 @@ use Rattle.wide.specs.Bytes.{little, Only}
 use Rattle.wide.proofs.store_row.Given as goal
 
 abbrev pub invariant-loop-i : goal.invariant-loop-i
-invariant-loop-i l = (l.i ≤ l.count) × (length l.rows ≡ length l.initial.rows) × (little (drop l.to l.rows) (8 * l.i) ≡ low l.words l.i) × Only l.to (8 * l.i) l.initial.rows l.rows
-
-abbrev pub decreases-loop-i : goal.decreases-loop-i
-decreases-loop-i l = l.count - l.i
+invariant-loop-i l = (length l.rows ≡ length l.initial.rows) × (little (drop l.to l.rows) (8 * l.i) ≡ low l.words l.i) × Only l.to (8 * l.i) l.initial.rows l.rows

@@ -13,10 +13,10 @@ loop-i-init c = search rules
 pub loop-i-preserved : goal.loop-i-preserved
 loop-i-preserved c = let s = c.loop-i in
     let x = c.args in
-    (omega arith, search rules, byte-stored x.to s.i x.w _ s.rows (omega arith) s.invariant.2 refl, only_next x.to s.i _ s.invariant.3)
+    (search rules, byte-stored x.to s.i x.w _ s.rows (omega arith) s.invariant.1 refl, only_next x.to s.i _ s.invariant.2)
 
 pub returns : goal.returns
 returns c = let s = c.loop-i in
     let x = c.args in
     let e : s.i ≡ 8 = omega arith in
-    (rw e at s.invariant.2 ∙ mod-eq_of_lt (search rules), rw e at s.invariant.3)
+    (rw e at s.invariant.1 ∙ mod-eq_of_lt (search rules), rw e at s.invariant.2)
