@@ -29,10 +29,8 @@ pub fn clear_row(rows: &mut [u8], n: usize, v: usize)
 {
     let size = row_bytes(n);
     let to = size * v;
-    let mut i = 0;
-    while i < size {
+    for i in 0..size {
         rows[to + i] = 0;
-        i += 1;
     }
 }
 
@@ -57,11 +55,9 @@ pub fn put_power(rows: &mut [u8], n: usize, from: usize, plus: usize, to: usize,
     let b = size * plus;
     let c = size * to;
     store_word(rows, c, 0);
-    let mut i = 8;
-    while i < size {
+    for i in 8..size {
         let byte = joined(rows[a + i], rows[a + i - 1], k);
         rows[c + i] = byte ^ rows[b + i];
-        i += 1;
     }
 }
 
@@ -75,9 +71,7 @@ pub fn add_row(rows: &mut [u8], n: usize, one: usize, other: usize, to: usize)
     let a = size * one;
     let b = size * other;
     let c = size * to;
-    let mut i = 0;
-    while i < size {
+    for i in 0..size {
         rows[c + i] = rows[a + i] ^ rows[b + i];
-        i += 1;
     }
 }

@@ -31,7 +31,6 @@ pub loop-i-init : goal.loop-i-init
 unfolding little
 loop-i-init c = let n = c.args.n in
     let e = c.row_bytes-size.ensures in (
-      omega arith,
       refl,
       refl,
       only_none (c.row_bytes-size.result * c.args.to) 0 _,
@@ -49,15 +48,14 @@ loop-i-preserved c = let s = c.loop-i in
     let q = c.row_bytes-size.result * x.other in
     let to = c.row_bytes-size.result * x.to in
     let known : Bytes s.rows = λ j. (c.slice_known-in-loop-i-2-1.given j).fits in (
-      omega arith,
       search rules,
-      sum-next x.rows.now s.rows p q to s.i known (omega arith) (omega arith) (omega arith) s.invariant.3 s.invariant.2,
-      only_next to s.i _ s.invariant.3,
+      sum-next x.rows.now s.rows p q to s.i known (omega arith) (omega arith) (omega arith) s.invariant.2 s.invariant.1,
+      only_next to s.i _ s.invariant.2,
       λ h. bytes-set s.rows known (to + s.i) _ (xor_lt 8 _ _ (known (p + s.i)) (known (q + s.i))),
+      s.invariant.4,
       s.invariant.5,
       s.invariant.6,
       s.invariant.7,
-      s.invariant.8,
     )
 
 pub returns : goal.returns
@@ -66,6 +64,6 @@ returns c = let s = c.loop-i in
     let f : s.i ≡ c.row_bytes-size.result = omega arith in
     let e : s.i ≡ row_bytes x.n = f ∙ c.row_bytes-size.ensures in
     let l = size-least x.n c.row_bytes-size.ensures in (
-      λ y z. sum-made x.n x.rows.now s.rows x.one x.other x.to y z (s.invariant.4 (omega arith)) (rw (e, c.row_bytes-size.ensures) at s.invariant.2),
-      only_row x.n x.to (rw (e, c.row_bytes-size.ensures) at s.invariant.3),
+      λ y z. sum-made x.n x.rows.now s.rows x.one x.other x.to y z (s.invariant.3 (omega arith)) (rw (e, c.row_bytes-size.ensures) at s.invariant.1),
+      only_row x.n x.to (rw (e, c.row_bytes-size.ensures) at s.invariant.2),
     )

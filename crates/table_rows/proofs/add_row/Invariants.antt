@@ -1,4 +1,4 @@
-use Prim.Native.Nat.{◌<◌, ◌≤◌, ◌-◌, ◌+◌}
+use Prim.Native.Nat.{◌<◌, ◌≤◌, ◌+◌}
 use mathlib.Core.Path.{◌≡◌}
 use lib.ListN.{length, drop}
 use lib.Bits.{bit_xor}
@@ -7,9 +7,4 @@ use Rattle.wide.proofs.Bytes.{Bytes}
 use Rattle.table_rows.proofs.add_row.Given as goal
 
 abbrev pub invariant-loop-i : goal.invariant-loop-i
-invariant-loop-i l = (l.i ≤ l.size) × (length l.rows ≡ length l.initial.rows)
-    × (little (drop l.c l.rows) l.i ≡ bit_xor (little (drop l.a l.initial.rows) l.i) (little (drop l.b l.initial.rows) l.i)) × Only l.c l.i l.initial.rows l.rows × (0 < l.i → Bytes l.rows)
-    × (l.c + l.size ≤ length l.initial.rows) × (l.size ≤ 128) × (l.a + l.size ≤ l.c) × (l.b + l.size ≤ l.c)
-
-abbrev pub decreases-loop-i : goal.decreases-loop-i
-decreases-loop-i l = l.size - l.i
+invariant-loop-i l = (length l.rows ≡ length l.initial.rows) × (little (drop l.c l.rows) l.i ≡ bit_xor (little (drop l.a l.initial.rows) l.i) (little (drop l.b l.initial.rows) l.i)) × Only l.c l.i l.initial.rows l.rows × (0 < l.i → Bytes l.rows) × (l.c + l.size ≤ length l.initial.rows) × (l.size ≤ 128) × (l.a + l.size ≤ l.c) × (l.b + l.size ≤ l.c)

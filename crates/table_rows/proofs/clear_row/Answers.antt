@@ -16,12 +16,12 @@ overflow_mul-to c = let h = size-end c.args.n c.args.v c.row_bytes-size.ensures 
 pub loop-i-init : goal.loop-i-init
 unfolding little
 loop-i-init c = let e = c.row_bytes-size.ensures in
-    (omega arith, refl, refl, only_none (c.row_bytes-size.result * c.args.v) 0 _, size-end c.args.n c.args.v e c.requires.1, size-most c.args.n e c.requires.0)
+    (refl, refl, only_none (c.row_bytes-size.result * c.args.v) 0 _, size-end c.args.n c.args.v e c.requires.1, size-most c.args.n e c.requires.0)
 
 pub loop-i-preserved : goal.loop-i-preserved
 loop-i-preserved c = let s = c.loop-i in
     let to = c.row_bytes-size.result * c.args.v in
-    (omega arith, search rules, zero-next to s.i s.rows (omega arith) s.invariant.2, only_next to s.i 0 s.invariant.3, s.invariant.4, s.invariant.5)
+    (search rules, zero-next to s.i s.rows (omega arith) s.invariant.1, only_next to s.i 0 s.invariant.2, s.invariant.3, s.invariant.4)
 
 pub returns : goal.returns
 returns c = let s = c.loop-i in
@@ -29,4 +29,4 @@ returns c = let s = c.loop-i in
     let x = c.args in
     let f : s.i ≡ called.result = omega arith in
     let e : s.i ≡ row_bytes x.n = f ∙ called.ensures in
-    (row-cleared x.n s.rows x.v (rw (e, called.ensures) at s.invariant.2), only_row x.n x.v (rw (e, called.ensures) at s.invariant.3))
+    (row-cleared x.n s.rows x.v (rw (e, called.ensures) at s.invariant.1), only_row x.n x.v (rw (e, called.ensures) at s.invariant.2))
