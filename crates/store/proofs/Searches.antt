@@ -1,58 +1,76 @@
--- How the versions in use are looked through, from chip select 0 up.
+-- The searches of the versions in use, as their definitions tell them.
 --
--- among_next, among-here, among-end        how a search finds a number among the versions in use
--- known_next, known-here, known-end        how all of them are looked up
+-- among-any                       a number is among the versions in use
+-- known-all                       all of them are known
+-- found-holds                     what is found is held
+-- usable-known, usable-unknown    a version that a chip select may have in use
 use mathlib.Core.Path.{◌≡◌, refl, sym, ap, ◌∙◌}
-use mathlib.Core.Bool.{Bool, true, false, cond}
+use mathlib.Core.Bool.{Bool, true, false, cond, ◌||◌, ◌&&◌}
 use mathlib.Core.List.{List, [], ◌∷◌}
-use Prim.Native.Nat.{ℕ, ◌+◌, ◌≤◌, ◌<◌}
-use native.Mathlib.Numerals.{add-one}
-use lib.ListN.{length, get_or, drop, drop_of_length-le}
-use lib.Seq.{drop-cons}
+use Prim.Native.Nat.{ℕ}
 use lib.Dec.{eqb}
-use borrow.Author.Tests.{eq-eqb, ne_eqb}
+use Rattle.std.specs.List.{list_any, list_all}
 use Rattle.replies.specs.Replies.{among}
 use Rattle.version_list.specs.declared.Numbered.{Numbered}
-use Rattle.version_list.specs.Plain.{known}
+use Rattle.version_list.specs.Plain.{find, holds, known}
 use Rattle.version_bytes.specs.Saved.{all_known}
+use Rattle.std.specs.Prelude.{Option, Some, None, Ok, Err}
+use Rattle.std.specs.Option.{is_some}
+use Rattle.version_list.proofs.Lookups.{find-holds, find-unknown}
+use Rattle.std.proofs.Common.{rules}
+use Rattle.replies.specs.declared.Refusal.TheVariants.{OutOfRange}
+use Rattle.store.specs.declared.Refusal.{Refusal}
+use Rattle.store.specs.declared.Refusal.TheVariants.{Table}
+use Rattle.store.specs.Answers.{usable}
 
--- ---- one number among the versions in use
+either : (b c : Bool) → (b || c) ≡ cond b true c
+either true c = refl
+either false c = refl
 
-among-cons : (n x : ℕ) (xs : List ℕ) (t : Bool) → eqb n x ≡ t → among n (x ∷ xs) ≡ cond t true (among n xs)
+both : (b c : Bool) → (b && c) ≡ cond b c false
+both true c = refl
+both false c = refl
+
+any-among : (n : ℕ) (l : List ℕ) → list_any (eqb n) l ≡ among n l
 unfolding among
-among-cons n x xs t e = rw e
+any-among n [] = refl
+any-among n (x ∷ xs) = either (eqb n x) _ ∙ ap (cond (eqb n x) true) (any-among n xs)
 
-among-nil : (n : ℕ) → among n [] ≡ false
-unfolding among
-among-nil n = refl
+pub among-any : (n : ℕ) (l : List ℕ) {b : Bool} → b ≡ list_any (eqb n) l → b ≡ among n l
+among-any n l e = e ∙ any-among n l
 
-module _ (n : ℕ) (l : List ℕ) (i : ℕ) (so_far : among n l ≡ among n (drop i l)) where
-  pub among_next : i < length l → (get_or l i 0 ≡ n → ⊥) → among n l ≡ among n (drop (i + 1) l)
-  among_next h other =
-      so_far ∙ ap (among n) (drop-cons l i 0 h) ∙ among-cons n _ _ false (ne_eqb n _ (λ e. other (sym e))) ∙ rw (add-one i)
-
-  pub among-here : i < length l → get_or l i 0 ≡ n → true ≡ among n l
-  among-here h same = sym (so_far ∙ ap (among n) (drop-cons l i 0 h) ∙ among-cons n _ _ true (eq-eqb n _ (sym same)))
-
-  pub among-end : length l ≤ i → false ≡ among n l
-  among-end h = sym (so_far ∙ ap (among n) (drop_of_length-le l h) ∙ among-nil n)
-
--- ---- all of them looked up
-
-all_cons : (s : List Numbered) (n : ℕ) (ns : List ℕ) (t : Bool) → known s n ≡ t → all_known s (n ∷ ns) ≡ cond t (all_known s ns) false
+all-known : (s : List Numbered) (l : List ℕ) → list_all (known s) l ≡ all_known s l
 unfolding all_known
-all_cons s n ns t e = rw e
+all-known s [] = refl
+all-known s (x ∷ xs) = both (known s x) _ ∙ ap (λ (t : Bool). cond (known s x) t false) (all-known s xs)
 
-all_nil : (s : List Numbered) → all_known s [] ≡ true
-unfolding all_known
-all_nil s = refl
+pub known-all : (s : List Numbered) (l : List ℕ) {b : Bool} → b ≡ list_all (known s) l → b ≡ all_known s l
+known-all s l e = e ∙ all-known s l
 
-module _ (s : List Numbered) (l : List ℕ) (i : ℕ) (so_far : all_known s l ≡ all_known s (drop i l)) where
-  pub known_next : i < length l → known s (get_or l i 0) ≡ true → all_known s l ≡ all_known s (drop (i + 1) l)
-  known_next h e = so_far ∙ ap (all_known s) (drop-cons l i 0 h) ∙ all_cons s _ _ true e ∙ rw (add-one i)
+-- ---- what is found is held
 
-  pub known-here : i < length l → known s (get_or l i 0) ≡ false → false ≡ all_known s l
-  known-here h e = sym (so_far ∙ ap (all_known s) (drop-cons l i 0 h) ∙ all_cons s _ _ false e)
+pub found-holds : (l : List Numbered) (n : ℕ) → is_some (find l n) ≡ holds l n
+found-holds l n = go (find l n) refl
+  where
+    go : (x : Option Numbered) → find l n ≡ x → is_some x ≡ holds l n
+    go (Some e) h = sym (find-holds l n e h)
+    go None h = sym (find-unknown l n h)
 
-  pub known-end : length l ≤ i → true ≡ all_known s l
-  known-end h = sym (so_far ∙ ap (all_known s) (drop_of_length-le l h) ∙ all_nil s)
+-- ---- a version that a chip select may have in use
+
+module _ (l : List Numbered) (n : ℕ) where
+  pub usable-known : (m : ℕ) → usable l n ≡ Ok m → (known l n ≡ true) × (n ≡ m)
+  unfolding usable
+  usable-known m e = go (known l n) refl e
+    where
+      go : (t : Bool) → known l n ≡ t → cond t (Ok n) (Err (Table OutOfRange)) ≡ Ok m → (known l n ≡ true) × (n ≡ m)
+      go true k h = (k, cc h)
+      go false k h = absurd (search (rules, h))
+
+  pub usable-unknown : (r : Refusal) → usable l n ≡ Err r → (known l n ≡ false) × (r ≡ Table OutOfRange)
+  unfolding usable
+  usable-unknown r e = go (known l n) refl e
+    where
+      go : (t : Bool) → known l n ≡ t → cond t (Ok n) (Err (Table OutOfRange)) ≡ Err r → (known l n ≡ false) × (r ≡ Table OutOfRange)
+      go true k h = absurd (search (rules, h))
+      go false k h = (k, cc h)
