@@ -51,12 +51,10 @@ fn bits_taken(
         ≡ parity_from (64 * used) (2 ^ (64 * used) + low row used) (register state.words) (run (bit_of bytes.now) at n) }
 {
     let mut r = state;
-    let mut i = 0;
-    while i < n {
+    for i in 0..n {
         let read = next_bit(bytes, at + i);
         let b = bit_or_zero(read);
         r = bit_taken(r, row, used, b as u64);
-        i += 1;
     }
     r
 }

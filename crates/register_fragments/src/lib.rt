@@ -20,10 +20,8 @@ pub fn from_fragments(l: &[u32]) -> Register
     ensures { register result.words ≡ joined l.now }
 {
     let mut r = zero();
-    let mut i = 7;
-    while 0 < i {
-        i -= 1;
-        r = shifted(r, 4, 32, l[i] as u64);
+    for fragment in l.iter().rev() {
+        r = shifted(r, 4, 32, *fragment as u64);
     }
     r
 }
@@ -49,12 +47,10 @@ pub fn to_fragments(state: Register, l: &mut [u32])
     ensures { l.new ≡ fragments_of (register state.words) }
 {
     let words = state.words;
-    let mut i = 0;
-    while i < 6 {
+    for i in 0..6 {
         let at = lowest_of(i);
         let word = words[at / 64];
         l[i] = ((word >> (at % 64)) % 4294967296) as u32;
-        i += 1;
     }
     l[6] = last_fragment(words[3]);
 }

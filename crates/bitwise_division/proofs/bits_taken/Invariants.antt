@@ -1,4 +1,4 @@
-use Prim.Native.Nat.{◌≤◌, ◌+◌, ◌-◌, ◌*◌, ◌^◌}
+use Prim.Native.Nat.{◌+◌, ◌*◌, ◌^◌}
 use mathlib.Core.Path.{◌≡◌}
 use Rattle.bits.specs.Bits.{bit_of, run}
 use Rattle.code.specs.Register.{low, register}
@@ -6,7 +6,4 @@ use Rattle.remainder.specs.Parity.{parity_from}
 use Rattle.bitwise_division.proofs.bits_taken.Given as goal
 
 abbrev pub invariant-loop-i : goal.invariant-loop-i
-invariant-loop-i l = (l.i ≤ l.n) × (register l.r.words ≡ parity_from (64 * l.used) (2 ^ (64 * l.used) + low l.row l.used) (register l.initial.r.words) (run (bit_of l.bytes) l.at l.i))
-
-abbrev pub decreases-loop-i : goal.decreases-loop-i
-decreases-loop-i l = l.n - l.i
+invariant-loop-i l = register l.r.words ≡ parity_from (64 * l.used) (2 ^ (64 * l.used) + low l.row l.used) (register l.initial.r.words) (run (bit_of l.bytes) l.at l.i)
