@@ -9,7 +9,8 @@ use lib.Pow.{pow_mono}
 use Rattle.bits.specs.Bits.{Bytes}
 use Rattle.remainder.specs.Remainder.{number_of, bytes_of}
 use Rattle.register_digits.proofs.Bytes.{bytes_of-length, number_of-bytes_of, bytes_of-number_of}
-use Rattle.fragments.specs.declared.FragmentsAnswer.TheVariants.{Done}
+use Rattle.std.specs.Prelude.{Ok}
+use Rattle.replies.specs.Replies.{verdict_number, verdict_block}
 use Rattle.register_fragments.specs.Fragments.{fragments_of, joined, Fragments}
 use Rattle.remainder.specs.Remainder.{bytes_for}
 use Rattle.fragments.specs.Calls.{coefficients, ended, ending, reply, export_of, import_of}
@@ -21,13 +22,13 @@ use Rattle.fragments.proofs.Meaning.{export-right, export-lent, import-right, im
 right-again : (field b c x : ℕ) {b' c' x' : ℕ} → Right field b c x → b' ≡ b → c' ≡ c → x' ≡ x → reply field b' c' x' ≡ 0
 right-again field b c x h eb ec ex = rw (eb, ec, ex) (right-reply field b c x h)
 
-done-ending : (r : ℕ) (after before lent : List ℕ) → r ≡ 0 → after ≡ lent → ending r after before ≡ ended Done lent
-unfolding ending ended
+done-ending : (r : ℕ) (after before lent : List ℕ) → r ≡ 0 → after ≡ lent → ending r after before ≡ ended (Ok tt) lent
+unfolding ending ended verdict_number verdict_block
 done-ending r after before lent z e = rw (z, e)
 
 -- Export, then import into a remainder of the same length: `back` holds the remainder.
 pub export-import : (field : ℕ) (remainder fragments back : List ℕ) → Bytes (length remainder) remainder → length back ≡ length remainder
-    → (export_of field remainder fragments).reply ≡ 0 → import_of field (export_of field remainder fragments).lent back ≡ ended Done remainder
+    → (export_of field remainder fragments).reply ≡ 0 → import_of field (export_of field remainder fragments).lent back ≡ ended (Ok tt) remainder
 unfolding import_of
 export-import field remainder fragments back b l done =
     let right = export-right field remainder fragments done in
@@ -45,7 +46,7 @@ whole x bits bytes h e = let m : 2 ^ bits ≤ 2 ^ (8 * bytes) = pow_mono (omega 
 
 -- Import, then export to seven fragments: `back` holds the fragments.
 pub import-export : (field : ℕ) (fragments remainder back : List ℕ) → Fragments fragments → length back ≡ 7
-    → (import_of field fragments remainder).reply ≡ 0 → export_of field (import_of field fragments remainder).lent back ≡ ended Done fragments
+    → (import_of field fragments remainder).reply ≡ 0 → export_of field (import_of field fragments remainder).lent back ≡ ended (Ok tt) fragments
 unfolding export_of
 import-export field fragments remainder back f l done =
     let right = import-right field fragments remainder done in

@@ -9,11 +9,11 @@ use native.Mathlib.Omega.{arith}
 use borrow.Author.Tests.{eq-eqb, ne_eqb, eqb-true, lt-ltb, ltb-true}
 use lib.Dec.{eqb, ltb}
 use Rattle.replies.specs.declared.Refusal.TheVariants.{LevelTooHigh, BufferLength, RemainderTooWide}
-use Rattle.replies.specs.Replies.{number, block, unless}
-use Rattle.fragments.specs.declared.FragmentsAnswer.{FragmentsAnswer}
-use Rattle.fragments.specs.declared.FragmentsAnswer.TheVariants.{Done, Refused}
+use Rattle.std.specs.Prelude.{⊤, Result, Ok, Err}
+use Rattle.replies.specs.declared.Refusal.{Refusal}
+use Rattle.replies.specs.Replies.{number, block, verdict_number, verdict_block, unless}
 use Rattle.remainder.specs.Remainder.{bytes_for}
-use Rattle.fragments.specs.Calls.{level_of, offered, coefficients, fitting, ended, ending, reply}
+use Rattle.fragments.specs.Calls.{level_of, offered, coefficients, fitting, requested, ended, ending, reply}
 
 -- ---- the level field
 
@@ -68,29 +68,55 @@ module _ (bits bytes count : ℕ) where
 
 -- ---- how a call ends
 
-pub ended-lent : (a : FragmentsAnswer) (lent : List ℕ) → (ended a lent).lent ≡ lent
+pub ended-lent : (a : Result ⊤ Refusal) (lent : List ℕ) → (ended a lent).lent ≡ lent
 unfolding ended
-ended-lent Done lent = refl
-ended-lent (Refused r) lent = refl
+ended-lent a lent = refl
 
 module _ (field bytes count x : ℕ) (after before : List ℕ) where
-  pub ends-level : offered field ≡ false → ended (Refused LevelTooHigh) before ≡ ending (reply field bytes count x) after before
-  unfolding ended number block ending reply
+  pub ends-level : offered field ≡ false → ended (Err LevelTooHigh) before ≡ ending (reply field bytes count x) after before
+  unfolding ended verdict_number verdict_block number block ending reply
   ends-level a = rw a
 
   module _ (a : offered field ≡ true) where
-    pub ends-buffer : fitting (coefficients field) bytes count ≡ false → ended (Refused BufferLength) before ≡ ending (reply field bytes count x) after before
-    unfolding ended number block ending reply
+    pub ends-buffer : fitting (coefficients field) bytes count ≡ false → ended (Err BufferLength) before ≡ ending (reply field bytes count x) after before
+    unfolding ended verdict_number verdict_block number block ending reply
     ends-buffer b = rw (a, b)
 
     module _ (b : fitting (coefficients field) bytes count ≡ true) where
-      pub ends-high : ltb x (2 ^ coefficients field) ≡ false → ended (Refused RemainderTooWide) before ≡ ending (reply field bytes count x) after before
-      unfolding ended number block ending reply
+      pub ends-high : ltb x (2 ^ coefficients field) ≡ false → ended (Err RemainderTooWide) before ≡ ending (reply field bytes count x) after before
+      unfolding ended verdict_number verdict_block number block ending reply
       ends-high c = rw (a, b, c)
 
-      pub ends-done : {lent : List ℕ} → ltb x (2 ^ coefficients field) ≡ true → lent ≡ after → ended Done lent ≡ ending (reply field bytes count x) after before
-      unfolding ended ending reply
+      pub ends-done : {lent : List ℕ} → ltb x (2 ^ coefficients field) ≡ true → lent ≡ after → ended (Ok tt) lent ≡ ending (reply field bytes count x) after before
+      unfolding ended verdict_number verdict_block ending reply
       ends-done c l = rw (a, b, c, l)
+
+-- the levels and lengths of a request, as they are looked at first
+pub record Requested (field bytes count bits : ℕ) : Type 0 where
+  pub level : offered field ≡ true
+  pub lengths : fitting (coefficients field) bytes count ≡ true
+  pub number : bits ≡ coefficients field
+
+pub requested-right : (field bytes count bits : ℕ) → Ok bits ≡ requested field bytes count → Requested field bytes count bits
+unfolding requested
+requested-right field bytes count bits = go (offered field) (fitting (coefficients field) bytes count) refl refl
+  where
+    go : (a b : Bool) → offered field ≡ a → fitting (coefficients field) bytes count ≡ b
+        → Ok bits ≡ cond a (cond b (Ok (coefficients field)) (Err BufferLength)) (Err LevelTooHigh) → Requested field bytes count bits
+    go true true ea eb h = record { level = ea; lengths = eb; number = cc }
+    go true false ea eb h = let z : ◌≡◌ {A = ℕ} 0 1 = cc in absurd (omega arith)
+    go false b ea eb h = let z : ◌≡◌ {A = ℕ} 0 1 = cc in absurd (omega arith)
+
+pub requested-ends : (field bytes count x : ℕ) (after before : List ℕ) (e : Refusal) → Err e ≡ requested field bytes count
+    → ended (Err e) before ≡ ending (reply field bytes count x) after before
+unfolding requested
+requested-ends field bytes count x after before e = go (offered field) (fitting (coefficients field) bytes count) refl refl
+  where
+    go : (a b : Bool) → offered field ≡ a → fitting (coefficients field) bytes count ≡ b
+        → Err e ≡ cond a (cond b (Ok (coefficients field)) (Err BufferLength)) (Err LevelTooHigh) → ended (Err e) before ≡ ending (reply field bytes count x) after before
+    go true true ea eb h = let z : ◌≡◌ {A = ℕ} 0 1 = cc in absurd (omega arith)
+    go true false ea eb h = let k : e ≡ BufferLength = cc in rw k (ends-buffer field bytes count x after before ea eb)
+    go false b ea eb h = let k : e ≡ LevelTooHigh = cc in rw k (ends-level field bytes count x after before ea)
 
 -- the code tests the register y against the number of coefficients
 pub tested : (field x : ℕ) {y bits : ℕ} {r v : Bool} → y ≡ x → bits ≡ coefficients field → r ≡ ltb y (2 ^ bits) → r ≡ v → ltb x (2 ^ coefficients field) ≡ v

@@ -6,17 +6,17 @@
 -- offered field             whether the locator has the level: the fields 2, 4 and 8, for t = 4, 8 and 16
 -- coefficients field        mt, how many coefficients a remainder has; m is 13
 -- fitting bits bytes count  a remainder of so many bytes and a list of so many fragments have the right lengths
+-- requested field bytes count  the number of coefficients, or why a request about so many bytes and fragments is refused
 -- Ended                     a reply, its block, and the lent list afterwards
 -- ended answer lent         document 01's numbers for an answer of the code that leaves the list so
 -- ending reply after before     how a call ends: the list is written exactly if the reply is 0
 -- reply field bytes count x     the reply to a request about the number x
 -- export_of, import_of        the calls
-use Rattle.std.specs.Prelude.{Bool, true, false, cond, List, ℕ, ◌*◌, ◌^◌, length, eqb, ltb}
+use Rattle.std.specs.Prelude.{Bool, true, false, cond, List, ℕ, ◌*◌, ◌^◌, length, eqb, ltb, ⊤, Result, Ok, Err}
 use Rattle.remainder.specs.Remainder.{bytes_for, number_of, bytes_of}
+use Rattle.replies.specs.declared.Refusal.{Refusal}
 use Rattle.replies.specs.declared.Refusal.TheVariants as refusal
-use Rattle.replies.specs.Replies.{number, block, unless}
-use Rattle.fragments.specs.declared.FragmentsAnswer.{FragmentsAnswer}
-use Rattle.fragments.specs.declared.FragmentsAnswer.TheVariants as answer
+use Rattle.replies.specs.Replies.{number, verdict_number, verdict_block, unless}
 use Rattle.register_fragments.specs.Fragments.{fragments_of, joined}
 
 unfoldable pub level_of : ℕ → ℕ
@@ -31,14 +31,18 @@ coefficients field = 13 * level_of field
 unfoldable pub fitting : ℕ → ℕ → ℕ → Bool
 fitting bits bytes count = cond (eqb bytes (bytes_for bits)) (eqb count 7) false
 
+-- 1 and 6, before a number is looked at.
+unfoldable pub requested : ℕ → ℕ → ℕ → Result ℕ Refusal
+requested field bytes count =
+    cond (offered field) (cond (fitting (coefficients field) bytes count) (Ok (coefficients field)) (Err refusal.BufferLength)) (Err refusal.LevelTooHigh)
+
 pub record Ended : Type 0 where
   pub reply : ℕ
   pub block : ℕ
   pub lent : List ℕ
 
-unfoldable pub ended : FragmentsAnswer → List ℕ → Ended
-ended answer.Done lent = record { reply = 0; block = 0; lent = lent }
-ended (answer.Refused r) lent = record { reply = number r; block = block r; lent = lent }
+unfoldable pub ended : Result ⊤ Refusal → List ℕ → Ended
+ended answer lent = record { reply = verdict_number answer; block = verdict_block answer; lent = lent }
 
 unfoldable pub ending : ℕ → List ℕ → List ℕ → Ended
 ending reply after before = record { reply = reply; block = 0; lent = cond (eqb reply 0) after before }

@@ -1,16 +1,15 @@
 // Document 01's reply of each answer.
-ghost use Rattle.std.specs.Prelude.{◌≡◌, []};
-ghost use Rattle.fragments.specs.Calls.{ended};
+ghost use Rattle.std.specs.Prelude.{◌≡◌};
+ghost use Rattle.replies.specs.Replies.{verdict_number};
 
-use crate::FragmentsAnswer;
-use replies::refusal_number;
+use replies::{Refusal, refusal_number};
 
 // The reply of an answer.
-pub fn fragments_reply(answer: FragmentsAnswer) -> u8
-    ensures { result ≡ (ended answer []).reply }
+pub fn fragments_reply(answer: Result<(), Refusal>) -> u8
+    ensures { result ≡ verdict_number answer }
 {
     match answer {
-        FragmentsAnswer::Done => 0,
-        FragmentsAnswer::Refused(refusal) => refusal_number(refusal),
+        Ok(()) => 0,
+        Err(refusal) => refusal_number(refusal),
     }
 }

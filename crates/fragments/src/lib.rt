@@ -5,7 +5,9 @@
 //
 // The locator knows m = 13 and the levels t = 4, 8 and 16. Fragment 0 has the lowest coefficients, the lowest of all in its bit 0. Bit 16 of
 // fragment 6, which starts the locator, comes right above the highest coefficient at t = 16; it is zero here, as every unused bit is.
-// Neither call asks anything of its caller, and a refusal writes nothing. The steps:
+// Neither call asks anything of its caller. Its answer is that what was lent to it is written, or why it is as it was: a level that the
+// locator does not have is refused as one that is too high, a lent buffer by its length, a one above the coefficients of a remainder as
+// too wide. The steps:
 // 1. request.rt looks at the level field and the lengths.
 // 2. The number is brought into a register of the crate `remainder`, and tested for ones above bit mt - 1.
 // 3. Crate `register_fragments` writes the fragments of a register, and reads them.
@@ -23,37 +25,23 @@ use register_digits::{from_bytes, to_bytes};
 use register_fragments::{from_fragments, to_fragments};
 use remainder::coefficients::is_below;
 use replies::Refusal;
-use request::{has_lengths, is_offered, parity_bits};
-
-// The answer of either call: what was lent to it is written, or why it is as it was. A level that the locator does not have is refused
-// as one that is too high, a lent buffer by its length, a one above the coefficients of a remainder as too wide.
-#[derive(Drop)]
-pub enum FragmentsAnswer {
-    Done,
-    Refused(Refusal),
-}
+use request::requested;
 
 // The fragments of a remainder, which has the highest coefficient first, right-aligned.
 pub fn export_fragments(
     level_field: u64,
     remainder: &[u8],
     fragments: &mut [u32],
-) -> FragmentsAnswer
+) -> Result<(), Refusal>
     ensures { ended result fragments.new ≡ export_of level_field remainder.now fragments.old }
 {
-    if !is_offered(level_field) {
-        return FragmentsAnswer::Refused(Refusal::LevelTooHigh);
-    }
-    let bits = parity_bits(level_field);
-    if !has_lengths(bits, remainder.len(), fragments.len()) {
-        return FragmentsAnswer::Refused(Refusal::BufferLength);
-    }
+    let bits = requested(level_field, remainder.len(), fragments.len())?;
     let state = from_bytes(remainder);
     if !is_below(state, bits) {
-        return FragmentsAnswer::Refused(Refusal::RemainderTooWide);
+        return Err(Refusal::RemainderTooWide);
     }
     to_fragments(state, fragments);
-    FragmentsAnswer::Done
+    Ok(())
 }
 
 // The remainder that fragments hold, in the same form.
@@ -61,20 +49,14 @@ pub fn import_fragments(
     level_field: u64,
     fragments: &[u32],
     remainder: &mut [u8],
-) -> FragmentsAnswer
+) -> Result<(), Refusal>
     ensures { ended result remainder.new ≡ import_of level_field fragments.now remainder.old }
 {
-    if !is_offered(level_field) {
-        return FragmentsAnswer::Refused(Refusal::LevelTooHigh);
-    }
-    let bits = parity_bits(level_field);
-    if !has_lengths(bits, remainder.len(), fragments.len()) {
-        return FragmentsAnswer::Refused(Refusal::BufferLength);
-    }
+    let bits = requested(level_field, remainder.len(), fragments.len())?;
     let held = from_fragments(fragments);
     if !is_below(held, bits) {
-        return FragmentsAnswer::Refused(Refusal::RemainderTooWide);
+        return Err(Refusal::RemainderTooWide);
     }
     to_bytes(held, remainder);
-    FragmentsAnswer::Done
+    Ok(())
 }
