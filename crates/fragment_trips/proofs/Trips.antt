@@ -10,10 +10,9 @@ use Rattle.bits.specs.Bits.{Bytes}
 use Rattle.remainder.specs.Remainder.{number_of}
 use Rattle.register_digits.proofs.Bytes.{bytes_of-length}
 use Rattle.replies.specs.declared.Refusal.{Refusal}
-use Rattle.replies.specs.Replies.{number, block}
+use Rattle.std.specs.Prelude.{⊤, Result, Ok, Err}
+use Rattle.replies.specs.Replies.{number, block, verdict_number, verdict_block}
 use Rattle.replies.proofs.Given.{number-positive}
-use Rattle.fragments.specs.declared.FragmentsAnswer.{FragmentsAnswer}
-use Rattle.fragments.specs.declared.FragmentsAnswer.TheVariants.{Done, Refused}
 use Rattle.register_fragments.specs.Fragments.{joined, Fragments}
 use Rattle.fragments.specs.Calls.{Ended, ended, ending, reply, export_of, import_of}
 use Rattle.fragment_trips.specs.RoundTrip.{Trip, tripped, back_reply, remainder_back, fragments_back}
@@ -23,16 +22,16 @@ use Rattle.fragments.proofs.Meaning.{export-right, import-right, import-lent, ex
 use Rattle.fragments.proofs.Back.{export-import, import-export}
 
 -- an answer that is done, and one that refuses
-done-reply : (w : Ended) {a : FragmentsAnswer} (lent : List ℕ) → a ≡ Done → ended a lent ≡ w → w.reply ≡ 0
-unfolding ended
+done-reply : (w : Ended) {a : Result ⊤ Refusal} (lent : List ℕ) → a ≡ Ok tt → ended a lent ≡ w → w.reply ≡ 0
+unfolding ended verdict_number verdict_block
 done-reply w lent e h = simp (sym h, e)
 
-refused-reply : (w : Ended) {a : FragmentsAnswer} {x : Refusal} (lent : List ℕ) → a ≡ Refused x → ended a lent ≡ w → w.reply ≡ number x
-unfolding ended
+refused-reply : (w : Ended) {a : Result ⊤ Refusal} {x : Refusal} (lent : List ℕ) → a ≡ Err x → ended a lent ≡ w → w.reply ≡ number x
+unfolding ended verdict_number verdict_block
 refused-reply w lent e h = simp (sym h, e)
 
-refused-block : (w : Ended) {a : FragmentsAnswer} {x : Refusal} (lent : List ℕ) → a ≡ Refused x → ended a lent ≡ w → w.block ≡ block x
-unfolding ended
+refused-block : (w : Ended) {a : Result ⊤ Refusal} {x : Refusal} (lent : List ℕ) → a ≡ Err x → ended a lent ≡ w → w.block ≡ block x
+unfolding ended verdict_number verdict_block
 refused-block w lent e h = simp (sym h, e)
 
 refusal-some : (x : Refusal) → ¬ (number x ≡ 0)
@@ -42,15 +41,15 @@ refusal-some x e = omega (arith, number-positive x)
 trip : Ended → List ℕ → Trip
 trip ends middle = record { ends = ends; middle = middle }
 
-left : (a : FragmentsAnswer) {w : Ended} (middle : List ℕ) → ended a middle ≡ w → middle ≡ w.lent
+left : (a : Result ⊤ Refusal) {w : Ended} (middle : List ℕ) → ended a middle ≡ w → middle ≡ w.lent
 left a middle first = sym (ended-lent a middle) ∙ ap (λ (w : Ended). w.lent) first
 
-back-refused : (x : Refusal) (r found wanted : ℕ) (after before : List ℕ) → r ≡ number x → 0 ≡ block x → ended (Refused x) before ≡ ending (back_reply r found wanted) after before
-unfolding ended ending back_reply
+back-refused : (x : Refusal) (r found wanted : ℕ) (after before : List ℕ) → r ≡ number x → 0 ≡ block x → ended (Err x) before ≡ ending (back_reply r found wanted) after before
+unfolding ended verdict_number verdict_block ending back_reply
 back-refused x r found wanted after before e b = rw (e, ← b, ne_eqb (number x) 0 (refusal-some x), ne_eqb (number x) 0 (refusal-some x))
 
-back_done : (r found wanted : ℕ) (after before : List ℕ) → r ≡ 0 → found ≡ wanted → ended Done after ≡ ending (back_reply r found wanted) after before
-unfolding ended ending back_reply
+back_done : (r found wanted : ℕ) (after before : List ℕ) → r ≡ 0 → found ≡ wanted → ended (Ok tt) after ≡ ending (back_reply r found wanted) after before
+unfolding ended verdict_number verdict_block ending back_reply
 back_done r found wanted after before z e = rw (z, eq-eqb found wanted e)
 
 back-short : (r found wanted s : ℕ) (after other before : List ℕ) → r ≡ 0 → ¬ (found ≡ wanted) → s ≡ 6 → ending s other before ≡ ending (back_reply r found wanted) after before
@@ -59,14 +58,14 @@ back-short r found wanted s after other before z n e = rw (z, ne_eqb found wante
 
 -- ---- export, then import
 
-module _ (field : ℕ) (remainder fragments back middle : List ℕ) {a : FragmentsAnswer} (first : ended a middle ≡ export_of field remainder fragments) where
-  pub export-import-refused : {x : Refusal} → a ≡ Refused x → tripped (Refused x) middle back ≡ remainder_back field remainder fragments back
+module _ (field : ℕ) (remainder fragments back middle : List ℕ) {a : Result ⊤ Refusal} (first : ended a middle ≡ export_of field remainder fragments) where
+  pub export-import-refused : {x : Refusal} → a ≡ Err x → tripped (Err x) middle back ≡ remainder_back field remainder fragments back
   unfolding remainder_back export_of ending trip
   export-import-refused {x} e =
       let w = export_of field remainder fragments in
       ap₂ trip (back-refused x _ _ _ _ _ (refused-reply w middle e first) (refused-block w middle e first)) (left a middle first)
 
-  module _ (e : a ≡ Done) where
+  module _ (e : a ≡ Ok tt) where
     exported : (export_of field remainder fragments).reply ≡ 0
     exported = done-reply (export_of field remainder fragments) middle e first
 
@@ -89,21 +88,21 @@ module _ (field : ℕ) (remainder fragments back middle : List ℕ) {a : Fragmen
           | no l ↦ back-short _ _ _ _ _ _ _ z l (import-short l)
         ]
 
-    pub export-import-done : (b : FragmentsAnswer) (after : List ℕ) → Bytes (length remainder) remainder → ended b after ≡ import_of field middle back
+    pub export-import-done : (b : Result ⊤ Refusal) (after : List ℕ) → Bytes (length remainder) remainder → ended b after ≡ import_of field middle back
         → tripped b middle after ≡ remainder_back field remainder fragments back
     unfolding remainder_back trip
     export-import-done b after bytes second = ap₂ trip (export-import-ends bytes second) export-middle
 
 -- ---- import, then export
 
-module _ (field : ℕ) (fragments remainder back middle : List ℕ) {a : FragmentsAnswer} (first : ended a middle ≡ import_of field fragments remainder) where
-  pub import-export-refused : {x : Refusal} → a ≡ Refused x → tripped (Refused x) middle back ≡ fragments_back field fragments remainder back
+module _ (field : ℕ) (fragments remainder back middle : List ℕ) {a : Result ⊤ Refusal} (first : ended a middle ≡ import_of field fragments remainder) where
+  pub import-export-refused : {x : Refusal} → a ≡ Err x → tripped (Err x) middle back ≡ fragments_back field fragments remainder back
   unfolding fragments_back import_of ending trip
   import-export-refused {x} e =
       let w = import_of field fragments remainder in
       ap₂ trip (back-refused x _ _ _ _ _ (refused-reply w middle e first) (refused-block w middle e first)) (left a middle first)
 
-  module _ (e : a ≡ Done) where
+  module _ (e : a ≡ Ok tt) where
     imported : (import_of field fragments remainder).reply ≡ 0
     imported = done-reply (import_of field fragments remainder) middle e first
 
@@ -129,7 +128,7 @@ module _ (field : ℕ) (fragments remainder back middle : List ℕ) {a : Fragmen
           | no l ↦ back-short _ _ _ _ _ _ _ z l (export-short l)
         ]
 
-    pub import-export-done : (b : FragmentsAnswer) (after : List ℕ) → Small fragments → ended b after ≡ export_of field middle back
+    pub import-export-done : (b : Result ⊤ Refusal) (after : List ℕ) → Small fragments → ended b after ≡ export_of field middle back
         → tripped b middle after ≡ fragments_back field fragments remainder back
     unfolding fragments_back trip
     import-export-done b after small second = ap₂ trip (import-export-ends small second) import-middle

@@ -5,11 +5,11 @@
 -- back_reply reply found wanted                   the reply of the first call, and then 6 where the list to read back into has a wrong length
 -- remainder_back field remainder fragments back   export to the list `fragments`, then import into the list `back`
 -- fragments_back field fragments remainder back   import into the list `remainder`, then export into the list `back`
-use Rattle.std.specs.Prelude.{List, ℕ, length, eqb}
+use Rattle.std.specs.Prelude.{List, ℕ, length, eqb, ⊤, Result}
+use Rattle.replies.specs.declared.Refusal.{Refusal}
 use Rattle.replies.specs.declared.Refusal.TheVariants as refusal
 use Rattle.replies.specs.Replies.{number, unless}
 use Rattle.remainder.specs.Remainder.{number_of}
-use Rattle.fragments.specs.declared.FragmentsAnswer.{FragmentsAnswer}
 use Rattle.register_fragments.specs.Fragments.{joined}
 use Rattle.fragments.specs.Calls.{Ended, ended, ending, reply, export_of, import_of}
 
@@ -17,7 +17,7 @@ pub record Trip : Type 0 where
   pub ends : Ended
   pub middle : List ℕ
 
-abbrev pub tripped : FragmentsAnswer → List ℕ → List ℕ → Trip
+abbrev pub tripped : Result ⊤ Refusal → List ℕ → List ℕ → Trip
 tripped answer middle back = record { ends = ended answer back; middle = middle }
 
 unfoldable pub back_reply : ℕ → ℕ → ℕ → ℕ

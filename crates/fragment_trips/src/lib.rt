@@ -7,7 +7,8 @@
 ghost use Rattle.std.specs.Prelude.{◌≡◌};
 ghost use Rattle.fragment_trips.specs.RoundTrip.{tripped, remainder_back, fragments_back};
 
-use fragments::{FragmentsAnswer, export_fragments, import_fragments};
+use fragments::{export_fragments, import_fragments};
+use replies::Refusal;
 
 // Exports a remainder, and imports the fragments into `back`.
 pub fn export_import(
@@ -15,14 +16,12 @@ pub fn export_import(
     remainder: &[u8],
     fragments: &mut [u32],
     back: &mut [u8],
-) -> FragmentsAnswer
+) -> Result<(), Refusal>
     ensures { tripped result fragments.new back.new
         ≡ remainder_back level_field remainder.now fragments.old back.old }
 {
-    match export_fragments(level_field, remainder, fragments) {
-        FragmentsAnswer::Done => import_fragments(level_field, fragments, back),
-        FragmentsAnswer::Refused(refusal) => FragmentsAnswer::Refused(refusal),
-    }
+    export_fragments(level_field, remainder, fragments)?;
+    import_fragments(level_field, fragments, back)
 }
 
 // Imports fragments, and exports the remainder into `back`.
@@ -31,12 +30,10 @@ pub fn import_export(
     fragments: &[u32],
     remainder: &mut [u8],
     back: &mut [u32],
-) -> FragmentsAnswer
+) -> Result<(), Refusal>
     ensures { tripped result remainder.new back.new
         ≡ fragments_back level_field fragments.now remainder.old back.old }
 {
-    match import_fragments(level_field, fragments, remainder) {
-        FragmentsAnswer::Done => export_fragments(level_field, remainder, back),
-        FragmentsAnswer::Refused(refusal) => FragmentsAnswer::Refused(refusal),
-    }
+    import_fragments(level_field, fragments, remainder)?;
+    export_fragments(level_field, remainder, back)
 }
