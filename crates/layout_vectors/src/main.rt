@@ -5,35 +5,27 @@
 // its block. An accepted layout shows its fields, sums and mark, one that breaks a rule the block kind and the two numbers compared.
 #![tactic(auto)]
 
-use layout::{Acceptance, BitAnswer, Kind, PositionAnswer, Refusal};
-use layout_plan::{BlockFields, Fields, Plan};
-
-fn choice(fields: BlockFields) -> u64 {
-    let gf = fields.gf;
-    match gf {
-        field::Field::Thirteen => 0,
-        field::Field::Fourteen => 1,
-    }
-}
+use layout::{BitPlace, Refusal};
+use layout_plan::{Fields, Plan};
 
 // The line of an accepted layout.
-fn show_accepted<R: Input + Print>(rt: &R, reply: u64, stored: Fields, plan: Plan) {
+fn show_accepted<R: Input + Print>(rt: &R, stored: Fields, plan: Plan) {
     let first = stored.first;
     let later = stored.later;
     let mark = plan.mark;
     vector_io::show(
         rt,
         &[
-            reply,
+            0,
             0,
             stored.nblocks as u64,
             stored.metadata as u64,
             first.ecc as u64,
-            choice(first),
+            first.gf as u64,
             first.units as u64,
             stored.page as u64,
             later.ecc as u64,
-            choice(later),
+            later.gf as u64,
             later.units as u64,
             plan.first.covered as u64,
             plan.later.covered as u64,
@@ -52,96 +44,65 @@ fn fields_of(edition: u64, words: &[u8]) -> Fields {
     layout_record::fields_of(edition, &record)
 }
 
-fn kind_number(kind: Kind) -> u64 {
-    match kind {
-        Kind::First => 0,
-        Kind::Later => 1,
-        Kind::Page => 2,
-    }
-}
-
-// The line of a refused layout.
-fn show_refused<R: Input + Print>(rt: &R, reply: u64, refusal: Refusal) {
+// The line of a refusal.
+fn show_refused<R: Input + Print>(rt: &R, refusal: Refusal) {
+    let reply = layout::refusal_reply(refusal) as u64;
     match refusal {
-        Refusal::Rule(reason) => {
-            let kind = reason.kind;
-            vector_io::show(
-                rt,
-                &[reply, 0, kind_number(kind), reason.found, reason.limit],
-            )
-        }
+        Refusal::Rule(reason) => vector_io::show(
+            rt,
+            &[reply, 0, reason.kind as u64, reason.found, reason.limit],
+        ),
         _ => vector_io::show(rt, &[reply, 0]),
     }
 }
 
 fn layout_line<R: Input + Print>(rt: &R, edition: u64, words: &[u8]) {
-    let answer = layout::check_layout(edition, words);
-    let reply = layout::acceptance_reply(answer) as u64;
-    match answer {
-        Acceptance::Accepted(l) => show_accepted(
-            rt,
-            reply,
-            fields_of(edition, words),
-            layout_plan::plan_of(l),
-        ),
-        Acceptance::Refused(refusal) => show_refused(rt, reply, refusal),
+    match layout::check_layout(edition, words) {
+        Ok(l) => show_accepted(rt, fields_of(edition, words), layout_plan::plan_of(l)),
+        Err(refusal) => show_refused(rt, refusal),
     }
 }
 
 // A page bit in a block shows 1, its block and its exponent; one in the tail shows 0, one in the mark 2.
 fn bit_line<R: Input + Print>(rt: &R, edition: u64, words: &[u8], position: u64) {
-    let answer = page_bits::locate_bit(edition, words, position);
-    let reply = page_bits::bit_reply(answer) as u64;
-    match answer {
-        BitAnswer::InBlock { block, exponent } => vector_io::show(
-            rt,
-            &[reply, 0, 1, block, exponent],
-        ),
-        BitAnswer::Tail => vector_io::show(rt, &[reply, 0, 0]),
-        BitAnswer::Mark => vector_io::show(rt, &[reply, 0, 2]),
-        BitAnswer::Refused(_) => vector_io::show(rt, &[reply, 0]),
+    match page_bits::locate_bit(edition, words, position) {
+        Ok(BitPlace::InBlock { block, exponent }) => {
+            vector_io::show(rt, &[0, 0, 1, block, exponent])
+        }
+        Ok(BitPlace::Tail) => vector_io::show(rt, &[0, 0, 0]),
+        Ok(BitPlace::Mark) => vector_io::show(rt, &[0, 0, 2]),
+        Err(refusal) => vector_io::show(rt, &[layout::refusal_reply(refusal) as u64, 0]),
     }
 }
 
 fn position_line<R: Input + Print>(rt: &R, edition: u64, words: &[u8], block: u64, exponent: u64) {
-    let answer = page_bits::bit_position(edition, words, block, exponent);
-    let reply = page_bits::position_reply(answer) as u64;
-    match answer {
-        PositionAnswer::Position(position) => vector_io::show(rt, &[reply, 0, position]),
-        PositionAnswer::Refused(_) => vector_io::show(rt, &[reply, 0]),
+    match page_bits::bit_position(edition, words, block, exponent) {
+        Ok(position) => vector_io::show(rt, &[0, 0, position]),
+        Err(refusal) => vector_io::show(rt, &[layout::refusal_reply(refusal) as u64, 0]),
     }
 }
 
-// Answers a call by its kind.
-fn call<R: Input + Print>(rt: &R, head: &[u8], words: &[u8]) {
+// Answers the vector of a head.
+fn answer<R: Input + Print>(rt: &R, head: &[u8; 40]) {
+    let words = text::front(&head[10..22], head[1] as usize % 13);
     let edition = vector_io::number(head, 2, 8);
     let first = vector_io::number(head, 24, 8);
     let second = vector_io::number(head, 32, 8);
-    match vector_io::byte(head, 0, 0) {
+    match head[0] {
         b'L' => layout_line(rt, edition, words),
         b'P' => bit_line(rt, edition, words, first),
         _ => position_line(rt, edition, words, first, second),
     }
 }
 
-// Answers a vector.
-fn answer<R: Input + Print>(rt: &R, head: &[u8]) {
-    let length = vector_io::byte(head, 1, 0) as usize % 13;
-    let end = 10 + length;
-    if head.len() < end {
-        return;
-    }
-    call(rt, head, &head[10..end]);
-}
-
 // Answers the next vector: false where there is none.
 fn next_vector<R: Input + Print>(rt: &R) -> bool {
     let mut head = [0u8; 40];
-    if !vector_io::fill(rt, &mut head) {
-        return false;
+    let there = vector_io::fill(rt, &mut head);
+    if there {
+        answer(rt, &head);
     }
-    answer(rt, &head);
-    true
+    there
 }
 
 fn main(rt: HostRuntime) {
