@@ -13,8 +13,9 @@ use lib.Dec.{eqb, ltb}
 use borrow.Author.Tests.{ltb-true, eqb-true}
 use Rattle.replies.specs.Replies.{among}
 use Rattle.layout_plan.specs.declared.Layout.{Layout}
-use Rattle.layout.specs.declared.Acceptance.{Acceptance}
-use Rattle.layout.specs.declared.Acceptance.TheVariants.{Accepted, Refused}
+use Rattle.layout.specs.declared.Refusal.{Refusal}
+use Rattle.layout_plan.specs.declared.Layout.{Layout}
+use Rattle.std.specs.Prelude.{Result, Ok, Err}
 use Rattle.layout_plan.specs.Record.{Words}
 use Rattle.layout_plan.specs.Plan.{plan_of}
 use Rattle.layout.specs.Acceptance.{acceptance}
@@ -30,7 +31,7 @@ pub record Refuses (s : Listed) (r : Ended) : Type 0 where
 
 pub record Added (s : Listed) (w : Words) (r : Ended) : Type 0 where
   pub layout : Layout
-  pub accepted : acceptance w ≡ Accepted layout
+  pub accepted : acceptance w ≡ Ok layout
   pub room : length s.layouts < 32
   pub number : s.next < 65536
   pub is : r ≡ ended 0 s.next (added s (numbered s.next w.edition (plan_of layout)))
@@ -54,16 +55,16 @@ pub store-cases : (s : Listed) (w : Words) → Refuses s (store_of s w) ⊎ Adde
 unfolding store_of store_for add_of add_reply
 store-cases s w = by_answer (acceptance w) refl
   where
-    by-room : (l : Layout) → acceptance w ≡ Accepted l → (t u : Bool) → ltb (length s.layouts) 32 ≡ t → ltb s.next 65536 ≡ u
+    by-room : (l : Layout) → acceptance w ≡ Ok l → (t u : Bool) → ltb (length s.layouts) 32 ≡ t → ltb s.next 65536 ≡ u
         → Refuses s (cond (eqb (cond t (cond u 0 13) 12) 0) (ended 0 s.next (added s (numbered s.next w.edition (plan_of l)))) (ended (cond t (cond u 0 13) 12) 0 s))
         ⊎ Added s w (cond (eqb (cond t (cond u 0 13) 12) 0) (ended 0 s.next (added s (numbered s.next w.edition (plan_of l)))) (ended (cond t (cond u 0 13) 12) 0 s))
     by-room l e true true h k = inr (record { layout = l; accepted = e; room = ltb-true (length s.layouts) 32 h; number = ltb-true s.next 65536 k; is = refl })
     by-room l e true false h k = inl (record { reply = λ z. omega arith; same = refl })
     by-room l e false u h k = inl (record { reply = λ z. omega arith; same = refl })
 
-    by_answer : (a : Acceptance) → acceptance w ≡ a → Refuses s (store_for a w.edition s) ⊎ Added s w (store_for a w.edition s)
-    by_answer (Accepted l) e = by-room l e (ltb (length s.layouts) 32) (ltb s.next 65536) refl refl
-    by_answer (Refused r) e = inl (record { reply = λ z. omega (arith, (refusal-reply-range r).0); same = refl })
+    by_answer : (a : Result Layout Refusal) → acceptance w ≡ a → Refuses s (store_for a w.edition s) ⊎ Added s w (store_for a w.edition s)
+    by_answer (Ok l) e = by-room l e (ltb (length s.layouts) 32) (ltb s.next 65536) refl refl
+    by_answer (Err r) e = inl (record { reply = λ z. omega (arith, (refusal-reply-range r).0); same = refl })
 
 pub remove-cases : (s : Listed) (v : ℕ) → Refuses s (remove_of s v) ⊎ Removed s v (remove_of s v)
 unfolding remove_of remove_reply

@@ -32,7 +32,7 @@ use Rattle.page_theory.proofs.Demand2.{write_done, write-only, take-blocks, look
 use Rattle.page_theory.proofs.Demand3.{looks-back, takes_back, told-apart, look-refused-naming, look-refused-when, look-refused-only}
 use Rattle.page_theory.proofs.Demand3.{take-refused-naming, take-refused-when, take-refused-only}
 use Rattle.version_list.specs.declared.Numbered.{Numbered}
-use Rattle.version_list.specs.declared.Lookup.TheVariants.{Found, Unknown}
+use Rattle.std.specs.Prelude.{Some, None}
 use Rattle.version_list.specs.Plain.{Listed, find}
 use Rattle.store_runs.specs.Runs.{lookup_answer, version_of, Call, after_all}
 use Rattle.store_runs.specs.Reached as reached
@@ -45,21 +45,21 @@ use Rattle.store_runs.proofs.Numbers.{one-layout, same_version}
 -- ---- a version that is held
 
 -- the answer to a version is the answer to its words
-found-answer : (s : Listed) (v : ℕ) (e : Numbered) → find s.layouts v ≡ Found e → (a : reached.Accepted e) → version_of s v ≡ acceptance a.words
+found-answer : (s : Listed) (v : ℕ) (e : Numbered) → find s.layouts v ≡ Some e → (a : reached.Accepted e) → version_of s v ≡ acceptance a.words
 unfolding version_of lookup_answer plan_of
 found-answer s v e h a = rw (h, a.plan) (sym a.accepted)
 
 accepted-plan : (e : Numbered) (a : reached.Accepted e) → Accepts (acceptance a.words) e.plan
 accepted-plan e a = rw a.plan (words-accepts a.words a.layout a.accepted)
 
-pub held-names : (s : Listed) → Reached s → (v : ℕ) (e : Numbered) → find s.layouts v ≡ Found e → (w : Words) × Names s v w e.plan
+pub held-names : (s : Listed) → Reached s → (v : ℕ) (e : Numbered) → find s.layouts v ≡ Some e → (w : Words) × Names s v w e.plan
 held-names s r v e h =
     let a = every-found v e r.accepted h in
     (a.words, record { entry = e; found = h; plan = refl; edition = a.edition; accepts = accepted-plan e a; answer = found-answer s v e h a })
 
 -- ---- a version that is not held
 
-module _ (s : Listed) (v : ℕ) (h : find s.layouts v ≡ Unknown) where
+module _ (s : Listed) (v : ℕ) (h : find s.layouts v ≡ None) where
   pub unknown-write : (m d page : List ℕ) → write_for (version_of s v) m d page ≡ write_ended 7 0 page
   unfolding version_of lookup_answer write_for refusal_reply refusal_of number
   unknown-write m d page = rw h
@@ -83,10 +83,10 @@ module _ (s : Listed) (v : ℕ) (h : find s.layouts v ≡ Unknown) where
 -- ---- a version that is held at two states
 
 module _ (s : Listed) (r : Reached s) (v : ℕ) (w : Words) (q : Plan) (n : Names s v w q) where
-  pub names-on : (cs : List Call) (x : Numbered) → find (after_all s cs).layouts v ≡ Found x → Names (after_all s cs) v w q
+  pub names-on : (cs : List Call) (x : Numbered) → find (after_all s cs).layouts v ≡ Some x → Names (after_all s cs) v w q
   names-on cs x h = record {
     entry = n.entry;
-    found = h ∙ ap Found (sym (one-layout v n.entry s r cs x n.found h));
+    found = h ∙ ap Some (sym (one-layout v n.entry s r cs x n.found h));
     plan = n.plan;
     edition = n.edition;
     accepts = n.accepts;
@@ -168,7 +168,7 @@ module _ (s : Listed) (r : Reached s) (v : ℕ) (w : Words) (q : Plan) (n : Name
   -- The page is written at the state s, looked at after the calls cs and taken after the calls ds, and the store holds the version each time.
   pub version-reads-back : (m d lent page : List ℕ) (f : ℕ → ℕ → Bool) → Payload q m d → length lent ≡ q.size
       → Damaged q (write_for (version_of s v) m d lent).page page f
-      → (cs ds : List Call) (x y : Numbered) → find (after_all s cs).layouts v ≡ Found x → find (after_all (after_all s cs) ds).layouts v ≡ Found y
+      → (cs ds : List Call) (x y : Numbered) → find (after_all s cs).layouts v ≡ Some x → find (after_all (after_all s cs) ds).layouts v ≡ Some y
       → (old-m old-d old-c : List ℕ) → Outputs q old-m old-d old-c
       → (look_for (version_of (after_all s cs) v) page old-c ≡ look_ended 0 0 (run (flips q f) 0 q.blocks))
       × (take_for (version_of (after_all (after_all s cs) ds) v) page old-m old-d ≡ take_ended 0 0 m d)
@@ -184,7 +184,7 @@ module _ (s : Listed) (r : Reached s) (v : ℕ) (w : Words) (q : Plan) (n : Name
   -- Two payloads are written at two states that hold the version.
   pub version-told-apart : (m d lent page : List ℕ) (f : ℕ → ℕ → Bool) → Payload q m d → length lent ≡ q.size
       → Damaged q (write_for (version_of s v) m d lent).page page f
-      → (cs : List Call) (x : Numbered) → find (after_all s cs).layouts v ≡ Found x
+      → (cs : List Call) (x : Numbered) → find (after_all s cs).layouts v ≡ Some x
       → (m' d' lent' page' : List ℕ) (f' : ℕ → ℕ → Bool) → Payload q m' d' → length lent' ≡ q.size
       → Damaged q (write_for (version_of (after_all s cs) v) m' d' lent').page page' f'
       → (m ≡ m' → d ≡ d' → ⊥)

@@ -15,7 +15,7 @@ use lib.Dec.{eqb}
 use borrow.Author.Tests.{eqb-true, eqb-false, ne_eqb}
 use Rattle.replies.specs.Replies.{among}
 use Rattle.version_list.specs.declared.Numbered.{Numbered}
-use Rattle.version_list.specs.declared.Lookup.TheVariants.{Found, Unknown}
+use Rattle.std.specs.Prelude.{Some, None}
 use Rattle.version_list.specs.Plain.{find, holds, known, without}
 use Rattle.version_bytes.specs.Saved.{all_known}
 use Rattle.store_runs.specs.Reached as reached
@@ -30,7 +30,7 @@ holds-cons : (e : Numbered) (l : List Numbered) (n : ℕ) (t : Bool) → eqb e.n
 unfolding holds
 holds-cons e l n t h = rw h
 
-find-cons : (e : Numbered) (l : List Numbered) (n : ℕ) (t : Bool) → eqb e.number n ≡ t → find (e ∷ l) n ≡ cond t (Found e) (find l n)
+find-cons : (e : Numbered) (l : List Numbered) (n : ℕ) (t : Bool) → eqb e.number n ≡ t → find (e ∷ l) n ≡ cond t (Some e) (find l n)
 unfolding find
 find-cons e l n t h = rw h
 
@@ -118,12 +118,12 @@ module _ {P : Numbered → Type 0} where
       go true k = i
       go false k = reached.next a k
 
-  pub every-found : {l : List Numbered} (v : ℕ) (x : Numbered) → Every P l → find l v ≡ Found x → P x
+  pub every-found : {l : List Numbered} (v : ℕ) (x : Numbered) → Every P l → find l v ≡ Some x → P x
   unfolding find
   every-found v x reached.none h = let z : ◌≡◌ {A = ℕ} 0 1 = cc in absurd (omega arith)
   every-found v x (reached.next {e} {l} a i) h = go (eqb e.number v) h (every-found v x i)
     where
-      go : (t : Bool) → cond t (Found e) (find l v) ≡ Found x → (find l v ≡ Found x → P x) → P x
+      go : (t : Bool) → cond t (Some e) (find l v) ≡ Some x → (find l v ≡ Some x → P x) → P x
       go true k j = let y : e ≡ x = cc in rw y at a
       go false k j = j k
 
@@ -214,23 +214,23 @@ all_small {l} {m} (n ∷ ns) some f h (suc i) = all_small ns some f (all_first l
 
 -- ---- what is found
 
-pub find-append : (l : List Numbered) (e : Numbered) (v : ℕ) (x : Numbered) → find l v ≡ Found x → find (l ++ (e ∷ [])) v ≡ Found x
+pub find-append : (l : List Numbered) (e : Numbered) (v : ℕ) (x : Numbered) → find l v ≡ Some x → find (l ++ (e ∷ [])) v ≡ Some x
 unfolding find
 find-append [] e v x h = let z : ◌≡◌ {A = ℕ} 0 1 = cc in absurd (omega arith)
 find-append (y ∷ l) e v x h = go (eqb y.number v) h (find-append l e v x)
   where
-    go : (t : Bool) → cond t (Found y) (find l v) ≡ Found x → (find l v ≡ Found x → find (l ++ (e ∷ [])) v ≡ Found x)
-        → cond t (Found y) (find (l ++ (e ∷ [])) v) ≡ Found x
+    go : (t : Bool) → cond t (Some y) (find l v) ≡ Some x → (find l v ≡ Some x → find (l ++ (e ∷ [])) v ≡ Some x)
+        → cond t (Some y) (find (l ++ (e ∷ [])) v) ≡ Some x
     go true k i = k
     go false k i = i k
 
-pub find-other : (l : List Numbered) (e : Numbered) (v : ℕ) → (e.number ≡ v → ⊥) → find l v ≡ Unknown → find (l ++ (e ∷ [])) v ≡ Unknown
+pub find-other : (l : List Numbered) (e : Numbered) (v : ℕ) → (e.number ≡ v → ⊥) → find l v ≡ None → find (l ++ (e ∷ [])) v ≡ None
 unfolding find
 find-other [] e v other h = rw (ne_eqb e.number v other)
 find-other (y ∷ l) e v other h = go (eqb y.number v) h (find-other l e v other)
   where
-    go : (t : Bool) → cond t (Found y) (find l v) ≡ Unknown → (find l v ≡ Unknown → find (l ++ (e ∷ [])) v ≡ Unknown)
-        → cond t (Found y) (find (l ++ (e ∷ [])) v) ≡ Unknown
+    go : (t : Bool) → cond t (Some y) (find l v) ≡ None → (find l v ≡ None → find (l ++ (e ∷ [])) v ≡ None)
+        → cond t (Some y) (find (l ++ (e ∷ [])) v) ≡ None
     go true k i = let z : ◌≡◌ {A = ℕ} 0 1 = cc in absurd (omega arith)
     go false k i = i k
 
@@ -240,34 +240,34 @@ find-without [] u v other = refl
 find-without (x ∷ l) u v other = go (eqb x.number u) refl (find-without l u v other)
   where
     go : (t : Bool) → eqb x.number u ≡ t → find (without l u) v ≡ find l v
-        → find (cond t l (x ∷ without l u)) v ≡ cond (eqb x.number v) (Found x) (find l v)
+        → find (cond t l (x ∷ without l u)) v ≡ cond (eqb x.number v) (Some x) (find l v)
     go true h i = rw (ne_eqb x.number v (λ z. other (sym z ∙ eqb-true x.number u h)))
-    go false h i = ap (cond (eqb x.number v) (Found x)) i
+    go false h i = ap (cond (eqb x.number v) (Some x)) i
 
-find-unheld : (l : List Numbered) (v : ℕ) → holds l v ≡ false → find l v ≡ Unknown
+find-unheld : (l : List Numbered) (v : ℕ) → holds l v ≡ false → find l v ≡ None
 unfolding find holds
 find-unheld [] v h = refl
 find-unheld (x ∷ l) v h = go (eqb x.number v) h (find-unheld l v)
   where
-    go : (t : Bool) → cond t true (holds l v) ≡ false → (holds l v ≡ false → find l v ≡ Unknown) → cond t (Found x) (find l v) ≡ Unknown
+    go : (t : Bool) → cond t true (holds l v) ≡ false → (holds l v ≡ false → find l v ≡ None) → cond t (Some x) (find l v) ≡ None
     go true k i = apart k
     go false k i = i k
 
 -- a number that stands once is gone when it is taken out
-pub find-removed : {l : List Numbered} (v : ℕ) → Once l → find (without l v) v ≡ Unknown
+pub find-removed : {l : List Numbered} (v : ℕ) → Once l → find (without l v) v ≡ None
 unfolding without find
 find-removed v reached.none = refl
 find-removed v (reached.next {e} {l} h o) = go (eqb e.number v) refl (find-removed v o)
   where
-    go : (t : Bool) → eqb e.number v ≡ t → find (without l v) v ≡ Unknown → find (cond t l (e ∷ without l v)) v ≡ Unknown
+    go : (t : Bool) → eqb e.number v ≡ t → find (without l v) v ≡ None → find (cond t l (e ∷ without l v)) v ≡ None
     go true k i = find-unheld l v (ap (holds l) (sym (eqb-true e.number v k)) ∙ h)
     go false k i = find-cons e (without l v) v false k ∙ i
 
-pub find-small : {l : List Numbered} {n : ℕ} (v : ℕ) (x : Numbered) → Fresh l n → find l v ≡ Found x → v < n
+pub find-small : {l : List Numbered} {n : ℕ} (v : ℕ) (x : Numbered) → Fresh l n → find l v ≡ Some x → v < n
 unfolding find
 find-small v x reached.none h = let z : ◌≡◌ {A = ℕ} 0 1 = cc in absurd (omega arith)
 find-small v x (reached.next {e} {l} {n} a b f) h = go (eqb e.number v) refl h (find-small v x f)
   where
-    go : (t : Bool) → eqb e.number v ≡ t → cond t (Found e) (find l v) ≡ Found x → (find l v ≡ Found x → v < n) → v < n
+    go : (t : Bool) → eqb e.number v ≡ t → cond t (Some e) (find l v) ≡ Some x → (find l v ≡ Some x → v < n) → v < n
     go true k g i = omega (arith, eqb-true e.number v k)
     go false k g i = i g

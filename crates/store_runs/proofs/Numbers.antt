@@ -14,7 +14,7 @@ use lib.Dec.{eqb}
 use borrow.Author.Tests.{eqb-true, eqb-false}
 use Rattle.layout_plan.specs.Record.{Words}
 use Rattle.version_list.specs.declared.Numbered.{Numbered}
-use Rattle.version_list.specs.declared.Lookup.TheVariants.{Found, Unknown}
+use Rattle.std.specs.Prelude.{Some, None}
 use Rattle.version_list.specs.Plain.{Listed, Ended, find, without, added, store_of, removed, with_uses}
 use Rattle.store_runs.specs.Runs.{lookup_answer, version_of, Call, store, remove, set, in_use, save, load, write, look, take, judge, claim, after, after_all}
 use Rattle.store_runs.specs.Reached.{Reached}
@@ -76,7 +76,7 @@ never-twice s w cs x h k =
 
 -- the version is the layout e, or it is gone for good
 Stays : Listed → ℕ → Numbered → Type 0
-Stays s v e = (find s.layouts v ≡ Found e) ⊎ ((find s.layouts v ≡ Unknown) × (v < s.next))
+Stays s v e = (find s.layouts v ≡ Some e) ⊎ ((find s.layouts v ≡ None) × (v < s.next))
 
 module _ (v : ℕ) (e : Numbered) where
   same-list : (s : Listed) {t : Listed} → t ≡ s → Stays s v e → Stays t v e
@@ -95,10 +95,10 @@ module _ (v : ℕ) (e : Numbered) where
   unfolding removed Stays
   stays-removed s r u a h = rw a.is (go (eqb v u) refl)
     where
-      gone : v ≡ u → v < s.next → (find (without s.layouts u) v ≡ Found e) ⊎ ((find (without s.layouts u) v ≡ Unknown) × (v < s.next))
+      gone : v ≡ u → v < s.next → (find (without s.layouts u) v ≡ Some e) ⊎ ((find (without s.layouts u) v ≡ None) × (v < s.next))
       gone z small = inr (rw (sym z) (find-removed v r.once), small)
 
-      go : (t : Bool) → eqb v u ≡ t → (find (without s.layouts u) v ≡ Found e) ⊎ ((find (without s.layouts u) v ≡ Unknown) × (v < s.next))
+      go : (t : Bool) → eqb v u ≡ t → (find (without s.layouts u) v ≡ Some e) ⊎ ((find (without s.layouts u) v ≡ None) × (v < s.next))
       go true k = gone (eqb-true v u k) (⊎_elim (λ g. find-small v e r.fresh g) (λ g. g.1) h)
       go false k =
           let same = find-without s.layouts u v (eqb-false v u k) in
@@ -128,12 +128,12 @@ module _ (v : ℕ) (e : Numbered) where
   stays_all s r (c ∷ cs) h = stays_all (after s c) (reached-after s r c) cs (stays_after s r c h)
 
   -- "the rest of demand 3 holds under one version that the store holds at each write, look and take, in one sequence of calls"
-  pub one-layout : (s : Listed) → Reached s → (cs : List Call) (x : Numbered) → find s.layouts v ≡ Found e → find (after_all s cs).layouts v ≡ Found x → e ≡ x
+  pub one-layout : (s : Listed) → Reached s → (cs : List Call) (x : Numbered) → find s.layouts v ≡ Some e → find (after_all s cs).layouts v ≡ Some x → e ≡ x
   unfolding Stays
   one-layout s r cs x h k =
       ⊎_elim (λ g. let y : e ≡ x = cc in y) (λ g. let f = g.0 in let z : ◌≡◌ {A = ℕ} 0 1 = cc in absurd (omega arith)) (stays_all s r cs (inl h))
 
-pub same_version : (s : Listed) → Reached s → (cs : List Call) (v : ℕ) (e x : Numbered) → find s.layouts v ≡ Found e → find (after_all s cs).layouts v ≡ Found x
+pub same_version : (s : Listed) → Reached s → (cs : List Call) (v : ℕ) (e x : Numbered) → find s.layouts v ≡ Some e → find (after_all s cs).layouts v ≡ Some x
     → version_of (after_all s cs) v ≡ version_of s v
 unfolding version_of
-same_version s r cs v e x h k = ap lookup_answer (k ∙ ap Found (sym (one-layout v e s r cs x h k)) ∙ sym h)
+same_version s r cs v e x h k = ap lookup_answer (k ∙ ap Some (sym (one-layout v e s r cs x h k)) ∙ sym h)

@@ -1,6 +1,6 @@
 -- "From an empty store, any sequence of calls answers as a plain list of numbered layouts beside the 16 numbers would" (document 02, E11).
 --
--- does-answer, does-after          one call of the code answers as the plain list, and hands back a store that stands for the list afterwards
+-- does-answer, does-after          one call of the code answers as the plain list, and leaves a store that stands for the list afterwards
 -- runs-as-listed                   so does any sequence of calls, from a store that stands for the empty list
 -- store-refused, remove-refused, set-refused, load-refused, save-refused    a refused call changes nothing
 use mathlib.Core.Path.{◌≡◌, refl, ap, ap₂, ◌∙◌}
@@ -9,8 +9,9 @@ use mathlib.Core.List.{List, ◌∷◌}
 use Prim.Native.Nat.{ℕ}
 use lib.ListN.{length}
 use lib.Dec.{eqb}
-use Rattle.layout.specs.declared.Acceptance.{Acceptance}
-use Rattle.layout.specs.declared.Acceptance.TheVariants.{Accepted, Refused}
+use Rattle.layout.specs.declared.Refusal.{Refusal}
+use Rattle.layout_plan.specs.declared.Layout.{Layout}
+use Rattle.std.specs.Prelude.{Result, Ok, Err}
 use Rattle.layout_plan.specs.Record.{Words}
 use Rattle.layout.specs.Acceptance.{acceptance}
 use Rattle.store.specs.declared.Store.{Store}
@@ -79,9 +80,9 @@ pub store-refused : (s : Listed) (w : Words) → ((store_of s w).reply ≡ 0 →
 unfolding store_of store_for add_of
 store-refused s w h = go (acceptance w) h
   where
-    go : (a : Acceptance) → ((store_for a w.edition s).reply ≡ 0 → ⊥) → (store_for a w.edition s).store ≡ s
-    go (Accepted l) k = kept s (add_reply s) _ refl k
-    go (Refused r) k = refl
+    go : (a : Result Layout Refusal) → ((store_for a w.edition s).reply ≡ 0 → ⊥) → (store_for a w.edition s).store ≡ s
+    go (Ok l) k = kept s (add_reply s) _ refl k
+    go (Err r) k = refl
 
 pub remove-refused : (s : Listed) (v : ℕ) → ((remove_of s v).reply ≡ 0 → ⊥) → (remove_of s v).store ≡ s
 unfolding remove_of

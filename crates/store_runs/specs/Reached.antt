@@ -6,9 +6,8 @@
 -- Every P l            P holds of every layout of the list
 -- Reached s            what a state has: at most 32 layouts, numbers up to 65,535, each once and below the next, accepted layouts, 16 numbers,
 --                      and every version in use is 0 or in the store
-use Rattle.std.specs.Prelude.{◌≡◌, true, false, List, [], ◌∷◌, ℕ, ◌≤◌, ◌<◌, length}
+use Rattle.std.specs.Prelude.{◌≡◌, true, false, List, [], ◌∷◌, ℕ, ◌≤◌, ◌<◌, length, Ok}
 use Rattle.layout_plan.specs.declared.Layout.{Layout}
-use Rattle.layout.specs.declared.Acceptance.TheVariants as answer
 use Rattle.layout_plan.specs.Record.{Words}
 use Rattle.layout_plan.specs.Plan.{plan_of}
 use Rattle.layout.specs.Acceptance.{acceptance}
@@ -27,7 +26,7 @@ pub data Once : List Numbered → Type 0 where
 pub record Accepted (e : Numbered) : Type 0 where
   pub words : Words
   pub layout : Layout
-  pub accepted : acceptance words ≡ answer.Accepted layout
+  pub accepted : acceptance words ≡ Ok layout
   pub plan : e.plan ≡ plan_of layout
   pub edition : e.edition ≡ words.edition
 

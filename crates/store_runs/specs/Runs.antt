@@ -5,31 +5,27 @@
 -- Answer               what a call answers and leaves of what was lent
 -- answer s c           what the plain list answers to a call; after s c: the list afterwards
 -- answers s cs         its answers to a sequence of calls; after_all s cs: the list after all of them
--- Does s c a t         a call of the code on the store s answers a and hands back t: its contract
+-- Does s c a t         a call of the code on the store s answers a and leaves t: its contract
 -- Runs s cs rs t       a sequence of calls of the code
-use Rattle.std.specs.Prelude.{◌≡◌, List, [], ◌∷◌, ℕ}
-use Rattle.layout.specs.declared.Acceptance.{Acceptance}
-use Rattle.layout.specs.declared.Acceptance.TheVariants.{Accepted, Refused}
+use Rattle.std.specs.Prelude.{◌≡◌, List, [], ◌∷◌, ℕ, ⊤, Option, Some, None, Result, Ok, Err}
+use Rattle.layout.specs.declared.Refusal.{Refusal}
+use Rattle.layout_plan.specs.declared.Layout.{Layout}
 use Rattle.layout.specs.declared.Refusal.TheVariants as refusal
 use Rattle.layout_plan.specs.Record.{Words}
 use Rattle.page_theory.specs.Calls.{Written, write_for, Looked, look_for, Taken, take_for, Judged, judge_for, Claimed, claim_for}
-use Rattle.version_list.specs.declared.Lookup.{Lookup}
-use Rattle.version_list.specs.declared.Lookup.TheVariants.{Found, Unknown}
+use Rattle.version_list.specs.declared.Numbered.{Numbered}
 use Rattle.store.specs.declared.Store.{Store}
-use Rattle.store.specs.declared.Stored.{Stored}
-use Rattle.store.specs.declared.Changed.{Changed}
-use Rattle.store.specs.declared.VersionAnswer.{VersionAnswer}
-use Rattle.store.specs.declared.Verdict.{Verdict}
+use Rattle.store.specs.declared.Refusal as store_refusal
 use Rattle.version_list.specs.Plain.{Listed, Ended, ended, find, store_of, remove_of, set_of, use_of}
 use Rattle.version_bytes.specs.Saved.{Saving, saving, save_of, load_of}
-use Rattle.store.specs.Answers.{answer_reply, answer_version, verdict_reply, listed}
+use Rattle.store.specs.Answers.{verdict_reply, answer_version, listed}
 
 -- The kept plan is the layout; no record is read. An unknown version is a number out of its range, before everything else.
-unfoldable pub lookup_answer : Lookup → Acceptance
-lookup_answer (Found e) = Accepted (record { plan = e.plan })
-lookup_answer Unknown = Refused refusal.Range
+unfoldable pub lookup_answer : Option Numbered → Result Layout Refusal
+lookup_answer (Some e) = Ok (record { plan = e.plan })
+lookup_answer None = Err refusal.Range
 
-unfoldable pub version_of : Listed → ℕ → Acceptance
+unfoldable pub version_of : Listed → ℕ → Result Layout Refusal
 version_of s v = lookup_answer (find s.layouts v)
 
 -- The numbers and buffers are those of the calls; a page call names its version first.
@@ -96,19 +92,19 @@ after_all s (c ∷ cs) = after_all (after s c) cs
 
 -- The contracts of the calls, each with the premise that its function ensures.
 pub data Does : Store → Call → Answer → Store → Type 0 where
-  stores : {s : Store} {w : Words} (r : Stored)
-      → ended (answer_reply r.answer) (answer_version r.answer) (listed r.store) ≡ store_of (listed s) w
-      → Does s (store w) (numbers (answer_reply r.answer) (answer_version r.answer)) r.store
-  removes : {s : Store} {v : ℕ} (r : Changed) → ended (verdict_reply r.verdict) 0 (listed r.store) ≡ remove_of (listed s) v
-      → Does s (remove v) (numbers (verdict_reply r.verdict) 0) r.store
-  sets : {s : Store} {c v : ℕ} (r : Changed) → ended (verdict_reply r.verdict) 0 (listed r.store) ≡ set_of (listed s) c v
-      → Does s (set c v) (numbers (verdict_reply r.verdict) 0) r.store
-  tells : {s : Store} {c : ℕ} (r : VersionAnswer) → ended (answer_reply r) (answer_version r) (listed s) ≡ use_of (listed s) c
-      → Does s (in_use c) (numbers (answer_reply r) (answer_version r)) s
-  saves : {s : Store} {lent : List ℕ} (r : Verdict) (bytes : List ℕ) → saving (verdict_reply r) bytes ≡ save_of (listed s) lent
+  stores : {s t : Store} {w : Words} (r : Result ℕ store_refusal.Refusal)
+      → ended (verdict_reply r) (answer_version r) (listed t) ≡ store_of (listed s) w
+      → Does s (store w) (numbers (verdict_reply r) (answer_version r)) t
+  removes : {s t : Store} {v : ℕ} (r : Result ⊤ store_refusal.Refusal) → ended (verdict_reply r) 0 (listed t) ≡ remove_of (listed s) v
+      → Does s (remove v) (numbers (verdict_reply r) 0) t
+  sets : {s t : Store} {c v : ℕ} (r : Result ⊤ store_refusal.Refusal) → ended (verdict_reply r) 0 (listed t) ≡ set_of (listed s) c v
+      → Does s (set c v) (numbers (verdict_reply r) 0) t
+  tells : {s : Store} {c : ℕ} (r : Result ℕ store_refusal.Refusal) → ended (verdict_reply r) (answer_version r) (listed s) ≡ use_of (listed s) c
+      → Does s (in_use c) (numbers (verdict_reply r) (answer_version r)) s
+  saves : {s : Store} {lent : List ℕ} (r : Result ⊤ store_refusal.Refusal) (bytes : List ℕ) → saving (verdict_reply r) bytes ≡ save_of (listed s) lent
       → Does s (save lent) (saved (saving (verdict_reply r) bytes)) s
-  loads : {s : Store} {bytes : List ℕ} (r : Changed) → ended (verdict_reply r.verdict) 0 (listed r.store) ≡ load_of (listed s) bytes
-      → Does s (load bytes) (numbers (verdict_reply r.verdict) 0) r.store
+  loads : {s t : Store} {bytes : List ℕ} (r : Result ⊤ store_refusal.Refusal) → ended (verdict_reply r) 0 (listed t) ≡ load_of (listed s) bytes
+      → Does s (load bytes) (numbers (verdict_reply r) 0) t
   writes : {s : Store} {v : ℕ} {m d page : List ℕ} (r : Written) → r ≡ write_for (version_of (listed s) v) m d page → Does s (write v m d page) (written r) s
   looks : {s : Store} {v : ℕ} {page lent : List ℕ} (r : Looked) → r ≡ look_for (version_of (listed s) v) page lent → Does s (look v page lent) (looked r) s
   takes : {s : Store} {v : ℕ} {page m d : List ℕ} (r : Taken) → r ≡ take_for (version_of (listed s) v) page m d → Does s (take v page m d) (taken r) s
