@@ -42,12 +42,9 @@ pub fn reduce(state: Wide, table: &[u8], used: usize) -> Wide
         → register result.words ≡ reduced (64 * used) g (register state.words) }
 {
     let mut r = state;
-    let mut left = 8;
-    while 0 < left {
-        let b = left - 1;
+    for b in (0..8).rev() {
         let odd = cleared(r, table, used, b, 4, 272);
         r = cleared(odd, table, used, b, 0, 256);
-        left = b;
     }
     r
 }
