@@ -17,10 +17,8 @@ fn divisor_wide(row: [u64; 14], used: usize) -> Wide
     ensures { register result.words ≡ 2 ^ (64 * used) + low row used }
 {
     let mut words = [0u64; 15];
-    let mut i = 0;
-    while i < used {
+    for i in 0..used {
         words[i] = row[i];
-        i += 1;
     }
     words[used] = 1;
     Wide { words: words }
@@ -32,10 +30,8 @@ fn word_higher(row: [u64; 14], used: usize) -> Wide
     ensures { register result.words ≡ low row used * 2 ^ 64 }
 {
     let mut words = [0u64; 15];
-    let mut i = 0;
-    while i < used {
+    for i in 0..used {
         words[i + 1] = row[i];
-        i += 1;
     }
     Wide { words: words }
 }
@@ -56,10 +52,8 @@ fn add_power(table: &mut [u8], n: usize, first: usize, i: usize)
         × OnlyRows n (first + 2 ^ i + 1) (2 ^ i - 1) table.old table.new }
 {
     let count = power(i);
-    let mut v = 1;
-    while v < count {
+    for v in 1..count {
         add_row(table, n, first + count, first + v, first + count + v);
-        v += 1;
     }
 }
 
@@ -69,10 +63,8 @@ fn fill_sums(table: &mut [u8], n: usize, first: usize, bits: usize)
     ensures { ((X : ℕ → ℕ) → Sums bits X → Powers n bits X first table.old → All n (2 ^ bits) X first table.new)
         × OnlyRows n first (2 ^ bits) table.old table.new }
 {
-    let mut i = 1;
-    while i < bits {
+    for i in 1..bits {
         add_power(table, n, first, i);
-        i += 1;
     }
 }
 
@@ -86,12 +78,10 @@ fn even_powers(table: &mut [u8], divisor: [u64; 14], used: usize, n: usize)
     clear_row(table, n, 256);
     let whole = divisor_wide(divisor, used);
     put_row(table, n, 257, whole);
-    let mut i = 1;
-    while i < 4 {
+    for i in 1..4 {
         let from = 256 + power(i - 1);
         let one = (table[row_bytes(n) * from + 8 * used + 7] / 128) as usize;
         put_power(table, n, from, 256 + one, 256 + power(i), 1);
-        i += 1;
     }
 }
 
@@ -103,10 +93,8 @@ fn odd_powers(table: &mut [u8], n: usize)
         × OnlyRows n 272 16 table.old table.new }
 {
     clear_row(table, n, 272);
-    let mut i = 0;
-    while i < 4 {
+    for i in 0..4 {
         put_power(table, n, 256 + power(i), 0, 272 + power(i), 4);
-        i += 1;
     }
 }
 
@@ -118,10 +106,8 @@ fn byte_powers(table: &mut [u8], n: usize, row: Wide)
         × OnlyRows n 1 255 table.old table.new }
 {
     put_row(table, n, 1, row);
-    let mut i = 1;
-    while i < 8 {
+    for i in 1..8 {
         put_power(table, n, power(i - 1), 0, power(i), 1);
-        i += 1;
     }
 }
 

@@ -9,18 +9,17 @@ use Rattle.division_table.proofs.fill.word_higher.Goals as goal
 
 pub loop-i-init : goal.loop-i-init
 unfolding low
-loop-i-init c = (omega arith, refl, zeros-low 15 1, λ k h. zeros-at 15 k)
+loop-i-init c = (refl, zeros-low 15 1, λ k h. zeros-at 15 k)
 
 pub loop-i-preserved : goal.loop-i-preserved
 loop-i-preserved c = let s = c.loop-i in
     let row = c.args.row in (
-      omega arith,
-      length-set s.words (s.i + 1) (get_or row s.i 0) ∙ s.invariant.1,
-      higher-next s.words row s.i (omega arith) s.invariant.2,
-      zeros-store s.words (s.i + 1) (get_or row s.i 0) s.invariant.3,
+      length-set s.words (s.i + 1) (get_or row s.i 0) ∙ s.invariant.0,
+      higher-next s.words row s.i (omega arith) s.invariant.1,
+      zeros-store s.words (s.i + 1) (get_or row s.i 0) s.invariant.2,
     )
 
 pub returns : goal.returns
 returns c = let s = c.loop-i in
     let a = c.args in
-    higher-end s.words a.row a.used (omega arith) (omega arith) s.invariant.2 s.invariant.3
+    higher-end s.words a.row a.used (omega arith) (omega arith) s.invariant.1 s.invariant.2
