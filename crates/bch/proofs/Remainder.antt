@@ -11,8 +11,7 @@ use borrow.Author.Tests.{leb-true, lt-ltb}
 use lib.Dec.{eqb, ltb, leb}
 use lib.ListN.{length, drop}
 use Rattle.field.specs.declared.Field.{Field}
-use Rattle.field.specs.declared.Choice.{Choice}
-use Rattle.field.specs.declared.Choice.TheVariants.{Offered, Unknown}
+use Rattle.std.specs.Prelude.{Option, Some, None}
 use Rattle.field.specs.Field.{degree, longest, chosen}
 use Rattle.code.specs.Word.{Word, ones}
 use Rattle.code.specs.Code.{Fits}
@@ -49,7 +48,7 @@ module _ (edition : ℕ) (f : Field) (field n : ℕ) (remainder places : List �
   unfolding locate_in remainder_in
   right-listed = rw (h.request, lt-ltb (number_of remainder) (2 ^ (degree f * level_of field)) h.low)
 
-module _ (edition : ℕ) (f : Field) (field choice n : ℕ) (remainder places : List ℕ) (known : offered edition ≡ true) (chose : chosen choice ≡ Offered f) (h : Right edition f field n remainder places) where
+module _ (edition : ℕ) (f : Field) (field choice n : ℕ) (remainder places : List ℕ) (known : offered edition ≡ true) (chose : chosen choice ≡ Some f) (h : Right edition f field n remainder places) where
   as-listed : locate_of edition field choice n remainder places ≡ list_in (locate f (level_of field) n (number_of remainder)) places
   unfolding locate_of locate_for
   as-listed = rw (known, chose) (right-listed edition f field n remainder places h)
@@ -85,10 +84,10 @@ refusal-keeps edition field choice n remainder places = known (offered edition)
     by-request true reply f z = by-low (ltb (number_of remainder) (2 ^ (degree f * level_of field))) (locate f (level_of field) n (number_of remainder)) z
     by-request false reply f z = refl
 
-    by : (c : Choice) → ¬ ((locate_for edition c field n remainder places).reply ≡ 0) → (locate_for edition c field n remainder places).places ≡ places
-    by (Offered f) z =
+    by : (c : Option Field) → ¬ ((locate_for edition c field n remainder places).reply ≡ 0) → (locate_for edition c field n remainder places).places ≡ places
+    by (Some f) z =
         by-request (eqb (request_reply edition f field n (length remainder) (length places)) 0) (request_reply edition f field n (length remainder) (length places)) f z
-    by Unknown z = refl
+    by None z = refl
 
     known : (b : Bool) → ¬ ((cond b (locate_for edition (chosen choice) field n remainder places) (refused 7 places)).reply ≡ 0)
         → (cond b (locate_for edition (chosen choice) field n remainder places) (refused 7 places)).places ≡ places

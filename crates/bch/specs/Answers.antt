@@ -11,17 +11,14 @@
 -- remainder_in ..        the call for a remainder x
 -- locate_in ..           the call in a field under an edition; locate_for: with the answer to a field choice
 -- locate_of ..           the call
-use Rattle.std.specs.Prelude.{cond, List, ◌++◌, ℕ, ◌*◌, ◌^◌, length, drop, eqb, ltb, leb}
+use Rattle.std.specs.Prelude.{cond, List, ◌++◌, ℕ, ◌*◌, ◌^◌, length, drop, eqb, ltb, leb, Option, Some, None, Result, Ok, Err}
+use Rattle.replies.specs.declared.Refusal.{Refusal}
 use Rattle.field.specs.declared.Field.{Field}
-use Rattle.field.specs.declared.Choice.{Choice}
-use Rattle.field.specs.declared.Choice.TheVariants.{Offered, Unknown}
 use Rattle.field.specs.Field.{degree, longest, chosen}
 use Rattle.code.specs.Locations.{Locations, exponents, nowhere, locate}
 use Rattle.remainder.specs.Remainder.{bytes_for, number_of}
 use Rattle.replies.specs.Replies.{number, block, unless}
 use Rattle.replies.specs.Edition.{offered, highest}
-use Rattle.bch.specs.declared.LocateAnswer.{LocateAnswer}
-use Rattle.bch.specs.declared.LocateAnswer.TheVariants as answer
 
 pub record Ended : Type 0 where
   pub reply : ℕ
@@ -35,9 +32,9 @@ done size places = record { reply = 0; block = 0; size = size; places = places }
 abbrev pub refused : ℕ → List ℕ → Ended
 refused reply places = record { reply = reply; block = 0; size = 0; places = places }
 
-unfoldable pub ended : LocateAnswer → List ℕ → Ended
-ended (answer.Located size) places = done size places
-ended (answer.Refused r) places = record { reply = number r; block = block r; size = 0; places = places }
+unfoldable pub ended : Result ℕ Refusal → List ℕ → Ended
+ended (Ok size) places = done size places
+ended (Err r) places = record { reply = number r; block = block r; size = 0; places = places }
 
 unfoldable pub level_of : ℕ → ℕ
 level_of field = 2 * field
@@ -70,9 +67,9 @@ locate_in edition f field n remainder places =
     (refused (request_reply edition f field n (length remainder) (length places)) places)
 
 -- 7: the field choice is 0 or 1.
-unfoldable pub locate_for : ℕ → Choice → ℕ → ℕ → List ℕ → List ℕ → Ended
-locate_for edition (Offered f) field n remainder places = locate_in edition f field n remainder places
-locate_for edition Unknown field n remainder places = refused 7 places
+unfoldable pub locate_for : ℕ → Option Field → ℕ → ℕ → List ℕ → List ℕ → Ended
+locate_for edition (Some f) field n remainder places = locate_in edition f field n remainder places
+locate_for edition None field n remainder places = refused 7 places
 
 -- 7: the edition is offered (document 02, E13).
 unfoldable pub locate_of : ℕ → ℕ → ℕ → ℕ → List ℕ → List ℕ → Ended

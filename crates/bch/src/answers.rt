@@ -1,16 +1,15 @@
 // Document 01's reply of an answer.
-ghost use Rattle.std.specs.Prelude.{◌≡◌, []};
-ghost use Rattle.bch.specs.Answers.{ended};
+ghost use Rattle.std.specs.Prelude.{◌≡◌};
+ghost use Rattle.replies.specs.Replies.{verdict_number};
 
-use crate::LocateAnswer;
-use replies::refusal_number;
+use replies::{Refusal, refusal_number};
 
 // The reply of an answer to a remainder.
-pub fn locate_reply(answer: LocateAnswer) -> u8
-    ensures { result ≡ (ended answer []).reply }
+pub fn locate_reply(answer: Result<usize, Refusal>) -> u8
+    ensures { result ≡ verdict_number answer }
 {
     match answer {
-        LocateAnswer::Located(_) => 0,
-        LocateAnswer::Refused(refusal) => refusal_number(refusal),
+        Ok(_) => 0,
+        Err(refusal) => refusal_number(refusal),
     }
 }

@@ -14,18 +14,11 @@ mod request;
 ghost use Rattle.std.specs.Prelude.{◌≡◌};
 ghost use Rattle.bch.specs.Answers.{ended, locate_of};
 
-use field::{Choice, Field};
+use field::Field;
 use replies::{Refusal, offered};
 
-// The answer to a remainder: the size of the set that is listed, or why none is.
-#[derive(Clone, Copy)]
-pub enum LocateAnswer {
-    Located(usize),
-    Refused(Refusal),
-}
-
 // From a remainder alone, which bits are wrong? The remainder has the highest coefficient first, right-aligned. The exponents are
-// listed from the highest down at the start of `places`.
+// listed from the highest down at the start of `places`. The answer is the size of the set that is listed, or why none is.
 pub fn locate_errors(
     edition: u64,
     level_field: u64,
@@ -33,14 +26,14 @@ pub fn locate_errors(
     n: u64,
     remainder: &[u8],
     places: &mut [u16],
-) -> LocateAnswer
+) -> Result<usize, Refusal>
     ensures { ended result places.new ≡ locate_of edition level_field field_choice n remainder.now places.old }
 {
     if !offered(edition) {
-        return LocateAnswer::Refused(Refusal::OutOfRange);
+        return Err(Refusal::OutOfRange);
     }
     match Field::choose(field_choice) {
-        Choice::Offered(f) => request::locate_in(edition, f, level_field, n, remainder, places),
-        Choice::Unknown => LocateAnswer::Refused(Refusal::OutOfRange),
+        Some(f) => request::locate_in(edition, f, level_field, n, remainder, places),
+        None => Err(Refusal::OutOfRange),
     }
 }

@@ -8,7 +8,6 @@ ghost use Rattle.remainder.specs.Remainder.{number_of};
 ghost use Rattle.decoder.specs.Locating.{Locatable, answer};
 ghost use Rattle.bch.specs.Answers.{ended, list_in, remainder_in, locate_in};
 
-use crate::LocateAnswer;
 use decoder::{Found, fill_decoding, find_errors};
 use field::Field;
 use register_digits::from_bytes;
@@ -17,21 +16,16 @@ use remainder::coefficients::{is_below, is_zero, parity_bits};
 use replies::{Refusal, highest};
 
 // Lists what was found at the start of the places. Where nothing was, no place is written.
-fn report(found: Found, places: &mut [u16]) -> LocateAnswer
+fn report(found: Found, places: &mut [u16]) -> Result<usize, Refusal>
     requires { (found.count ≤ 64) × (found.count ≤ length places.old) }
     ensures { ended result places.new ≡ list_in (answer found) places.old }
 {
     if !found.located {
-        return LocateAnswer::Refused(Refusal::Uncorrectable(0));
+        return Err(Refusal::Uncorrectable(0));
     }
-    let exponents = found.exponents;
     let count = found.count;
-    let mut i: usize = 0;
-    while i < count {
-        places[i] = exponents[i];
-        i += 1;
-    }
-    LocateAnswer::Located(count)
+    places[..count].copy_from_slice(&found.exponents[..count]);
+    Ok(count)
 }
 
 // The answer for a remainder that is not zero.
@@ -41,7 +35,7 @@ fn locate_by_tables(
     t: usize,
     n: usize,
     places: &mut [u16],
-) -> LocateAnswer
+) -> Result<usize, Refusal>
     requires { (Locatable f t n (register state.words)) × (t ≤ length places.old) }
     ensures { ended result places.new ≡ list_in (locate f t n (register state.words)) places.old }
 {
@@ -60,17 +54,17 @@ fn locate_remainder(
     n: usize,
     remainder: &[u8],
     places: &mut [u16],
-) -> LocateAnswer
+) -> Result<usize, Refusal>
     requires { (t ≤ 62) × (degree f * t ≤ n) × (n ≤ longest f) × (length remainder.now ≤ 112) × (t ≤ length places.old) }
     ensures { ended result places.new ≡ remainder_in f t n (number_of remainder.now) places.old }
 {
     let state = from_bytes(remainder);
     let bits = parity_bits(f, t);
     if !is_below(state, bits) {
-        return LocateAnswer::Refused(Refusal::RemainderTooWide);
+        return Err(Refusal::RemainderTooWide);
     }
     if is_zero(state) {
-        return LocateAnswer::Located(0);
+        return Ok(0);
     }
     locate_by_tables(f, state, t, n, places)
 }
@@ -83,28 +77,28 @@ pub fn locate_in(
     n: u64,
     remainder: &[u8],
     places: &mut [u16],
-) -> LocateAnswer
+) -> Result<usize, Refusal>
     ensures { ended result places.new ≡ locate_in edition f level_field n remainder.now places.old }
 {
     if highest(edition) < level_field {
-        return LocateAnswer::Refused(Refusal::LevelTooHigh);
+        return Err(Refusal::LevelTooHigh);
     }
     if level_field == 0 {
-        return LocateAnswer::Refused(Refusal::EmptyMessage);
+        return Err(Refusal::EmptyMessage);
     }
     let t = 2 * level_field as usize;
     let bits = parity_bits(f, t);
     if n <= bits as u64 {
-        return LocateAnswer::Refused(Refusal::EmptyMessage);
+        return Err(Refusal::EmptyMessage);
     }
     if (f.longest() as u64) < n {
-        return LocateAnswer::Refused(Refusal::BlockTooLong);
+        return Err(Refusal::BlockTooLong);
     }
     if remainder.len() != (bits + 7) / 8 {
-        return LocateAnswer::Refused(Refusal::BufferLength);
+        return Err(Refusal::BufferLength);
     }
     if places.len() < t {
-        return LocateAnswer::Refused(Refusal::BufferLength);
+        return Err(Refusal::BufferLength);
     }
     locate_remainder(f, t, n as usize, remainder, places)
 }

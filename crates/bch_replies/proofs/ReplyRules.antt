@@ -15,8 +15,7 @@ use Rattle.replies.proofs.Tests.{leb-not, ltb-not, zero-not}
 use Rattle.replies.proofs.Given.{follows_next, follows-here, exactly}
 use Rattle.field.specs.declared.Field.{Field}
 use Rattle.field.specs.declared.Field.TheVariants.{Thirteen, Fourteen}
-use Rattle.field.specs.declared.Choice.{Choice}
-use Rattle.field.specs.declared.Choice.TheVariants.{Offered, Unknown}
+use Rattle.std.specs.Prelude.{Option, Some, None}
 use Rattle.field.specs.Field.{degree, longest, chosen}
 use Rattle.code.specs.Locations.{Locations, exponents, nowhere, locate}
 use Rattle.remainder.specs.Remainder.{bytes_for, number_of}
@@ -124,9 +123,9 @@ module _ (edition field n : ℕ) (remainder places : List ℕ) where
     unfolding locate_of locate_for among
     locate-ends = known (offered edition)
       where
-        go : (c : Choice) → LocateEnds places (locate_for edition c field n remainder places)
-        go (Offered f) = in-ends f
-        go Unknown = record { table = refl; kept = λ n. refl; block = refl }
+        go : (c : Option Field) → LocateEnds places (locate_for edition c field n remainder places)
+        go (Some f) = in-ends f
+        go None = record { table = refl; kept = λ n. refl; block = refl }
 
         known : (o : Bool) → LocateEnds places (cond o (locate_for edition (chosen choice) field n remainder places) (refused 7 places))
         known true = go (chosen choice)

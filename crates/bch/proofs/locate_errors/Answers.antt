@@ -7,11 +7,11 @@ pub returns-then-not-offered : goal.returns-then-not-offered
 unfolding locate_of ended number block
 returns-then-not-offered c = rw (sym c.offered.ensures ∙ c.if-not-offered.true)
 
-pub returns-in-Offered : goal.returns-in-Offered
+pub returns-in-Some : goal.returns-in-Some
 unfolding locate_of locate_for
-returns-in-Offered c = c.locate_in.ensures
-    ∙ simp (sym c.offered.ensures ∙ c.if-not-offered.false, sym c.choose.ensures, c.in-Offered.is)
+returns-in-Some c = c.locate_in.ensures
+    ∙ simp (sym c.offered.ensures ∙ c.if-not-offered.false, sym c.choose.ensures, c.in-Some.is)
 
-pub returns-in-Unknown : goal.returns-in-Unknown
+pub returns-in-None : goal.returns-in-None
 unfolding locate_of locate_for ended number block
-returns-in-Unknown c = simp (sym c.offered.ensures ∙ c.if-not-offered.false, sym c.choose.ensures, c.in-Unknown.is)
+returns-in-None c = simp (sym c.offered.ensures ∙ c.if-not-offered.false, sym c.choose.ensures, c.in-None.is)

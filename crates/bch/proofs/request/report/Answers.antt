@@ -1,28 +1,15 @@
-use mathlib.Core.Path.{◌≡◌, refl}
+use mathlib.Core.Path.{◌≡◌, ap}
+use mathlib.Core.List.{List, ◌++◌}
+use Prim.Native.Nat.{ℕ}
 use native.Mathlib.Omega.{arith}
 use borrow.Author.Rules.{rules}
-use borrow.Author.Tests.{not-true, not-false}
-use lib.ListN.{length, length-set}
-use Rattle.bch.proofs.Replies.{copied_next, report-list, report-none}
+use lib.ListN.{length, drop}
+use Rattle.bch.proofs.Replies.{report-list, report-none}
 use Rattle.bch.proofs.request.report.Goals as goal
 
 pub returns-then-not-found : goal.returns-then-not-found
-returns-then-not-found c = report-none _ _ (not-true _ c.if-not-found.true)
-
-pub loop-i-init : goal.loop-i-init
-loop-i-init c = (omega arith, refl, refl)
-
-pub bounds-places-i : goal.bounds-places-i
-bounds-places-i c = omega (arith, c.loop-i.invariant.1)
-
-pub loop-i-preserved : goal.loop-i-preserved
-loop-i-preserved c = let room : length c.args.found.exponents ≡ 64 = search rules in
-    (omega arith, simp length-set c.loop-i.invariant.1, copied_next _ _ c.loop-i.i (omega arith) (omega arith) c.loop-i.invariant.2)
-
-pub shape_of-places : goal.shape_of-places
-shape_of-places c = c.loop-i.invariant.1
+returns-then-not-found c = report-none _ _ c.if-not-found.true
 
 pub returns : goal.returns
 returns c = let room : length c.args.found.exponents ≡ 64 = search rules in
-    let e : c.loop-i.i ≡ c.args.found.count = omega arith in
-    report-list _ _ (not-false _ c.if-not-found.false) (omega arith) (rw e at c.loop-i.invariant.2)
+    report-list _ _ c.if-not-found.false (omega arith) (ap (λ (l : List ℕ). l ++ drop c.args.found.count c.args.places.now) c.copy_from_slice.ensures.after)
