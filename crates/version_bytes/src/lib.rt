@@ -14,13 +14,11 @@ pub fn put_numbers(numbers: [u16; 16], buffer: &mut [u8])
     requires { length buffer.old ≡ 32 }
     ensures { buffer.new ≡ saved numbers }
 {
-    let mut chip = 0;
-    while chip < 16 {
+    for chip in 0..16 {
         let number = numbers[chip];
         let at = 30 - 2 * chip;
         buffer[at] = (number / 256 % 256) as u8;
         buffer[at + 1] = (number % 256) as u8;
-        chip += 1;
     }
 }
 
@@ -30,12 +28,10 @@ pub fn numbers_in(buffer: &[u8]) -> [u16; 16]
     ensures { result ≡ loaded buffer.now }
 {
     let mut numbers = [0u16; 16];
-    let mut chip = 0;
-    while chip < 16 {
+    for chip in 0..16 {
         let high = buffer[30 - 2 * chip] as u16;
         let low = buffer[31 - 2 * chip] as u16;
         numbers[chip] = 256 * high + low;
-        chip += 1;
     }
     numbers
 }

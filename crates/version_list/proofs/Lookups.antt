@@ -1,19 +1,19 @@
 -- Laws of lists of numbered layouts, by the place of a number.
 --
--- search-next, search-here, search-end    how a search finds the place of a number
+-- index-nil, index-here, index-next    the place of a number, an element at a time
 -- find-index, find_none, holds-index, holds-none, without-index    what the list's functions are by that place
 -- find-number, find-holds, find-unknown    a layout that is found has the number
--- closed_none, closed-ahead, closed-next, closed-end     how layouts are moved one place forward
+-- closed-copied, closed-end     how layouts are moved one place forward
 -- held_small, held_same    the first places of a store
 use mathlib.Core.Path.{◌≡◌, refl, sym, ap, ap₂, ◌∙◌}
 use mathlib.Core.Bool.{Bool, true, false, cond}
 use mathlib.Core.List.{List, [], ◌∷◌, ◌++◌, append_assoc}
 use Prim.Native.Nat.{ℕ, suc, ◌+◌, ◌-◌, ◌≤◌, ◌<◌}
-use native.Mathlib.Nat.{add-zero, add-suc, suc-add}
 use native.Mathlib.Numerals.{add-one}
 use native.Mathlib.Omega.{arith}
-use lib.ListN.{length, get_or, take, drop, set, length-drop, drop_of_length-le, length-append, take-append-drop}
-use lib.Seq.{drop-cons, take-suc, append_snoc, set_at, take_at, drop_at, take-add, take-take, length-take-le, get_or-take, get_or-drop, get_or-append-add}
+use lib.ListN.{length, get_or, take, drop, length-drop, length-append}
+use lib.Seq.{take_at, drop_at, take-add, take-take, length-take-le}
+use borrow.Rule.Slice.PartMut.{mid_of, put_mid, Post-is}
 use lib.Dec.{eqb, ltb}
 use borrow.Author.Tests.{eqb-true, eq-eqb, ne_eqb, ltb-true, ltb-false}
 use Rattle.std.specs.Prelude.{Some, None}
@@ -23,54 +23,17 @@ use Rattle.version_list.specs.Places.{held, index_of, closed}
 
 -- ---- the place of a number
 
-index-cons : (e : Numbered) (l : List Numbered) (n : ℕ) (t : Bool) → eqb e.number n ≡ t → index_of (e ∷ l) n ≡ cond t 0 (suc (index_of l n))
-unfolding index_of
-index-cons e l n t h = rw h
-
-index-nil : (n : ℕ) → index_of [] n ≡ 0
+pub index-nil : (n : ℕ) → index_of [] n ≡ 0
 unfolding index_of
 index-nil n = refl
 
-module _ (d : Numbered) (l : List Numbered) (n i : ℕ) (so_far : index_of l n ≡ i + index_of (drop i l) n) where
-  index-next : i < length l → ((get_or l i d).number ≡ n → ⊥) → index_of l n ≡ i + 1 + index_of (drop (i + 1) l) n
-  index-next h other =
-      so_far
-      ∙ ap (λ (k : List Numbered). i + index_of k n) (drop-cons l i d h)
-      ∙ ap (λ (k : ℕ). i + k) (index-cons _ _ n false (ne_eqb _ n other))
-      ∙ rw (add-one i) (add-suc i _ ∙ sym (suc-add i _))
+pub index-here : (n : ℕ) (e : Numbered) (l : List Numbered) → e.number ≡ n → index_of (e ∷ l) n ≡ 0
+unfolding index_of
+index-here n e l same = rw (eq-eqb _ n same)
 
-  index-here : i < length l → (get_or l i d).number ≡ n → i ≡ index_of l n
-  index-here h same =
-      sym
-      (so_far
-      ∙ ap (λ (k : List Numbered). i + index_of k n) (drop-cons l i d h)
-      ∙ ap (λ (k : ℕ). i + k) (index-cons _ _ n true (eq-eqb _ n same))
-      ∙ add-zero i)
-
-  index-end : length l ≤ i → i ≡ index_of l n
-  index-end h =
-      sym
-      (so_far
-      ∙ ap (λ (k : List Numbered). i + index_of k n) (drop_of_length-le l h)
-      ∙ ap (λ (k : ℕ). i + k) (index-nil n)
-      ∙ add-zero i)
-
--- the same of the first places of an array
-module _ (d : Numbered) (layouts : List Numbered) (count : ℕ) (fits : count ≤ length layouts) (n i : ℕ)
-    (so_far : index_of (take count layouts) n ≡ i + index_of (drop i (take count layouts)) n) where
-  pub search-next : i < count → ((get_or layouts i d).number ≡ n → ⊥)
-      → index_of (take count layouts) n ≡ i + 1 + index_of (drop (i + 1) (take count layouts)) n
-  search-next h other =
-      index-next d (take count layouts) n i so_far (omega (arith, length-take-le count layouts fits))
-      (λ e. other (ap (λ (x : Numbered). x.number) (sym (get_or-take count layouts i d h)) ∙ e))
-
-  pub search-here : i < count → (get_or layouts i d).number ≡ n → i ≡ index_of (take count layouts) n
-  search-here h same =
-      index-here d (take count layouts) n i so_far (omega (arith, length-take-le count layouts fits))
-      (ap (λ (x : Numbered). x.number) (get_or-take count layouts i d h) ∙ same)
-
-  pub search-end : count ≤ i → i ≡ index_of (take count layouts) n
-  search-end h = index-end d (take count layouts) n i so_far (omega (arith, length-take-le count layouts fits))
+pub index-next : (n : ℕ) (e : Numbered) (l : List Numbered) → (e.number ≡ n → ⊥) → index_of (e ∷ l) n ≡ index_of l n + 1
+unfolding index_of
+index-next n e l other = rw (ne_eqb _ n other, add-one (index_of l n))
 
 -- ---- the list's functions by that place
 
@@ -156,10 +119,6 @@ find-unknown (x ∷ l) n h = go (eqb x.number n) (find-unknown l n) h
 
 -- ---- moving layouts forward
 
-pub closed_none : (l : List Numbered) (at : ℕ) → l ≡ closed l at at
-unfolding closed
-closed_none l at = let z : at - at ≡ 0 = omega arith in rw z (sym (take-append-drop at l))
-
 -- the places up to i, after the move
 front : List Numbered → ℕ → ℕ → List Numbered
 front l at i = take at l ++ take (i - at) (drop (suc at) l)
@@ -172,36 +131,14 @@ front_length : (l : List Numbered) (at i : ℕ) → at ≤ i → i < length l �
 unfolding front
 front_length l at i h k = simp length-append (omega (arith, length-take-le at l (omega arith), length-take-le (i - at) (drop (suc at) l) (omega (arith, length-drop (suc at) l))))
 
-module _ (d : Numbered) (l : List Numbered) (at i : ℕ) (start : at ≤ i) (more : i + 1 < length l) where
-  pub closed-ahead : get_or (closed l at i) (i + 1) d ≡ get_or l (i + 1) d
-  closed-ahead =
-      let n : length (front l at i) ≡ i = front_length l at i start (omega arith) in
-      ap (λ (x : List Numbered). get_or x (i + 1) d) (closed-front l at i)
-      ∙ ap (λ (k : ℕ). get_or (front l at i ++ drop i l) (k + 1) d) (sym n)
-      ∙ get_or-append-add (front l at i) (drop i l) 1 d
-      ∙ get_or-drop i l 1 d
-
-  front-next : front l at i ++ (get_or l (i + 1) d ∷ []) ≡ front l at (i + 1)
-  unfolding front
-  front-next =
-      let x = drop (suc at) l in
-      let e : i + 1 - at ≡ suc (i - at) = omega arith in
-      let w : suc at + (i - at) ≡ i + 1 = omega arith in
-      append_assoc (take at l) _ _
-      ∙ ap (λ (y : List Numbered). take at l ++ y)
-      (ap (λ (y : Numbered). take (i - at) x ++ (y ∷ [])) (ap (λ (k : ℕ). get_or l k d) (sym w) ∙ sym (get_or-drop (suc at) l (i - at) d))
-      ∙ sym (take-suc x (i - at) d (omega (arith, length-drop (suc at) l)))
-      ∙ ap (λ (k : ℕ). take k x) (sym e))
-
-  pub closed-next : set (closed l at i) i (get_or l (i + 1) d) ≡ closed l at (i + 1)
-  closed-next =
-      let n : length (front l at i) ≡ i = front_length l at i start (omega arith) in
-      ap (λ (x : List Numbered). set x i (get_or l (i + 1) d)) (closed-front l at i ∙ ap (λ (x : List Numbered). front l at i ++ x) (drop-cons l i d (omega arith)))
-      ∙ set_at (front l at i) _ _ _ i n
-      ∙ sym (append_snoc (front l at i) _ _)
-      ∙ ap (λ (x : List Numbered). x ++ drop (suc i) l) front-next
-      ∙ ap (λ (k : ℕ). front l at (i + 1) ++ drop k l) (sym (add-one i))
-      ∙ sym (closed-front l at (i + 1))
+-- The places behind `at` are copied one place forward, over those from `at` on.
+pub closed-copied : (l ys : List Numbered) (at count : ℕ) → at < count → ys ≡ mid_of (at + 1) (count - (at + 1)) l
+    → put_mid at (count - 1 - at) l ys ≡ closed l at (count - 1)
+unfolding closed
+closed-copied l ys at count h e =
+    let k : count - (at + 1) ≡ count - 1 - at = omega arith in
+    ap (λ (x : List Numbered). take at l ++ (x ++ drop (count - 1 - at) (drop at l))) (e ∙ ap₂ (λ (m j : ℕ). take m (drop j l)) k (add-one at))
+    ∙ ap (λ (x : List Numbered). take at l ++ (take (count - 1 - at) (drop (suc at) l) ++ x)) (Post-is at (count - 1) l (omega arith))
 
 drop-taken : (l : List Numbered) (n count : ℕ) → n ≤ count → n ≤ length l → drop n (take count l) ≡ take (count - n) (drop n l)
 drop-taken l n count h k =

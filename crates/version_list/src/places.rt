@@ -19,16 +19,10 @@ pub fn index_of(layouts: [Numbered; 32], count: usize, version: u64) -> usize
     requires { count ≤ 32 }
     ensures { result ≡ index_of (take count layouts) version }
 {
-    let mut i = 0;
-    while i < count {
-        let layout = layouts[i];
-        let number = layout.number as u64;
-        if number == version {
-            return i;
-        }
-        i += 1;
-    }
-    i
+    layouts[..count]
+        .iter()
+        .position(|layout| layout.number as u64 == version)
+        .unwrap_or(count)
 }
 
 // Moves the layouts behind a place one place forward.
@@ -37,11 +31,6 @@ pub fn close_gap(layouts: [Numbered; 32], count: usize, at: usize) -> [Numbered;
     ensures { result ≡ closed layouts at (count - 1) }
 {
     let mut moved = layouts;
-    let mut i = at;
-    while i < count - 1 {
-        let layout = moved[i + 1];
-        moved[i] = layout;
-        i += 1;
-    }
+    moved[at..count - 1].copy_from_slice(&layouts[at + 1..count]);
     moved
 }

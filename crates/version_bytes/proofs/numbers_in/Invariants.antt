@@ -1,12 +1,8 @@
 use mathlib.Core.Path.{◌≡◌}
-use Prim.Native.Nat.{◌-◌, ◌≤◌}
 use lib.ListN.{length, take}
 use Rattle.bits.specs.Bits.{run}
 use Rattle.version_bytes.specs.Saved.{number_at}
 use Rattle.version_bytes.proofs.numbers_in.Given as goal
 
 abbrev pub invariant-loop-chip : goal.invariant-loop-chip
-invariant-loop-chip l = (l.chip ≤ 16) × (length l.numbers ≡ 16) × (take l.chip l.numbers ≡ run (number_at l.buffer) 0 l.chip)
-
-abbrev pub decreases-loop-chip : goal.decreases-loop-chip
-decreases-loop-chip l = 16 - l.chip
+invariant-loop-chip l = (length l.numbers ≡ 16) × (take l.chip l.numbers ≡ run (number_at l.buffer) 0 l.chip)
