@@ -17,7 +17,9 @@ use Rattle.bits.proofs.Runs.{run_at}
 use Rattle.field.specs.Field.{degree}
 use Rattle.mark.specs.Mark.{streamed}
 use Rattle.layout_plan.specs.declared.Plan.{Plan}
-use Rattle.layout.specs.declared.BitAnswer.{BitAnswer}
+use Rattle.std.specs.Prelude.{Result, Ok}
+use Rattle.layout.specs.declared.BitPlace.{BitPlace}
+use Rattle.layout.specs.declared.Refusal.{Refusal}
 use Rattle.layout_plan.specs.Plan.{bits, field, level, covered, start, from, Valid}
 use Rattle.layout.specs.Bits.{block_of, exponent_at}
 use Rattle.page_bits.proofs.Placing.{block-lies}
@@ -27,8 +29,8 @@ use Rattle.page_theory.specs.Page.{message, written, written_bit, page_bit}
 use Rattle.page_theory.proofs.Blocks.{message-length, written-tail}
 use Rattle.explain.specs.declared.Part.TheVariants as part
 use Rattle.explain.specs.declared.Place.{Place}
-use Rattle.explain.specs.declared.PlaceAnswer.TheVariants as answer
-use Rattle.explain.specs.Parts.{place_at, message_place, covered_place, part_by, bit_part}
+use Rattle.explain.specs.declared.Why.{Why}
+use Rattle.explain.specs.Parts.{place_at, message_place, covered_place, placed, part_by, bit_part}
 
 pub data Holds (q : Plan) (lent payload : List ℕ) (p : ℕ) : Place → Type 0 where
   holds-metadata : (b i r : ℕ) → r < 8 → i < q.metadata → page_bit q lent payload p ≡ bit_of payload (8 * i + r)
@@ -81,15 +83,15 @@ module _ (q : Plan) (v : Valid q) (lent payload : List ℕ) (p : ℕ) where
           (holds-parity b (covered q b - 1 - e - bits q b) (omega (arith, v.sums b, x.exponent, x.lies.from, x.lies.to)) (parity-bit (omega arith)))
     ]
 
-  at-injective : {x y : Place} → answer.At x ≡ answer.At y → x ≡ y
+  at-injective : {x y : Place} → ◌≡◌ {A = Result Place Why} (Ok x) (Ok y) → x ≡ y
   at-injective h = cc
 
-  stands-holds : {a : BitAnswer} (x : Place) → Stands q p a → part_by q p a ≡ answer.At x → Holds q lent payload p x
-  unfolding part_by page_bit
+  stands-holds : {a : Result BitPlace Refusal} (x : Place) → Stands q p a → part_by q p a ≡ Ok x → Holds q lent payload p x
+  unfolding part_by placed page_bit
   stands-holds x (in-mark m) h = rw (← at-injective h) (holds-mark (rw m))
   stands-holds x (in_block k) h = rw (← at-injective h) (covered-holds k)
   stands-holds x (in_tail m u) h = rw (← at-injective h) (holds-tail (rw m (written-tail q payload (streamed q.mark p) u)))
 
-  pub part-holds : (x : Place) → p < 8 * q.size → bit_part q p ≡ answer.At x → Holds q lent payload p x
+  pub part-holds : (x : Place) → p < 8 * q.size → bit_part q p ≡ Ok x → Holds q lent payload p x
   unfolding bit_part
   part-holds x l h = stands-holds x (bit-partition q p l) h

@@ -7,7 +7,7 @@
 --                         or the zero bits and 0
 -- why_of e n r             why a record of n bytes is refused under the edition e
 -- explain_for, explain_layout words     the answer to a layout record, by whether it is accepted
-use Rattle.std.specs.Prelude.{ℕ, length}
+use Rattle.std.specs.Prelude.{ℕ, length, ⊤, Result, Ok, Err}
 use Rattle.replies.specs.declared.Refusal as table
 use Rattle.replies.specs.declared.Refusal.TheVariants as row
 use Rattle.layout.specs.declared.Kind.{Kind}
@@ -15,16 +15,13 @@ use Rattle.layout.specs.declared.Kind.TheVariants as kind
 use Rattle.layout.specs.declared.Reason.{Reason}
 use Rattle.layout.specs.declared.Refusal.{Refusal}
 use Rattle.layout.specs.declared.Refusal.TheVariants as refusal
-use Rattle.layout.specs.declared.Acceptance.{Acceptance}
-use Rattle.layout.specs.declared.Acceptance.TheVariants as acceptance
+use Rattle.layout_plan.specs.declared.Layout.{Layout}
 use Rattle.layout_plan.specs.Record.{Words}
 use Rattle.layout.specs.Acceptance as layout
 use Rattle.layout.specs.Acceptance.{rule_refusal}
 use Rattle.explain.specs.declared.About.{About}
 use Rattle.explain.specs.declared.About.TheVariants as about
 use Rattle.explain.specs.declared.Why.{Why}
-use Rattle.explain.specs.declared.LayoutAnswer.{LayoutAnswer}
-use Rattle.explain.specs.declared.LayoutAnswer.TheVariants as answer
 
 unfoldable pub why : table.Refusal → About → ℕ → ℕ → Why
 why r a n m = record { refusal = r; about = a; found = n; limit = m }
@@ -45,9 +42,9 @@ why_of e n refusal.RecordLength = why row.BufferLength about.Record n 8
 why_of e n (refusal.Rule r) = rule_why r
 why_of e n refusal.Range = why row.OutOfRange about.Position 0 0
 
-unfoldable pub explain_for : ℕ → ℕ → Acceptance → LayoutAnswer
-explain_for e n (acceptance.Accepted l) = answer.Accepted
-explain_for e n (acceptance.Refused r) = answer.Refused (why_of e n r)
+unfoldable pub explain_for : ℕ → ℕ → Result Layout Refusal → Result ⊤ Why
+explain_for e n (Ok l) = Ok _
+explain_for e n (Err r) = Err (why_of e n r)
 
-unfoldable pub explain_layout : Words → LayoutAnswer
+unfoldable pub explain_layout : Words → Result ⊤ Why
 explain_layout w = explain_for w.edition (length w.bytes) (layout.acceptance w)

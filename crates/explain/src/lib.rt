@@ -17,7 +17,7 @@ ghost use Rattle.layout_plan.specs.Record.{words_of};
 ghost use Rattle.explain.specs.Reasons.{explain_layout};
 ghost use Rattle.explain.specs.Parts.{explain_bit};
 
-use layout::{Acceptance, check_layout};
+use layout::check_layout;
 use layout_plan::plan_of;
 use page_bits::locate_bit;
 pub use reasons::why_refused;
@@ -47,13 +47,6 @@ pub struct Why {
     pub limit: u64,
 }
 
-// The answer to a layout record.
-#[derive(Clone, Copy)]
-pub enum LayoutAnswer {
-    Accepted,
-    Refused(Why),
-}
-
 // The parts of a page.
 #[derive(Clone, Copy)]
 pub enum Part {
@@ -75,40 +68,25 @@ pub struct Place {
     pub index: u64,
 }
 
-// The answer to a page position.
-#[derive(Clone, Copy)]
-pub enum PlaceAnswer {
-    At(Place),
-    Refused(Why),
-}
-
 // Is this layout accepted, and if not, why?
-pub fn explain_layout(edition: u64, words: &[u8]) -> LayoutAnswer
+pub fn explain_layout(edition: u64, words: &[u8]) -> Result<(), Why>
     ensures { result ≡ explain_layout (words_of edition words.now) }
 {
     match check_layout(edition, words) {
-        Acceptance::Accepted(_) => LayoutAnswer::Accepted,
-        Acceptance::Refused(refusal) => LayoutAnswer::Refused(why_refused(
-            edition,
-            words.len(),
-            refusal,
-        )),
+        Ok(_) => Ok(()),
+        Err(refusal) => Err(why_refused(edition, words.len(), refusal)),
     }
 }
 
 // What is the page bit at `position`?
-pub fn explain_bit(edition: u64, words: &[u8], position: u64) -> PlaceAnswer
+pub fn explain_bit(edition: u64, words: &[u8], position: u64) -> Result<Place, Why>
     ensures { result ≡ explain_bit (words_of edition words.now) position }
 {
     match check_layout(edition, words) {
-        Acceptance::Accepted(layout) => {
+        Ok(layout) => {
             let answer = locate_bit(edition, words, position);
             parts::part_by(plan_of(layout), position, answer)
         }
-        Acceptance::Refused(refusal) => PlaceAnswer::Refused(why_refused(
-            edition,
-            words.len(),
-            refusal,
-        )),
+        Err(refusal) => Err(why_refused(edition, words.len(), refusal)),
     }
 }

@@ -1,11 +1,11 @@
 // What the bits of a page are, under a plan.
-ghost use Rattle.std.specs.Prelude.{◌≡◌, ◌<◌};
+ghost use Rattle.std.specs.Prelude.{◌≡◌, ◌<◌, Ok};
 ghost use Rattle.layout_plan.specs.Plan.{covered};
 ghost use Rattle.layout.specs.Bits.{bit_in};
-ghost use Rattle.explain.specs.Parts.{place_at, message_place, covered_place, bit_part};
+ghost use Rattle.explain.specs.Parts.{place_at, message_place, covered_place, placed, bit_part};
 
-use crate::{About, Part, Place, PlaceAnswer, Why};
-use layout::BitAnswer;
+use crate::{About, Part, Place, Why};
+use layout::BitPlace;
 use layout_plan::{Plan, block_covered, block_shape};
 use page_plan::message_start;
 use replies::Refusal;
@@ -51,18 +51,32 @@ fn covered_place(plan: Plan, block: u16, exponent: u64, position: u64) -> Place
     message_place(plan, block, from + at, position)
 }
 
+// A bit of the page, by its place in Bits.
+fn placed(plan: Plan, position: u64, place: BitPlace) -> Place
+    requires { Ok place ≡ bit_in plan position }
+    ensures { result ≡ placed plan position place }
+{
+    match place {
+        BitPlace::InBlock { block, exponent } => {
+            covered_place(plan, block as u16, exponent, position)
+        }
+        BitPlace::Tail => place_at(Part::Tail, 0, 0, position),
+        BitPlace::Mark => place_at(Part::Mark, 0, 0, position),
+    }
+}
+
 // The answer to a position, by what Bits answers.
-pub fn part_by(plan: Plan, position: u64, answer: BitAnswer) -> PlaceAnswer
+pub fn part_by(
+    plan: Plan,
+    position: u64,
+    answer: Result<BitPlace, layout::Refusal>,
+) -> Result<Place, Why>
     requires { answer ≡ bit_in plan position }
     ensures { result ≡ bit_part plan position }
 {
     match answer {
-        BitAnswer::InBlock { block, exponent } => {
-            PlaceAnswer::At(covered_place(plan, block as u16, exponent, position))
-        }
-        BitAnswer::Tail => PlaceAnswer::At(place_at(Part::Tail, 0, 0, position)),
-        BitAnswer::Mark => PlaceAnswer::At(place_at(Part::Mark, 0, 0, position)),
-        BitAnswer::Refused(_) => PlaceAnswer::Refused(Why {
+        Ok(place) => Ok(placed(plan, position, place)),
+        Err(_) => Err(Why {
             refusal: Refusal::OutOfRange,
             about: About::Position,
             found: position,

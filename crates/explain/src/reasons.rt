@@ -3,31 +3,32 @@ ghost use Rattle.std.specs.Prelude.{◌≡◌};
 ghost use Rattle.explain.specs.Reasons.{about_kind, rule_why, why_of};
 
 use crate::{About, Why};
-use layout::{Kind, Reason, Refusal, refusal_of};
+use layout::{Kind, Reason, Refusal};
 
 // What breaks a rule.
-fn about_kind(kind: Kind) -> About
-    ensures { result ≡ about_kind kind }
-{
-    match kind {
-        Kind::First => About::First,
-        Kind::Later => About::Later,
-        Kind::Page => About::Page,
+impl From<Kind> for About {
+    ghost from_gives = { λ kind gives. gives ≡ about_kind kind };
+
+    #[tactic(auto, unfolding(crate::specs::Reasons::about_kind))]
+    fn from(kind: Kind) -> About {
+        match kind {
+            Kind::First => About::First,
+            Kind::Later => About::Later,
+            Kind::Page => About::Page,
+        }
     }
 }
 
 // A broken rule, with the two numbers that the rule compares.
+#[tactic(auto, unfolding(crate::specs::Reasons::rule_why, crate::specs::Reasons::why))]
 fn rule_why(reason: Reason) -> Why
     ensures { result ≡ rule_why reason }
 {
-    let kind = reason.kind;
-    let found = reason.found;
-    let limit = reason.limit;
     Why {
-        refusal: refusal_of(Refusal::Rule(reason)),
-        about: about_kind(kind),
-        found: found,
-        limit: limit,
+        refusal: replies::Refusal::from(reason.rule),
+        about: About::from(reason.kind),
+        found: reason.found,
+        limit: reason.limit,
     }
 }
 

@@ -2,10 +2,10 @@ use mathlib.Core.Path.{sym}
 use Rattle.explain.specs.Reasons.{explain_for, explain_layout}
 use Rattle.explain.proofs.explain_layout.Goals as goal
 
-pub returns-in-Accepted : goal.returns-in-Accepted
+pub returns-in-Ok : goal.returns-in-Ok
 unfolding explain_layout explain_for
-returns-in-Accepted c = simp (sym c.check_layout.ensures, c.in-Accepted.is)
+returns-in-Ok c = simp (sym c.check_layout.ensures, c.in-Ok.is)
 
-pub returns-in-Refused : goal.returns-in-Refused
+pub returns-in-Err : goal.returns-in-Err
 unfolding explain_layout explain_for
-returns-in-Refused c = simp (c.why_refused.ensures, sym c.check_layout.ensures, c.in-Refused.is)
+returns-in-Err c = simp (c.why_refused.ensures, sym c.check_layout.ensures, c.in-Err.is)
