@@ -44,12 +44,10 @@ fn places(v: u64, used: usize) -> [usize; 8]
     let size = row_bytes(row_size(used));
     let mut at = [0usize; 8];
     let mut left = v;
-    let mut b = 0;
-    while b < 8 {
+    for b in 0..8 {
         let row = (left % 256) as usize;
         at[b] = size * row + 8 - b;
         left = left >> 8;
-        b += 1;
     }
     at
 }
@@ -60,10 +58,8 @@ fn word_added(start: u64, table: &[u8], at: [usize; 8], i: usize) -> u64
     ensures { result ≡ word_sum table.now at i 8 start }
 {
     let mut sum = start;
-    let mut b = 0;
-    while b < 8 {
+    for b in 0..8 {
         sum = eight_low(table, at[b] + 8 * i) ^ sum;
-        b += 1;
     }
     sum
 }
@@ -74,11 +70,8 @@ fn words_added(state: Wide, table: &[u8], at: [usize; 8], from: usize, to: usize
     ensures { Added table.now at from to state.words result.words }
 {
     let mut words = state.words;
-    let mut left = to;
-    while from < left {
-        let i = left - 1;
+    for i in (from..to).rev() {
         words[i] = word_added(words[i], table, at, i);
-        left = i;
     }
     Wide { words: words }
 }
@@ -91,10 +84,8 @@ fn word_up(state: Wide, used: usize, w: u64) -> Wide
     let from = state.words;
     let mut words = state.words;
     words[0] = 0;
-    let mut i = 0;
-    while i < used {
+    for i in 0..used {
         words[i + 1] = from[i];
-        i += 1;
     }
     words[used] = from[used - 1] ^ w;
     Wide { words: words }
@@ -168,12 +159,10 @@ pub fn start(state: Register, used: usize, k: usize, b: u64) -> Wide
     let from = state.words;
     let mut words = [0u64; 15];
     let mut carry = 0u64;
-    let mut i = 0;
-    while i < used {
+    for i in 0..used {
         let w = from[i];
         words[i] = (w << k) + carry;
         carry = (w >> 1) >> (63 - k);
-        i += 1;
     }
     words[used] = carry ^ b;
     Wide { words: words }
@@ -187,10 +176,8 @@ pub fn finish(state: Wide, table: &[u8], used: usize) -> Register
     let whole = reduce(state, table, used);
     let from = whole.words;
     let mut words = [0u64; 14];
-    let mut i = 0;
-    while i < used {
+    for i in 0..used {
         words[i] = from[i];
-        i += 1;
     }
     Register { words: words }
 }

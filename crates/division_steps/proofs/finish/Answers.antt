@@ -17,12 +17,12 @@ reduce-whole-requires c = let p = c.requires in
 pub loop-i-init : goal.loop-i-init
 unfolding low
 loop-i-init c = let u = words-many c.requires.0.wide in
-    (search rules, search rules, refl, λ k h. zeros-at 14 k, u.1)
+    (search rules, refl, λ k h. zeros-at 14 k, u.1)
 
 pub loop-i-preserved : goal.loop-i-preserved
 loop-i-preserved c = let s = c.loop-i in
     let v = c.reduce-whole.result.words in
-    (omega arith, search rules, copy-next s.words v s.i (omega arith) s.invariant.2, zeros-store s.words s.i _ s.invariant.3, s.invariant.4)
+    (search rules, copy-next s.words v s.i (omega arith) s.invariant.1, zeros-store s.words s.i _ s.invariant.2, s.invariant.3)
 
 pub returns : goal.returns
 returns c = let s = c.loop-i in
@@ -31,4 +31,4 @@ returns c = let s = c.loop-i in
     let u = words-many p.0.wide in
     let l : length r.result.words ≡ 15 = search rules in
     let e : s.i ≡ c.args.used = omega arith in
-    copy-end s.words r.result.words c.args.used (64 * c.args.used) _ _ refl (omega arith) (omega arith) (omega arith) p.0.monic p.1 (r.ensures _ p.0.clearing p.0.monic) (rw e at s.invariant.2) (rw e at s.invariant.3)
+    copy-end s.words r.result.words c.args.used (64 * c.args.used) _ _ refl (omega arith) (omega arith) (omega arith) p.0.monic p.1 (r.ensures _ p.0.clearing p.0.monic) (rw e at s.invariant.1) (rw e at s.invariant.2)

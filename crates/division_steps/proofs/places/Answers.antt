@@ -22,14 +22,13 @@ pub loop-b-preserved : goal.loop-b-preserved
 loop-b-preserved c = let s = c.loop-b in
     let v = c.args.v in
     let size = c.row_bytes-size.result in (
-      omega arith,
       search rules,
-      byte_next v s.b s.invariant.2,
-      stored_next (λ k. size * (v / 2 ^ (8 * k) % 256) + 8 - k) s.at s.b (omega arith) s.invariant.3 (ap (λ x. size * (x % 256) + 8 - s.b) s.invariant.2),
+      byte_next v s.b s.invariant.1,
+      stored_next (λ k. size * (v / 2 ^ (8 * k) % 256) + 8 - k) s.at s.b (omega arith) s.invariant.2 (ap (λ x. size * (x % 256) + 8 - s.b) s.invariant.1),
     )
 
 pub returns : goal.returns
 returns c = λ b h.
     let s = c.loop-b in
     let e : c.row_bytes-size.result ≡ row_bytes (row_words c.args.used) = c.row_bytes-size.ensures ∙ ap row_bytes c.row_size.ensures.0 in
-    rw e at (s.invariant.3 b (omega arith))
+    rw e at (s.invariant.2 b (omega arith))

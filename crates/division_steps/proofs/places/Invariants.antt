@@ -4,7 +4,4 @@ use lib.ListN.{length, get_or}
 use Rattle.division_steps.proofs.places.Given as goal
 
 abbrev pub invariant-loop-b : goal.invariant-loop-b
-invariant-loop-b l = (l.b ≤ 8) × (length l.at ≡ 8) × (l.left ≡ l.v / 2 ^ (8 * l.b)) × ((k : ℕ) → k < l.b → get_or l.at k 0 ≡ l.size * (l.v / 2 ^ (8 * k) % 256) + 8 - k)
-
-abbrev pub decreases-loop-b : goal.decreases-loop-b
-decreases-loop-b l = 8 - l.b
+invariant-loop-b l = (length l.at ≡ 8) × (l.left ≡ l.v / 2 ^ (8 * l.b)) × ((k : ℕ) → k < l.b → get_or l.at k 0 ≡ l.size * (l.v / 2 ^ (8 * k) % 256) + 8 - k)

@@ -15,10 +15,10 @@ use Rattle.division_steps.proofs.start.Goals as goal
 pub loop-i-init : goal.loop-i-init
 unfolding low
 loop-i-init c = let u = words-many c.requires.0 in
-    (search rules, refl, pow_pos _, omega arith, λ j h. zeros-at 15 j, omega arith, u.1)
+    (refl, pow_pos _, omega arith, λ j h. zeros-at 15 j, omega arith, u.1)
 
 pub overflow_add-words : goal.overflow_add-words
-overflow_add-words c = record { fits = shift_fits _ _ _ (omega arith) c.loop-i.invariant.2 }
+overflow_add-words c = record { fits = shift_fits _ _ _ (omega arith) c.loop-i.invariant.1 }
 
 pub loop-i-preserved : goal.loop-i-preserved
 loop-i-preserved c = let s = c.loop-i in
@@ -26,13 +26,12 @@ loop-i-preserved c = let s = c.loop-i in
     let v = a.state.words in
     let e = carry-next (get_or v s.i 0) a.k (omega arith) in
     let f : Fits w64 (get_or v s.i 0) = search rules in (
-      omega arith,
       search rules,
       rw e (carry-below _ _ (omega arith) f.fits),
-      rw e (shift-store s.words v s.i a.k s.carry 0 (omega arith) (omega arith) s.invariant.3 refl),
-      zeros-store s.words s.i _ s.invariant.4,
-      store_below s.words s.i _ (omega arith) (shift_fits _ _ _ (omega arith) s.invariant.2) s.invariant.5,
-      s.invariant.6,
+      rw e (shift-store s.words v s.i a.k s.carry 0 (omega arith) (omega arith) s.invariant.2 refl),
+      zeros-store s.words s.i _ s.invariant.3,
+      store_below s.words s.i _ (omega arith) (shift_fits _ _ _ (omega arith) s.invariant.1) s.invariant.4,
+      s.invariant.5,
     )
 
 pub returns : goal.returns
@@ -43,4 +42,4 @@ returns c = let s = c.loop-i in
     let l : length v ≡ 14 = search rules in
     let e : s.i ≡ u = omega arith in
     start-stands p.0 c.args.k (register v) c.args.b p.1 p.2 p.3
-    (start-end s.words v u c.args.k s.carry c.args.b (omega arith) (omega arith) p.1 (rw e at s.invariant.5) (rw e at s.invariant.3) (rw e at s.invariant.4))
+    (start-end s.words v u c.args.k s.carry c.args.b (omega arith) (omega arith) p.1 (rw e at s.invariant.4) (rw e at s.invariant.2) (rw e at s.invariant.3))

@@ -20,9 +20,9 @@ eight_low-sum-requires c = let h = c.requires.2 c.loop-b.b (omega arith) in
 pub loop-b-preserved : goal.loop-b-preserved
 loop-b-preserved c = let s = c.loop-b in
     let a = c.args in
-    (omega arith, sum-next a.table.now a.at a.i s.b a.start c.eight_low-sum.ensures s.invariant.1)
+    sum-next a.table.now a.at a.i s.b a.start c.eight_low-sum.ensures s.invariant
 
 pub returns : goal.returns
 returns c = let s = c.loop-b in
     let e : s.b ≡ 8 = omega arith in
-    rw e at s.invariant.1
+    rw e at s.invariant

@@ -12,7 +12,6 @@ loop-i-init c = let a = c.args in
     let v = a.state.words in
     let l : length v ≡ 15 = search rules in (
       search rules,
-      search rules,
       get_or-set_same v 0 0 0 (omega arith),
       λ k h. absurd (omega arith),
       λ k h. get_or-set_other v 0 k 0 0 (omega arith) ∙ words-zero v (a.used + 1) (rw (word_more a.used) at c.requires.2) k h,
@@ -22,11 +21,10 @@ pub loop-i-preserved : goal.loop-i-preserved
 loop-i-preserved c = let s = c.loop-i in
     let v = c.args.state.words in
     let l : s.i + 1 < length s.words = omega arith in (
-      omega arith,
       search rules,
-      get_or-set_other s.words (s.i + 1) 0 _ 0 (omega arith) ∙ s.invariant.2,
-      up-store s.words v s.i l s.invariant.3,
-      λ k h. get_or-set_other s.words (s.i + 1) k _ 0 (omega arith) ∙ s.invariant.4 k h,
+      get_or-set_other s.words (s.i + 1) 0 _ 0 (omega arith) ∙ s.invariant.1,
+      up-store s.words v s.i l s.invariant.2,
+      λ k h. get_or-set_other s.words (s.i + 1) k _ 0 (omega arith) ∙ s.invariant.3 k h,
     )
 
 pub returns : goal.returns
@@ -35,4 +33,4 @@ returns c = let s = c.loop-i in
     let v = a.state.words in
     let l : length v ≡ 15 = search rules in
     let e : s.i ≡ a.used = omega arith in
-    word-up-end s.words v (λ k. search rules) a.used a.w (omega arith) (omega arith) (omega arith) s.invariant.2 (rw e at s.invariant.3) s.invariant.4
+    word-up-end s.words v (λ k. search rules) a.used a.w (omega arith) (omega arith) (omega arith) s.invariant.1 (rw e at s.invariant.2) s.invariant.3
