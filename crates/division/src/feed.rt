@@ -21,11 +21,9 @@ fn feed_four_words(state: Wide, table: &[u8], bytes: &[u8], at: usize, count: us
 {
     let words = words_from(bytes, at, count);
     let mut r = state;
-    let mut fed = 0;
-    while fed < count {
+    for fed in 0..count {
         let w = turned_word(words[fed]);
         r = four_step(r, table, w);
-        fed += 1;
     }
     r
 }
@@ -38,11 +36,9 @@ fn feed_ten_words(state: Wide, table: &[u8], bytes: &[u8], at: usize, count: usi
 {
     let words = words_from(bytes, at, count);
     let mut r = state;
-    let mut fed = 0;
-    while fed < count {
+    for fed in 0..count {
         let w = turned_word(words[fed]);
         r = ten_step(r, table, w);
-        fed += 1;
     }
     r
 }
@@ -55,11 +51,9 @@ fn feed_long_words(state: Wide, table: &[u8], bytes: &[u8], at: usize, count: us
 {
     let words = words_from(bytes, at, count);
     let mut r = state;
-    let mut fed = 0;
-    while fed < count {
+    for fed in 0..count {
         let w = turned_word(words[fed]);
         r = long_step(r, table, w);
-        fed += 1;
     }
     r
 }
@@ -95,6 +89,7 @@ fn feed_words(state: Wide, table: &[u8], used: usize, bytes: &[u8], at: usize, c
 {
     let mut fed = count % 16;
     let mut r = feed_few_words(state, table, used, bytes, at, fed);
+    // By hand: a turn takes 16 words and not one, and a `step_by` would need the same measure.
     while fed < count {
         r = feed_few_words(r, table, used, bytes, at + 64 * fed, 16);
         fed += 16;

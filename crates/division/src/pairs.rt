@@ -35,14 +35,12 @@ fn feed_two_few(
     let seconds = words_from(bytes, to, count);
     let mut r = a;
     let mut s = b;
-    let mut fed = 0;
-    while fed < count {
+    for fed in 0..count {
         let v = turned_word(firsts[fed]);
         let w = turned_word(seconds[fed]);
         let two = two_steps(r, s, table, v, w);
         r = two.first;
         s = two.second;
-        fed += 1;
     }
     Two {
         first: r,
@@ -69,6 +67,7 @@ fn feed_two_words(
 {
     let mut fed = count % 16;
     let mut two = feed_two_few(a, b, table, bytes, at, to, fed);
+    // By hand: a turn takes 16 words and not one, and a `step_by` would need the same measure.
     while fed < count {
         two = feed_two_few(
             two.first,

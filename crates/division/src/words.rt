@@ -30,10 +30,8 @@ fn sixteen_words(bytes: &[u8], from: usize) -> [u64; 16]
     ensures { (k : ℕ) → k < 16 → turned_word (get_or result k 0) ≡ number (run (bit_of bytes.now) (8 * from + 64 * k) 64) }
 {
     let mut words = [0u64; 16];
-    let mut i = 0;
-    while i < 16 {
+    for i in 0..16 {
         words[i] = eight_low(bytes, from + 8 * i);
-        i += 1;
     }
     words
 }
@@ -51,11 +49,9 @@ pub fn words_from(bytes: &[u8], at: usize, count: usize) -> [u64; 16]
         }
     }
     let mut words = [0u64; 16];
-    let mut i = 0;
-    while i < count {
+    for i in 0..count {
         let w = word_at(bytes, at + 64 * i);
         words[i] = turned_word(w);
-        i += 1;
     }
     words
 }

@@ -1,4 +1,3 @@
-use Prim.Native.Nat.{◌≤◌, ◌-◌}
 use mathlib.Core.Path.{◌≡◌}
 use Rattle.division_steps.specs.Sums.{word_sum}
 use Rattle.division_steps.proofs.word_added.Given as goal

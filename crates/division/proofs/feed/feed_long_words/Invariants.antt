@@ -1,4 +1,4 @@
-use Prim.Native.Nat.{◌≤◌, ◌<◌, ◌+◌, ◌-◌, ◌*◌, ◌^◌}
+use Prim.Native.Nat.{◌<◌, ◌+◌, ◌*◌, ◌^◌}
 use mathlib.Core.Path.{◌≡◌}
 use Rattle.bits.specs.Bits.{bit_of, run}
 use Rattle.code.specs.Register.{register}
@@ -8,8 +8,4 @@ use Rattle.division_table.specs.Table.{divisor_of}
 use Rattle.division.proofs.feed.feed_long_words.Given as goal
 
 abbrev pub invariant-loop-fed : goal.invariant-loop-fed
-invariant-loop-fed l = (l.fed ≤ l.count) × (register l.r.words < 2 ^ (64 * 14 + 64))
-    × (reduced (64 * 14) (divisor_of 14 l.table) (register l.r.words) ≡ parity_from (64 * 14) (divisor_of 14 l.table) (reduced (64 * 14) (divisor_of 14 l.table) (register l.initial.r.words)) (run (bit_of l.bytes) l.at (64 * l.fed)))
-
-abbrev pub decreases-loop-fed : goal.decreases-loop-fed
-decreases-loop-fed l = l.count - l.fed
+invariant-loop-fed l = (register l.r.words < 2 ^ (64 * 14 + 64)) × (reduced (64 * 14) (divisor_of 14 l.table) (register l.r.words) ≡ parity_from (64 * 14) (divisor_of 14 l.table) (reduced (64 * 14) (divisor_of 14 l.table) (register l.initial.r.words)) (run (bit_of l.bytes) l.at (64 * l.fed)))

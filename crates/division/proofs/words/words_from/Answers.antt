@@ -13,13 +13,13 @@ returns-then-from-bytes c = let a = c.args in
     λ k h. c.sixteen_words.ensures k (omega arith) ∙ ap (λ (p : ℕ). number (run (bit_of a.bytes.now) (p + 64 * k) 64)) e
 
 pub loop-i-init : goal.loop-i-init
-loop-i-init c = (search rules, search rules, λ k h. absurd (omega arith))
+loop-i-init c = (search rules, λ k h. absurd (omega arith))
 
 pub loop-i-preserved : goal.loop-i-preserved
 loop-i-preserved c = let s = c.loop-i in
     let a = c.args in
-    (omega arith, search rules, turned-next (λ k. number (run (bit_of a.bytes.now) (a.at + 64 * k) 64)) s.words s.i _ (omega arith) s.invariant.2 (ap turned_word c.turned_word.ensures ∙ word-twice _ (search rules) ∙ c.word_at-w.ensures))
+    (search rules, turned-next (λ k. number (run (bit_of a.bytes.now) (a.at + 64 * k) 64)) s.words s.i _ (omega arith) s.invariant.1 (ap turned_word c.turned_word.ensures ∙ word-twice _ (search rules) ∙ c.word_at-w.ensures))
 
 pub returns : goal.returns
 returns c = let s = c.loop-i in
-    λ k h. s.invariant.2 k (omega arith)
+    λ k h. s.invariant.1 k (omega arith)
