@@ -1,213 +1,177 @@
 // The options after a command.
-use crate::numbers::{WORD, at_most, low};
+use crate::numbers::{WORD, at_most};
 use crate::{argument, command, place};
+use say::Answer;
 use streams::System;
-use text::Number;
 
-// Options that a command may take, as bits of a set: --from and --pages, --page, --quiet, --stdout, --raw, --mark, --edition, --map.
-pub const RANGE: u16 = 3;
+// An option that a command may take.
+#[derive(Clone, Copy, PartialEq)]
+pub enum Choice {
+    From,
+    Pages,
+    Page,
+    Quiet,
+    Stdout,
+    Raw,
+    Mark,
+    Edition,
+    Map,
+}
 
-pub const PAGE: u16 = 4;
+impl Choice {
+    fn named(name: &[u8]) -> Option<Choice> {
+        match name {
+            b"--from" => Some(Choice::From),
+            b"--pages" => Some(Choice::Pages),
+            b"--page" => Some(Choice::Page),
+            b"--quiet" => Some(Choice::Quiet),
+            b"--stdout" => Some(Choice::Stdout),
+            b"--raw" => Some(Choice::Raw),
+            b"--mark" => Some(Choice::Mark),
+            b"--edition" => Some(Choice::Edition),
+            b"--map" => Some(Choice::Map),
+            _ => None,
+        }
+    }
 
-pub const QUIET: u16 = 8;
-
-pub const STDOUT: u16 = 16;
-
-pub const RAW: u16 = 32;
-
-pub const MARK: u16 = 64;
-
-pub const EDITION: u16 = 128;
-
-pub const MAP: u16 = 256;
+    // Whether a number stands after the option.
+    fn has_number(self) -> bool {
+        match self {
+            Choice::From | Choice::Pages | Choice::Page | Choice::Mark | Choice::Edition => true,
+            Choice::Quiet | Choice::Stdout | Choice::Raw | Choice::Map => false,
+        }
+    }
+}
 
 // What the options say.
 #[derive(Clone, Copy)]
 pub struct Options {
     // The number of the first argument after them.
     pub at: usize,
-    // Whether pages of a dump are asked for: from which on, and at most how many.
-    pub ranged: bool,
-    pub from: u64,
-    pub pages: u64,
-    // Whether one page of a dump is asked for, and which.
-    pub paged: bool,
-    pub page: u64,
+    // The pages of a dump that are asked for: from which on, and at most how many.
+    from: Option<u64>,
+    pages: Option<u64>,
+    // The one page of a dump that is asked for.
+    pub page: Option<u64>,
     pub quiet: bool,
     pub stdout: bool,
     pub raw: bool,
     pub map: bool,
-    // The third layout word.
-    pub mark: u32,
+    mark: Option<u32>,
+    edition: Option<u64>,
+}
+
+impl Options {
+    // No options, with the arguments from place `at` on.
+    fn none(at: usize) -> Self {
+        Options {
+            at: at,
+            from: None,
+            pages: None,
+            page: None,
+            quiet: false,
+            stdout: false,
+            raw: false,
+            map: false,
+            mark: None,
+            edition: None,
+        }
+    }
+
+    // The number of the argument `k` places after the options.
+    pub fn place(&self, k: usize) -> usize {
+        place(self.at, k)
+    }
+
+    // Whether pages of a dump are asked for.
+    pub fn is_ranged(&self) -> bool {
+        self.from.is_some() || self.pages.is_some()
+    }
+
+    // The first page of a dump.
+    pub fn from(&self) -> u64 {
+        self.from.unwrap_or(0)
+    }
+
+    // How many pages of a dump at most.
+    pub fn pages(&self) -> u64 {
+        self.pages.unwrap_or(u64::MAX)
+    }
+
+    // The third layout word, 0 where none is given.
+    pub fn mark(&self) -> u32 {
+        self.mark.unwrap_or(0)
+    }
+
     // The edition, 1 where none is given. The calls refuse all but 1 and 2.
-    pub edition: u64,
-    // The options that were given, as bits.
-    pub given: u16,
-    // Whether all is right: an error was printed where not.
-    pub good: bool,
-}
-
-// The options that take a number.
-const NUMBERED: u16 = RANGE + PAGE + MARK + EDITION;
-
-// The bit of an option; 0 where a name is none.
-fn bit_of(name: &[u8]) -> u16 {
-    match text::index_of(
-        name,
-        b"--from|--pages|--page|--quiet|--stdout|--raw|--mark|--edition|--map",
-    ) {
-        0 => 1,
-        1 => 2,
-        2 => PAGE,
-        3 => QUIET,
-        4 => STDOUT,
-        5 => RAW,
-        6 => MARK,
-        7 => EDITION,
-        8 => MAP,
-        _ => 0,
+    pub fn edition(&self) -> u64 {
+        self.edition.unwrap_or(1)
     }
-}
 
-fn bad(options: Options) -> Options {
-    let mut o = options;
-    o.good = false;
-    o
-}
-
-// The options with one more, by its bit, which takes `v` where it takes a number.
-fn with(options: Options, choice: u16, v: u64) -> Options {
-    let mut o = options;
-    o.given = options.given | choice;
-    match choice {
-        1 => {
-            o.ranged = true;
-            o.from = v;
-        }
-        2 => {
-            o.ranged = true;
-            o.pages = v;
-        }
-        PAGE => {
-            o.paged = true;
-            o.page = v;
-        }
-        QUIET => {
-            o.quiet = true;
-        }
-        STDOUT => {
-            o.stdout = true;
-        }
-        RAW => {
-            o.raw = true;
-        }
-        MARK => {
-            o.mark = low(v);
-        }
-        EDITION => {
-            o.edition = v;
-        }
-        _ => {
-            o.map = true;
+    fn has(&self, choice: Choice) -> bool {
+        match choice {
+            Choice::From => self.from.is_some(),
+            Choice::Pages => self.pages.is_some(),
+            Choice::Page => self.page.is_some(),
+            Choice::Quiet => self.quiet,
+            Choice::Stdout => self.stdout,
+            Choice::Raw => self.raw,
+            Choice::Mark => self.mark.is_some(),
+            Choice::Edition => self.edition.is_some(),
+            Choice::Map => self.map,
         }
     }
-    o
-}
 
-fn moved(options: Options, k: usize) -> Options {
-    let mut o = options;
-    o.at = place(options.at, k);
-    o
-}
+    // Takes an option that is given: the number after it, where it takes one. None where that is none, and an error was printed.
+    fn take<R: System>(&mut self, rt: &R, out: &mut Answer, choice: Choice) -> Option<()> {
+        let i = self.place(1);
+        match choice {
+            Choice::From => self.from = Some(at_most(rt, out, i, "--from", u64::MAX)?),
+            Choice::Pages => self.pages = Some(at_most(rt, out, i, "--pages", u64::MAX)?),
+            Choice::Page => self.page = Some(at_most(rt, out, i, "--page", u64::MAX)?),
+            Choice::Mark => self.mark = u32::try_from(at_most(rt, out, i, "--mark", WORD)?).ok(),
+            Choice::Edition => self.edition = Some(at_most(rt, out, i, "--edition", u64::MAX)?),
+            Choice::Quiet => self.quiet = true,
+            Choice::Stdout => self.stdout = true,
+            Choice::Raw => self.raw = true,
+            Choice::Map => self.map = true,
+        }
+        self.at = self.place(if choice.has_number() { 2 } else { 1 });
+        Some(())
+    }
 
-// The largest number that an option takes.
-fn most(choice: u16) -> u64 {
-    if choice == MARK {
-        return WORD;
+    // Takes the option at the next place: none where it is not among those allowed or was given before, and an error was printed.
+    fn next<R: System>(&mut self, rt: &R, out: &mut Answer, allowed: &[Choice]) -> Option<()> {
+        let mut buffer = text::buffer::<4096>();
+        let name = argument(rt, self.at, &mut buffer);
+        let found = Choice::named(name).filter(|choice| allowed.contains(choice));
+        let Some(choice) = found else {
+            out.bad_argument(rt, "option", name, "is none of this command's");
+            return None;
+        };
+        if self.has(choice) {
+            out.bad_argument(rt, "option", name, "is given twice");
+            return None;
+        }
+        self.take(rt, out, choice)
     }
-    u64::MAX
-}
-
-fn taken<R: System>(
-    rt: &R,
-    out: &mut [u8; 32768],
-    options: Options,
-    choice: u16,
-    name: &[u8],
-) -> Options {
-    if choice & NUMBERED == 0 {
-        return moved(with(options, choice, 0), 1);
-    }
-    match at_most(rt, out, place(options.at, 1), name, most(choice)) {
-        Number::Is(v) => moved(with(options, choice, v), 2),
-        Number::Bad => bad(options),
-    }
-}
-
-// Whether an option is among those allowed and was not given before; an error is printed where not.
-fn may_follow<R: System>(
-    rt: &R,
-    out: &mut [u8; 32768],
-    choice: u16,
-    given: u16,
-    allowed: u16,
-    name: &[u8],
-) -> bool {
-    if choice & allowed == 0 {
-        say::bad_argument(rt, out, b"option", name, b"is none of this command's");
-        return false;
-    }
-    if choice & given != 0 {
-        say::bad_argument(rt, out, b"option", name, b"is given twice");
-        return false;
-    }
-    true
-}
-
-// Takes the option at the next place.
-fn next<R: System>(rt: &R, out: &mut [u8; 32768], options: Options, allowed: u16) -> Options {
-    let mut name = text::buffer();
-    let n = argument(rt, options.at, &mut name);
-    let choice = bit_of(&name[..n]);
-    if !may_follow(rt, out, choice, options.given, allowed, &name[..n]) {
-        return bad(options);
-    }
-    taken(rt, out, options, choice, &name[..n])
 }
 
 // Whether argument i starts with two dashes.
 fn is_option<R: System>(rt: &R, i: usize) -> bool {
-    let mut given = text::buffer();
+    let mut given = text::buffer::<4096>();
     argument(rt, i, &mut given);
-    text::same(text::front(&given, 2), b"--")
+    given.starts_with(b"--")
 }
 
-// The options between the command and its arguments, of which only those allowed may be given.
-pub fn find_options<R: System>(rt: &R, out: &mut [u8; 32768], allowed: u16) -> Options {
-    let mut options = Options {
-        at: place(command(rt), 1),
-        ranged: false,
-        from: 0,
-        pages: u64::MAX,
-        paged: false,
-        page: 0,
-        quiet: false,
-        stdout: false,
-        raw: false,
-        map: false,
-        mark: 0,
-        edition: 1,
-        given: 0,
-        good: true,
-    };
+// The options between the command and its arguments, of which only those allowed may be given. None where an error was printed.
+pub fn find_options<R: System>(rt: &R, out: &mut Answer, allowed: &[Choice]) -> Option<Options> {
+    let mut options = Options::none(place(command(rt), 1));
     for _ in 0..16 {
         if !is_option(rt, options.at) {
             break;
         }
-        options = next(rt, out, options, allowed);
-        if !options.good {
-            break;
-        }
+        options.next(rt, out, allowed)?;
     }
-    options
+    Some(options)
 }
