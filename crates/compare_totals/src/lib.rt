@@ -5,11 +5,12 @@
 //   summary                the last line of a comparison of dumps
 #![tactic(auto)]
 
+use say::Answer;
 use std::io::Error;
 use streams::Source;
 
 // The two files, the second nothing where there is none; the edition; the number of the first page, how many pages to
-// compare at most, and how many there are, 0 where that is not known; when the run began; whether only refusals and the summary are
+// compare at most, and how many there are, where that is known; when the run began; whether only refusals and the summary are
 // printed; and whether maps are printed.
 #[derive(Clone, Copy)]
 pub struct Run<'a> {
@@ -18,7 +19,7 @@ pub struct Run<'a> {
     pub edition: u64,
     pub from: u64,
     pub most: u64,
-    pub known: u64,
+    pub known: Option<u64>,
     pub began: u64,
     pub quiet: bool,
     pub map: bool,
@@ -27,13 +28,12 @@ pub struct Run<'a> {
 // Which file failed, and why.
 #[derive(Clone, Copy)]
 pub enum Failed {
-    Nothing,
     First(Error),
     Second(Error),
 }
 
 // Pages so far, and of them those that differ; blocks that are worse and better, and those that are ruined or erased in the second page only;
-// when progress was last shown; whether to go on; which file failed.
+// when progress was last shown; whether to go on; which file failed, if any.
 #[derive(Clone, Copy)]
 pub struct Totals {
     pub pages: u64,
@@ -44,135 +44,81 @@ pub struct Totals {
     pub erased: u64,
     pub shown: u64,
     pub more: bool,
-    pub failed: Failed,
+    pub failed: Option<Failed>,
 }
 
-pub fn start(began: u64) -> Totals {
-    Totals {
-        pages: 0,
-        differing: 0,
-        worse: 0,
-        better: 0,
-        ruined: 0,
-        erased: 0,
-        shown: began,
-        more: true,
-        failed: Failed::Nothing,
-    }
-}
-
-// One page more.
-pub fn passed(totals: Totals) -> Totals {
-    let mut t = totals;
-    t.pages = text::plus(totals.pages, 1);
-    t
-}
-
-// The end of the run.
-pub fn ended(totals: Totals) -> Totals {
-    let mut t = totals;
-    t.more = false;
-    t
-}
-
-// The end of the run, because a file failed.
-pub fn broken(totals: Totals, failed: Failed) -> Totals {
-    Totals {
-        pages: totals.pages,
-        differing: totals.differing,
-        worse: totals.worse,
-        better: totals.better,
-        ruined: totals.ruined,
-        erased: totals.erased,
-        shown: totals.shown,
-        more: false,
-        failed: failed,
-    }
-}
-
-// The totals with one block more, by its flips or zeros in both pages.
-fn changed(totals: Totals, first: u8, second: u8) -> Totals {
-    let mut t = totals;
-    if first < second {
-        t.worse = text::plus(totals.worse, 1);
-    }
-    if second < first {
-        t.better = text::plus(totals.better, 1);
-    }
-    t
-}
-
-// The totals with one block more, by its counts: it is ruined now, erased now, or written in both pages and perhaps worse or better.
-fn counted(totals: Totals, first: u8, second: u8) -> Totals {
-    let mut t = totals;
-    if first == second {
-        return t;
-    }
-    if second == 255 {
-        t.ruined = text::plus(totals.ruined, 1);
-        return t;
-    }
-    if first == 255 {
-        return t;
-    }
-    if second < 128 {
-        if first < 128 {
-            return changed(totals, first, second);
+impl Totals {
+    pub fn start(began: u64) -> Self {
+        Totals {
+            pages: 0,
+            differing: 0,
+            worse: 0,
+            better: 0,
+            ruined: 0,
+            erased: 0,
+            shown: began,
+            more: true,
+            failed: None,
         }
-        return t;
     }
-    if first < 128 {
-        t.erased = text::plus(totals.erased, 1);
-        return t;
-    }
-    changed(totals, first, second)
-}
 
-// The same with block b, where the page has so many blocks.
-fn counted_at(
-    totals: Totals,
-    blocks: u16,
-    first: &[u8; 256],
-    second: &[u8; 256],
-    b: usize,
-) -> Totals {
-    if blocks as usize <= b {
-        return totals;
+    // One page more.
+    pub fn passed(mut self) -> Self {
+        self.pages = text::plus(self.pages, 1);
+        self
     }
-    if 256 <= b {
-        return totals;
+
+    // The end of the run.
+    pub fn ended(mut self) -> Self {
+        self.more = false;
+        self
     }
-    counted(totals, first[b], second[b])
-}
 
-// One page more that differs.
-fn differing_page(totals: Totals) -> Totals {
-    let mut t = passed(totals);
-    t.differing = text::plus(totals.differing, 1);
-    t
-}
-
-// The totals with one page more that differs, by the counts of its blocks.
-pub fn differing(totals: Totals, blocks: u16, first: &[u8; 256], second: &[u8; 256]) -> Totals {
-    let mut t = differing_page(totals);
-    for b in 0..256 {
-        t = counted_at(t, blocks, first, second, b);
+    // The end of the run, because a file failed.
+    pub fn broken(mut self, failed: Failed) -> Self {
+        self.more = false;
+        self.failed = Some(failed);
+        self
     }
-    t
-}
 
-// The last line of a comparison of dumps.
-pub fn summary(out: &mut [u8; 32768], totals: Totals) {
-    say::facts(
-        out,
-        b"pages #, differing #; blocks worse #, better #, ruined now #, erased now #\n",
-        &[
-            totals.pages,
-            totals.differing,
-            totals.worse,
-            totals.better,
-            totals.ruined,
-            totals.erased,
-        ],
-    );
+    // One block more, by its flips or zeros in both pages.
+    fn change(&mut self, first: u8, second: u8) {
+        if first < second {
+            self.worse = text::plus(self.worse, 1);
+        }
+        if second < first {
+            self.better = text::plus(self.better, 1);
+        }
+    }
+
+    // One block more, by its counts: it is ruined now, erased now, or written in both pages and perhaps worse or better.
+    fn count(&mut self, first: u8, second: u8) {
+        match (first, second) {
+            (255, 255) => (),
+            (_, 255) => self.ruined = text::plus(self.ruined, 1),
+            (255, _) => (),
+            (0..128, 0..128) => self.change(first, second),
+            (_, 0..128) => (),
+            (0..128, _) => self.erased = text::plus(self.erased, 1),
+            _ => self.change(first, second),
+        }
+    }
+
+    // One page more that differs, by the counts of its blocks.
+    pub fn differing(mut self, blocks: u16, first: &[u8; 256], second: &[u8; 256]) -> Self {
+        self.pages = text::plus(self.pages, 1);
+        self.differing = text::plus(self.differing, 1);
+        for (a, b) in first.iter().zip(second).take(blocks as usize) {
+            self.count(*a, *b);
+        }
+        self
+    }
+
+    // The last line of a comparison of dumps.
+    pub fn summary(&self, out: &mut Answer) {
+        out.put(format_args!(
+            "pages {}, differing {}; blocks worse {}, better {}, ruined now {}, erased now {}\n",
+            self.pages, self.differing, self.worse, self.better, self.ruined, self.erased,
+        ));
+    }
 }

@@ -1,25 +1,20 @@
 // Files that are read.
 use crate::is_dash;
 use crate::names::text_of;
+use say::Answer;
 use std::fs::File;
 use std::io::{Error, ErrorKind, Seek, SeekFrom, Stdin};
 use std::os::unix::fs::FileTypeExt;
 use std::{fs, io};
-use streams::{Filled, Source, System};
+use streams::{Source, System};
 
 // A file that is read, or nothing.
+// By hand: (d) an Option says already whether an error was printed in its place, and one within the other is no plainer.
 #[derive(Drop)]
 pub enum Reading {
     Nothing,
     Standard(Stdin),
     File(File),
-}
-
-// How many pages are left, where that is known.
-#[derive(Clone, Copy)]
-pub enum Known {
-    Pages(u64),
-    Unknown,
 }
 
 // Opens a file for reading.
@@ -28,14 +23,14 @@ pub fn open_read<R: System>(rt: &R, path: &[u8]) -> io::Result<File> {
 }
 
 // Opens a file for reading: none where an error was printed. A dash is standard input.
-pub fn input<R: System>(rt: &R, out: &mut [u8; 32768], path: &[u8]) -> Option<Reading> {
+pub fn input<R: System>(rt: &R, out: &mut Answer, path: &[u8]) -> Option<Reading> {
     if is_dash(path) {
         return Some(Reading::Standard(rt.input()));
     }
     match open_read(rt, path) {
         Ok(file) => Some(Reading::File(file)),
         Err(error) => {
-            say::bad_file(rt, out, path, error);
+            out.bad_file(rt, path, error);
             None
         }
     }
@@ -59,18 +54,7 @@ fn pages_in(bytes: u64, size: u16) -> u64 {
     if size == 0 {
         return 0;
     }
-    if bytes == 0 {
-        return 0;
-    }
-    text::plus((bytes - 1) / size as u64, 1)
-}
-
-// How many pages stand between two positions of a file.
-fn pages_between(here: u64, last: u64, size: u16) -> Known {
-    if last < here {
-        return Known::Pages(0);
-    }
-    Known::Pages(pages_in(last - here, size))
+    bytes.div_ceil(u64::from(size))
 }
 
 // The position and the end of a file. A pipe has no position.
@@ -84,17 +68,14 @@ fn positions(file: &File) -> io::Result<(u64, u64)> {
 
 // The number that the first of these bytes after the blanks say in decimal digits.
 fn leading(bytes: &[u8]) -> u64 {
-    let mut v: u64 = 0;
-    let mut begun = false;
-    for b in bytes {
-        if b'0' <= *b && *b <= b'9' {
-            v = text::plus(text::times(v, 10), (*b - b'0') as u64);
-            begun = true;
-        } else if begun {
-            break;
-        }
-    }
-    v
+    bytes
+        .iter()
+        .skip_while(|b| !b.is_ascii_digit())
+        .take_while(|b| b.is_ascii_digit())
+        .fold(
+            0,
+            |v, b| text::plus(text::times(v, 10), u64::from(b.saturating_sub(b'0'))),
+        )
 }
 
 // Standard input among what is open.
@@ -126,10 +107,8 @@ fn input_positions<R: System>(rt: &R) -> io::Result<(u64, u64)> {
     let last = input_end(rt)?;
     let lines = fs::open(rt, "/proc/self/fdinfo/0")?;
     let mut bytes = [0u8; 64];
-    match streams::fill(Source::File(&lines), &mut bytes, 0) {
-        Filled::Bytes(_) => Ok((leading(&bytes), last)),
-        Filled::Failed(error) => Err(error),
-    }
+    streams::fill(Source::File(&lines), &mut bytes, 0)?;
+    Ok((leading(&bytes), last))
 }
 
 fn positions_of<R: System>(rt: &R, source: Source<'_>) -> io::Result<(u64, u64)> {
@@ -140,20 +119,10 @@ fn positions_of<R: System>(rt: &R, source: Source<'_>) -> io::Result<(u64, u64)>
     }
 }
 
-// How many pages a file has from its position on. A pipe has no position.
-pub fn pages_left<R: System>(rt: &R, source: Source<'_>, size: u16) -> Known {
-    match positions_of(rt, source) {
-        Ok((here, last)) => pages_between(here, last, size),
-        Err(_) => Known::Unknown,
-    }
-}
-
-// What came of passing over pages: there are so many and more, there are not, or reading failed.
-#[derive(Clone, Copy)]
-pub enum Passed {
-    All,
-    Short,
-    Failed(Error),
+// How many pages a file has from its position on: none where that is not known. A pipe has no position.
+pub fn pages_left<R: System>(rt: &R, source: Source<'_>, size: u16) -> Option<u64> {
+    let (here, last) = positions_of(rt, source).ok()?;
+    Some(pages_in(last.saturating_sub(here), size))
 }
 
 // Passes over a page of a file by its position, where it has one.
@@ -168,54 +137,29 @@ fn is_passed(source: Source<'_>, size: u16) -> bool {
     }
 }
 
-// Passes over a page of a file, by its position where it has one, else by reading.
-fn pass_one(source: Source<'_>, page: &mut [u8], size: u16) -> Passed {
+// Passes over a page of a file, by its position where it has one, else by reading. Says whether it was there.
+fn pass_one(source: Source<'_>, page: &mut [u8], size: u16) -> io::Result<bool> {
     if is_passed(source, size) {
-        return Passed::All;
+        return Ok(true);
     }
-    match streams::fill(source, page, 0) {
-        Filled::Bytes(n) => {
-            if n == size as usize {
-                return Passed::All;
-            }
-            Passed::Short
-        }
-        Filled::Failed(error) => Passed::Failed(error),
-    }
+    Ok(streams::fill(source, page, 0)? == size as usize)
 }
 
-fn enough(known: Known, count: u64) -> bool {
-    match known {
-        Known::Pages(n) => count < n,
-        Known::Unknown => true,
-    }
-}
-
-fn is_all(passed: Passed) -> bool {
-    match passed {
-        Passed::All => true,
-        Passed::Short => false,
-        Passed::Failed(_) => false,
-    }
-}
-
-// Passes over so many pages, each as long as the buffer.
+// Passes over so many pages, each as long as the buffer, and says whether there are so many and more.
 pub fn pass<R: System>(
     rt: &R,
     source: Source<'_>,
     page: &mut [u8],
     size: u16,
     count: u64,
-) -> Passed {
-    if !enough(pages_left(rt, source, size), count) {
-        return Passed::Short;
+) -> io::Result<bool> {
+    if pages_left(rt, source, size).is_some_and(|n| n <= count) {
+        return Ok(false);
     }
-    let mut passed = Passed::All;
     for _ in 0..count {
-        passed = pass_one(source, page, size);
-        if !is_all(passed) {
-            break;
+        if !pass_one(source, page, size)? {
+            return Ok(false);
         }
     }
-    passed
+    Ok(true)
 }

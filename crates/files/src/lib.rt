@@ -4,7 +4,7 @@
 //   open_read                       a file that is opened for reading, with no word about it
 //   pages_left, pass                how many pages a file still has, and passing over some
 //   begin, end, drop_new            an output that is begun, ended as a whole, or dropped
-//   place, place_both, place_all    an output that takes its place; two or three that take it together or not at all
+//   place, place_all                an output that takes its place; several that take it together or not at all
 //
 // An output is a new file beside its place, PATH.N.part, that takes the place when it is whole. So where anything fails, what was
 // there is there still. What lies below /dev/ is written as it is. An error is printed where it happens.
@@ -16,10 +16,10 @@ mod inputs;
 mod names;
 mod outputs;
 
-pub use inputs::{Known, Passed, Reading, close_input, input, open_read, pages_left, pass, source};
-pub use outputs::{Writing, begin, drop_new, end, is_direct, place, place_all, place_both, sink};
+pub use inputs::{Reading, close_input, input, open_read, pages_left, pass, source};
+pub use outputs::{Writing, begin, drop_new, end, is_direct, place, place_all, sink};
 
 // Whether a name is a dash.
 pub fn is_dash(path: &[u8]) -> bool {
-    text::same(path, b"-")
+    matches!(path, b"-")
 }

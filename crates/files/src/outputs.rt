@@ -1,12 +1,14 @@
 // Files that are written.
 use crate::is_dash;
 use crate::names::{beside, text_of};
+use say::Answer;
 use std::fs::{File, OpenOptions};
-use std::io::{Error, ErrorKind, Stdout};
+use std::io::{ErrorKind, Stdout};
 use std::{fs, io};
 use streams::{Sink, System};
 
 // A file that is written, or nothing.
+// By hand: (d) an Option says already whether an error was printed in its place, and one within the other is no plainer.
 #[derive(Drop)]
 pub enum Writing {
     Nothing,
@@ -16,7 +18,7 @@ pub enum Writing {
 
 // Whether a file is written as it is, and not by a new one: what lies below /dev/.
 pub fn is_direct(path: &[u8]) -> bool {
-    text::same(text::front(path, 5), b"/dev/")
+    path.starts_with(b"/dev/")
 }
 
 // Whether nothing is to be put in place for this output: standard output, one that is not wanted or one that is direct.
@@ -44,9 +46,8 @@ fn remove<R: System>(rt: &R, path: &[u8]) -> io::Result<()> {
 }
 
 fn create<R: System>(rt: &R, path: &[u8], n: u64) -> io::Result<File> {
-    let mut name = text::buffer();
-    let end = beside(path, n, b".part", &mut name);
-    create_new(rt, text::front(&name, end))
+    let name = beside(path, n, ".part");
+    create_new(rt, name.bytes())
 }
 
 fn opened<R: System>(rt: &R, path: &[u8], n: u64) -> io::Result<File> {
@@ -57,14 +58,14 @@ fn opened<R: System>(rt: &R, path: &[u8], n: u64) -> io::Result<File> {
 }
 
 // Begins an output: none where an error was printed. A dash is standard output.
-pub fn begin<R: System>(rt: &R, out: &mut [u8; 32768], path: &[u8], n: u64) -> Option<Writing> {
+pub fn begin<R: System>(rt: &R, out: &mut Answer, path: &[u8], n: u64) -> Option<Writing> {
     if is_dash(path) {
         return Some(Writing::Standard(rt.output()));
     }
     match opened(rt, path, n) {
         Ok(file) => Some(Writing::File(file)),
         Err(error) => {
-            say::bad_output(rt, out, path, error);
+            out.bad_output(rt, path, error);
             None
         }
     }
@@ -80,11 +81,11 @@ pub fn sink(output: &Writing) -> Sink<'_> {
 }
 
 // Ends an output that is whole, and says whether that is done: what was written has reached its device, where it is a file.
-pub fn end<R: System>(rt: &R, out: &mut [u8; 32768], sink: Sink<'_>, path: &[u8]) -> bool {
+pub fn end<R: System>(rt: &R, out: &mut Answer, sink: Sink<'_>, path: &[u8]) -> bool {
     match streams::settle(rt, sink) {
         Ok(()) => true,
         Err(error) => {
-            say::bad_output(rt, out, path, error);
+            out.bad_output(rt, path, error);
             false
         }
     }
@@ -95,74 +96,59 @@ pub fn drop_new<R: System>(rt: &R, path: &[u8], n: u64) {
     if needs_no_place(path) {
         return;
     }
-    let mut name = text::buffer();
-    let end = beside(path, n, b".part", &mut name);
-    let _ = remove(rt, text::front(&name, end));
+    let name = beside(path, n, ".part");
+    let _ = remove(rt, name.bytes());
 }
 
 fn renamed<R: System>(rt: &R, path: &[u8], n: u64) -> io::Result<()> {
-    let mut name = text::buffer();
-    let end = beside(path, n, b".part", &mut name);
-    rename(rt, text::front(&name, end), path)
+    let name = beside(path, n, ".part");
+    rename(rt, name.bytes(), path)
 }
 
 // Puts an output that was ended in its place, and says whether that is done.
-pub fn place<R: System>(rt: &R, out: &mut [u8; 32768], path: &[u8], n: u64) -> bool {
+pub fn place<R: System>(rt: &R, out: &mut Answer, path: &[u8], n: u64) -> bool {
     if needs_no_place(path) {
         return true;
     }
     match renamed(rt, path, n) {
         Ok(()) => true,
         Err(error) => {
-            say::bad_output(rt, out, path, error);
+            out.bad_output(rt, path, error);
             drop_new(rt, path, n);
             false
         }
     }
 }
 
-// What came of keeping the file that has the place: it is kept as PATH.N.old, there was none, or it could not be renamed.
-#[derive(Drop)]
-enum Kept {
-    Old,
-    Nothing,
-    Failed(Error),
-}
-
-// Keeps a file under another name, which is taken already by an empty file.
-fn keep_as<R: System>(rt: &R, path: &[u8], name: &[u8]) -> Kept {
+// Keeps a file under another name, which is taken already by an empty file. Says whether there was one.
+fn keep_as<R: System>(rt: &R, path: &[u8], name: &[u8]) -> io::Result<bool> {
     match rename(rt, path, name) {
-        Ok(()) => Kept::Old,
+        Ok(()) => Ok(true),
         Err(error) => {
             let _ = remove(rt, name);
             if error.kind() == ErrorKind::NotFound {
-                return Kept::Nothing;
+                return Ok(false);
             }
-            Kept::Failed(error)
+            Err(error)
         }
     }
 }
 
-// Keeps the file that has the place, where no file has the name that it is kept by.
-fn keep_old<R: System>(rt: &R, path: &[u8], n: u64) -> Kept {
-    let mut name = text::buffer();
-    let end = beside(path, n, b".old", &mut name);
-    match create_new(rt, text::front(&name, end)) {
-        Ok(_) => keep_as(rt, path, text::front(&name, end)),
-        Err(error) => Kept::Failed(error),
-    }
+// Keeps the file that has the place as PATH.N.old, where no file has that name, and says whether there was one.
+fn keep_old<R: System>(rt: &R, path: &[u8], n: u64) -> io::Result<bool> {
+    let name = beside(path, n, ".old");
+    create_new(rt, name.bytes())?;
+    keep_as(rt, path, name.bytes())
 }
 
 fn put_back<R: System>(rt: &R, path: &[u8], n: u64) {
-    let mut name = text::buffer();
-    let end = beside(path, n, b".old", &mut name);
-    let _ = rename(rt, text::front(&name, end), path);
+    let name = beside(path, n, ".old");
+    let _ = rename(rt, name.bytes(), path);
 }
 
 fn drop_old<R: System>(rt: &R, path: &[u8], n: u64) {
-    let mut name = text::buffer();
-    let end = beside(path, n, b".old", &mut name);
-    let _ = remove(rt, text::front(&name, end));
+    let name = beside(path, n, ".old");
+    let _ = remove(rt, name.bytes());
 }
 
 // The end of placing several, of which the first has its place: the file that had it is dropped where the others have theirs too, and
@@ -183,7 +169,7 @@ fn settle<R: System>(rt: &R, first: &[u8], n: u64, kept: bool, all: bool) -> boo
 }
 
 // Puts an output in place where a file that has it was kept or there is none, and that file back where this fails.
-fn place_kept<R: System>(rt: &R, out: &mut [u8; 32768], path: &[u8], n: u64, kept: bool) -> bool {
+fn place_kept<R: System>(rt: &R, out: &mut Answer, path: &[u8], n: u64, kept: bool) -> bool {
     if place(rt, out, path, n) {
         return true;
     }
@@ -193,71 +179,44 @@ fn place_kept<R: System>(rt: &R, out: &mut [u8; 32768], path: &[u8], n: u64, kep
     false
 }
 
-// Whether the file that has a place is kept, or there is none: an error is printed where it could not be renamed.
-#[derive(Drop)]
-enum Ready {
-    Kept(bool),
-    Not,
-}
-
-fn make_ready<R: System>(rt: &R, out: &mut [u8; 32768], path: &[u8], n: u64) -> Ready {
+// Whether the file that has a place is kept: none where it could not be renamed, and an error was printed.
+fn make_ready<R: System>(rt: &R, out: &mut Answer, path: &[u8], n: u64) -> Option<bool> {
     match keep_old(rt, path, n) {
-        Kept::Old => Ready::Kept(true),
-        Kept::Nothing => Ready::Kept(false),
-        Kept::Failed(error) => {
-            say::bad_output(rt, out, path, error);
+        Ok(kept) => Some(kept),
+        Err(error) => {
+            out.bad_output(rt, path, error);
             drop_new(rt, path, n);
-            Ready::Not
+            None
         }
     }
 }
 
-// Puts two outputs in place, both or neither, and says whether that is done.
-pub fn place_both<R: System>(
-    rt: &R,
-    out: &mut [u8; 32768],
-    first: &[u8],
-    second: &[u8],
-    n: u64,
-) -> bool {
-    if needs_no_place(first) {
-        return place(rt, out, second, n);
+// Puts the first of several in place, and says whether the file that had it is kept. None where that is not done.
+fn place_first<R: System>(rt: &R, out: &mut Answer, path: &[u8], n: u64) -> Option<bool> {
+    let kept = make_ready(rt, out, path, n)?;
+    if place_kept(rt, out, path, n, kept) {
+        Some(kept)
+    } else {
+        None
     }
-    if needs_no_place(second) {
-        return place(rt, out, first, n);
-    }
-    let Ready::Kept(kept) = make_ready(rt, out, first, n) else {
-        drop_new(rt, second, n);
-        return false;
-    };
-    if !place_kept(rt, out, first, n, kept) {
-        drop_new(rt, second, n);
-        return false;
-    }
-    settle(rt, first, n, kept, place(rt, out, second, n))
 }
 
-// Puts three outputs in place, all or none, and says whether that is done.
-pub fn place_all<R: System>(
-    rt: &R,
-    out: &mut [u8; 32768],
-    first: &[u8],
-    second: &[u8],
-    third: &[u8],
-    n: u64,
-) -> bool {
-    if needs_no_place(first) {
-        return place_both(rt, out, second, third, n);
+// Puts outputs in place, all or none, and says whether that is done.
+pub fn place_all<R: System>(rt: &R, out: &mut Answer, paths: &[&[u8]], n: u64) -> bool {
+    match paths {
+        [] => true,
+        [only] => place(rt, out, only, n),
+        [first, rest @ ..] if needs_no_place(first) => place_all(rt, out, rest, n),
+        [first, second] if needs_no_place(second) => place(rt, out, first, n),
+        [first, rest @ ..] => {
+            let Some(kept) = place_first(rt, out, first, n) else {
+                for path in rest {
+                    drop_new(rt, path, n);
+                }
+                return false;
+            };
+            let all = place_all(rt, out, rest, n);
+            settle(rt, first, n, kept, all)
+        }
     }
-    let Ready::Kept(kept) = make_ready(rt, out, first, n) else {
-        drop_new(rt, second, n);
-        drop_new(rt, third, n);
-        return false;
-    };
-    if !place_kept(rt, out, first, n, kept) {
-        drop_new(rt, second, n);
-        drop_new(rt, third, n);
-        return false;
-    }
-    settle(rt, first, n, kept, place_both(rt, out, second, third, n))
 }

@@ -2,142 +2,93 @@
 #![tactic(auto)]
 
 use read_totals::{Failed, Run, Totals};
+use say::Answer;
 use streams::{Sink, System};
+
+// The files of a run, of which those that are not wanted are dashes.
+#[derive(Clone, Copy)]
+pub struct Paths<'a> {
+    pub page: &'a [u8],
+    pub metadata: &'a [u8],
+    pub data: &'a [u8],
+    pub list: &'a [u8],
+}
 
 // Whether a dump was read, and not one page.
 fn is_dump(run: Run<'_>, totals: Totals) -> bool {
-    if run.dump {
-        return true;
-    }
-    0 < totals.pages
+    run.dump || 0 < totals.pages
 }
 
-// How many pages are stored where a run failed: none that were to take a place.
-fn stored(totals: Totals, metadata: &[u8], data: &[u8], run: Run<'_>) -> u64 {
-    if files::is_direct(metadata) {
-        return totals.pages;
-    }
-    if files::is_direct(data) {
-        return totals.pages;
-    }
-    if let Sink::Output(_) = run.data {
-        return totals.pages;
-    }
-    0
-}
-
-// Drops the outputs that were begun.
-pub fn drop_all<R: System>(rt: &R, metadata: &[u8], data: &[u8], list: &[u8]) {
-    let number = arguments::run_number(rt);
-    files::drop_new(rt, metadata, number);
-    files::drop_new(rt, data, number);
-    files::drop_new(rt, list, number);
-}
-
-// The end of a run that failed, after its error's line.
-fn stopped<R: System>(
-    rt: &R,
-    out: &mut [u8; 32768],
-    run: Run<'_>,
-    totals: Totals,
-    metadata: &[u8],
-    data: &[u8],
-    list: &[u8],
-) {
-    drop_all(rt, metadata, data, list);
-    say::forget(out);
-    if is_dump(run, totals) {
-        say::facts(
-            out,
-            b"stopped after # pages, # stored\n",
-            &[totals.pages, stored(totals, metadata, data, run)],
-        );
-    }
-}
-
-// Ends the outputs and puts them in place. Says whether that is done.
-fn kept<R: System>(
-    rt: &R,
-    out: &mut [u8; 32768],
-    run: Run<'_>,
-    metadata: &[u8],
-    data: &[u8],
-    list: &[u8],
-) -> bool {
-    let m = files::end(rt, out, run.metadata, metadata);
-    let d = files::end(rt, out, run.data, data);
-    let l = files::end(rt, out, run.list, list);
-    if !m {
-        return false;
-    }
-    if !d {
-        return false;
-    }
-    if !l {
-        return false;
-    }
-    files::place_all(rt, out, list, metadata, data, arguments::run_number(rt))
-}
-
-// The line of a file that failed, and why.
-fn complain<R: System>(
-    rt: &R,
-    out: &mut [u8; 32768],
-    failed: Failed,
-    page: &[u8],
-    metadata: &[u8],
-    data: &[u8],
-    list: &[u8],
-) {
-    match failed {
-        Failed::Nothing => (),
-        Failed::Page(error) => say::bad_file(rt, out, page, error),
-        Failed::Metadata(error) => say::bad_output(rt, out, metadata, error),
-        Failed::Data(error) => say::bad_output(rt, out, data, error),
-        Failed::List(error) => say::bad_output(rt, out, list, error),
-    }
-}
-
-fn is_nothing(failed: Failed) -> bool {
-    match failed {
-        Failed::Nothing => true,
-        Failed::Page(_) => false,
-        Failed::Metadata(_) => false,
-        Failed::Data(_) => false,
-        Failed::List(_) => false,
-    }
-}
-
-// The end of a run: the outputs take their place where all went well. Nothing is stored where the one page was refused or the dump has
-// not the pages that were asked for.
-pub fn finish<R: System>(
-    rt: &R,
-    out: &mut [u8; 32768],
-    run: Run<'_>,
-    totals: Totals,
-    page: &[u8],
-    metadata: &[u8],
-    data: &[u8],
-    list: &[u8],
-) {
-    let failed = totals.failed;
-    complain(rt, out, failed, page, metadata, data, list);
-    if !is_nothing(failed) {
-        stopped(rt, out, run, totals, metadata, data, list);
-        return;
-    }
-    if !totals.good {
-        drop_all(rt, metadata, data, list);
-        if run.dump {
-            say::bad_argument(rt, out, b"PAGE", page, b"has no such page");
+impl Paths<'_> {
+    // How many pages are stored where a run failed: none that were to take a place.
+    fn stored(&self, run: Run<'_>, totals: Totals) -> u64 {
+        if files::is_direct(self.metadata) || files::is_direct(self.data) {
+            return totals.pages;
         }
-        return;
+        match run.data {
+            Sink::Output(_) => totals.pages,
+            _ => 0,
+        }
     }
-    if !kept(rt, out, run, metadata, data, list) {
-        stopped(rt, out, run, totals, metadata, data, list);
-        return;
+
+    // Drops the outputs that were begun.
+    pub fn drop_all<R: System>(&self, rt: &R) {
+        let number = arguments::run_number(rt);
+        files::drop_new(rt, self.metadata, number);
+        files::drop_new(rt, self.data, number);
+        files::drop_new(rt, self.list, number);
     }
-    if is_dump(run, totals) {
-        read_totals::summary(out, run, totals);
+
+    // The end of a run that failed, after its error's line.
+    fn stop<R: System>(&self, rt: &R, out: &mut Answer, run: Run<'_>, totals: Totals) {
+        self.drop_all(rt);
+        out.forget();
+        if is_dump(run, totals) {
+            out.put(format_args!(
+                "stopped after {} pages, {} stored\n",
+                totals.pages,
+                self.stored(run, totals),
+            ));
+        }
+    }
+
+    // Ends the outputs and puts them in place. Says whether that is done.
+    fn keep<R: System>(&self, rt: &R, out: &mut Answer, run: Run<'_>) -> bool {
+        let m = files::end(rt, out, run.metadata, self.metadata);
+        let d = files::end(rt, out, run.data, self.data);
+        let l = files::end(rt, out, run.list, self.list);
+        if !(m && d && l) {
+            return false;
+        }
+        let paths = [self.list, self.metadata, self.data];
+        files::place_all(rt, out, &paths, arguments::run_number(rt))
+    }
+
+    // The line of a file that failed, and why.
+    fn complain<R: System>(&self, rt: &R, out: &mut Answer, failed: Failed) {
+        match failed {
+            Failed::Page(error) => out.bad_file(rt, self.page, error),
+            Failed::Metadata(error) => out.bad_output(rt, self.metadata, error),
+            Failed::Data(error) => out.bad_output(rt, self.data, error),
+            Failed::List(error) => out.bad_output(rt, self.list, error),
+        }
+    }
+
+    // The end of a run: the outputs take their place where all went well. Nothing is stored where the one page was refused or the dump has
+    // not the pages that were asked for.
+    pub fn finish<R: System>(&self, rt: &R, out: &mut Answer, run: Run<'_>, totals: Totals) {
+        if let Some(failed) = totals.failed {
+            self.complain(rt, out, failed);
+            self.stop(rt, out, run, totals);
+        } else if !totals.good {
+            self.drop_all(rt);
+            if run.dump {
+                out.bad_argument(rt, "PAGE", self.page, "has no such page");
+            }
+        } else if !self.keep(rt, out, run) {
+            self.stop(rt, out, run, totals);
+        } else if is_dump(run, totals) {
+            totals.summary(out, run);
+        }
     }
 }

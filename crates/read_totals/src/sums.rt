@@ -5,7 +5,7 @@ use layout_plan::Plan;
 pub const RUINED: u8 = 255;
 
 // Corrected bits, the most in a block, erased blocks, their zeros, and ruined blocks.
-#[derive(Clone, Copy)]
+#[derive(Clone, Copy, Default)]
 pub struct Sums {
     pub flips: u64,
     pub most: u8,
@@ -14,43 +14,33 @@ pub struct Sums {
     pub ruined: u64,
 }
 
-// The sums with one block more, by its count.
-fn with(sums: Sums, n: u8) -> Sums {
-    let mut s = sums;
-    if n < 128 {
-        s.flips = text::plus(sums.flips, n as u64);
-        s.most = text::larger(sums.most, n);
-        return s;
+impl Sums {
+    // One block more, by its count.
+    fn add(&mut self, n: u8) {
+        match n {
+            RUINED => self.ruined = text::plus(self.ruined, 1),
+            0..128 => {
+                self.flips = text::plus(self.flips, u64::from(n));
+                self.most = self.most.max(n);
+            }
+            _ => {
+                self.erased = text::plus(self.erased, 1);
+                self.zeros = text::plus(self.zeros, u64::from(n - 128));
+            }
+        }
     }
-    if n == RUINED {
-        s.ruined = text::plus(sums.ruined, 1);
-        return s;
+
+    // The sums of a page's counts.
+    pub fn of(plan: Plan, counts: &[u8; 256]) -> Self {
+        let mut sums = Sums::default();
+        for n in text::front(counts, plan.blocks as usize) {
+            sums.add(*n);
+        }
+        sums
     }
-    s.erased = text::plus(sums.erased, 1);
-    s.zeros = text::plus(sums.zeros, (n - 128) as u64);
-    s
-}
 
-fn all(counts: &[u8]) -> Sums {
-    let mut sums = Sums {
-        flips: 0,
-        most: 0,
-        erased: 0,
-        zeros: 0,
-        ruined: 0,
-    };
-    for n in counts {
-        sums = with(sums, *n);
+    // Whether a page is erased: every block is.
+    pub fn is_erased(&self, plan: Plan) -> bool {
+        self.erased == u64::from(plan.blocks)
     }
-    sums
-}
-
-// The sums of a page's counts.
-pub fn sums_of(plan: Plan, counts: &[u8; 256]) -> Sums {
-    all(text::front(counts, plan.blocks as usize))
-}
-
-// Whether a page is erased: every block is.
-pub fn is_erased(plan: Plan, sums: Sums) -> bool {
-    sums.erased == plan.blocks as u64
 }

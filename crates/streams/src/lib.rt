@@ -44,6 +44,7 @@ impl System for HostRuntime {
 }
 
 // What is read. Nothing has no bytes.
+// By hand: (d) nothing is a stream like the others, which ends at once or takes all; an Option would be asked at each read and write.
 #[derive(Clone, Copy)]
 pub enum Source<'a> {
     Nothing,
