@@ -1,5 +1,5 @@
 // Division of runs of the stream by the generator of a level.
-ghost use Rattle.std.specs.Prelude.{◌≡◌, true, false, List, ◌++◌, ℕ, ◌+◌, ◌*◌, ◌≤◌, ◌<◌, replicate};
+ghost use Rattle.std.specs.Prelude.{◌≡◌, false, IfSome, List, ◌++◌, ℕ, ◌+◌, ◌*◌, ◌≤◌, ◌<◌, replicate};
 ghost use Rattle.bits.specs.Bits.{bit_of, run, number};
 ghost use Rattle.mark.specs.Mark.{stream_bit, InStream};
 ghost use Rattle.field.specs.Field.{degree};
@@ -107,37 +107,21 @@ pub fn remainder_in(
     remainder_across(f, t, table, mark, page, at, n)
 }
 
-// Where a run of the stream lies in a page, if it is `whole`: on one side of the mark.
-#[derive(Drop)]
-struct Placed {
-    whole: bool,
-    position: usize,
-}
-
-// Where n bits of the stream from position `at` on lie.
-fn run_place(mark: Mark, at: usize, n: usize) -> Placed
+// Where n bits of the stream from position `at` on lie in a page, if they lie on one side of the mark.
+fn run_place(mark: Mark, at: usize, n: usize) -> Option<usize>
     requires { at + n + 8 * mark.length < 18446744073709551616 }
-    ensures { (result.position + n < 18446744073709551616) × (result.whole ≡ true
-        → ((page : List ℕ) → run (bit_of page) result.position n ≡ run (stream_bit mark page) at n)) }
+    ensures { IfSome result (λ position. (position + n < 18446744073709551616)
+        × ((page : List ℕ) → run (bit_of page) position n ≡ run (stream_bit mark page) at n)) }
 {
     let first = near(mark, at, n);
     if first == n {
-        return Placed {
-            whole: true,
-            position: at,
-        };
+        return Some(at);
     }
     let beyond = place(mark, at + first);
     if first == 0 {
-        return Placed {
-            whole: true,
-            position: beyond,
-        };
+        return Some(beyond);
     }
-    Placed {
-        whole: false,
-        position: at,
-    }
+    None
 }
 
 // The remainders of two runs of n bits of the stream, from positions `at` and `to` on: side by side where the mark stands in neither.
@@ -155,11 +139,9 @@ pub fn two_remainders_in(
     ensures words_value { register result.first.words ≡ remainder f t (run (stream_bit mark page.now) at n) }
     ensures words_value_2 { register result.second.words ≡ remainder f t (run (stream_bit mark page.now) to n) }
 {
-    let one = run_place(mark, at, n);
-    let other = run_place(mark, to, n);
-    if one.whole {
-        if other.whole {
-            return two_remainders(f, t, table, page, one.position, other.position, n);
+    if let Some(one) = run_place(mark, at, n) {
+        if let Some(other) = run_place(mark, to, n) {
+            return two_remainders(f, t, table, page, one, other, n);
         }
     }
     let first = remainder_in(f, t, table, mark, page, at, n);

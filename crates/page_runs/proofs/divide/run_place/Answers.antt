@@ -1,5 +1,3 @@
-use mathlib.Core.Path.{◌≡◌}
-use Prim.Native.Nat.{ℕ}
 use native.Mathlib.Omega.{arith}
 use Rattle.mark.proofs.Runs.{near-less, near-place}
 use Rattle.page_runs.proofs.Parts.{run-before, run-after}
@@ -7,7 +5,7 @@ use Rattle.page_runs.proofs.divide.run_place.Goals as goal
 
 pub returns-then-first-n : goal.returns-then-first-n
 returns-then-first-n c = let a = c.args in
-    (omega arith, λ h page. run-before a.mark page a.at a.n c.near-first.ensures c.if-first-n.true)
+    (omega arith, λ page. run-before a.mark page a.at a.n c.near-first.ensures c.if-first-n.true)
 
 pub overflow_add-at : goal.overflow_add-at
 overflow_add-at c = let l = near-less _ _ _ c.near-first.ensures c.if-first-n.false in record { fits = omega arith }
@@ -18,7 +16,4 @@ place-beyond-requires c = let l = near-less _ _ _ c.near-first.ensures c.if-firs
 pub returns-then-first-eq0 : goal.returns-then-first-eq0
 returns-then-first-eq0 c = let a = c.args in
     let i = near-place _ _ _ c.near-first.ensures c.if-first-n.false c.place-beyond.ensures in
-    (omega arith, λ h page. run-after a.mark page a.at a.n c.near-first.ensures c.if-first-n.false c.place-beyond.ensures c.if-first-eq0.true)
-
-pub returns : goal.returns
-returns c = (omega arith, λ h. absurd (let z : ◌≡◌ {A = ℕ} 0 1 = cc in omega arith))
+    (omega arith, λ page. run-after a.mark page a.at a.n c.near-first.ensures c.if-first-n.false c.place-beyond.ensures c.if-first-eq0.true)
