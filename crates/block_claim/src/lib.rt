@@ -28,32 +28,24 @@ use remainder::coefficients::is_zero;
 fn distinct(claims: &[u16]) -> bool
     ensures { Decides result (Distinct claims.now) }
 {
-    let mut ok = true;
-    let mut i = 0;
-    'pairs: while i < claims.len() {
-        let mut j = i + 1;
-        while j < claims.len() {
+    for i in 0..claims.len() {
+        for j in i + 1..claims.len() {
             if claims[i] == claims[j] {
-                ok = false;
-                break 'pairs;
+                return false;
             }
-            j += 1;
         }
-        i += 1;
     }
-    ok
+    true
 }
 
 // Whether each exponent of the list is below n.
 fn within(claims: &[u16], n: usize) -> bool
     ensures { Decides result (Within n claims.now) }
 {
-    let mut i = 0;
-    while i < claims.len() {
+    for i in 0..claims.len() {
         if n <= claims[i] as usize {
             return false;
         }
-        i += 1;
     }
     true
 }
@@ -63,11 +55,9 @@ fn flip_claims(claims: &[u16], bytes: &mut [u8], n: usize)
     requires { Within n claims.now × (n ≤ 8 * length bytes.old) }
     ensures { run (bit_of bytes.new) 0 n ≡ flipped (run (bit_of bytes.old) 0 n) claims.now }
 {
-    let mut i = 0;
-    while i < claims.len() {
+    for i in 0..claims.len() {
         let exponent = claims[i] as usize;
         flip_bit(bytes, n - 1 - exponent);
-        i += 1;
     }
 }
 

@@ -1,12 +1,8 @@
-use Prim.Native.Nat.{◌≤◌, ◌-◌}
 use mathlib.Core.Path.{◌≡◌}
-use lib.ListN.{length, take}
+use lib.ListN.{take}
 use Rattle.bits.specs.Bits.{bit_of, run}
 use Rattle.code.specs.Word.{flipped}
 use Rattle.block_claim.proofs.flip_claims.Given as goal
 
 abbrev pub invariant-loop-i : goal.invariant-loop-i
-invariant-loop-i l = (l.i ≤ length l.claims) × (length l.bytes ≡ length l.initial.bytes) × (run (bit_of l.bytes) 0 l.n ≡ flipped (run (bit_of l.initial.bytes) 0 l.n) (take l.i l.claims))
-
-abbrev pub decreases-loop-i : goal.decreases-loop-i
-decreases-loop-i l = length l.claims - l.i
+invariant-loop-i l = run (bit_of l.bytes) 0 l.n ≡ flipped (run (bit_of l.initial.bytes) 0 l.n) (take l.i l.claims)
