@@ -39,16 +39,7 @@ pub fn nothing() -> Decided
 fn same_words(a: Register, b: Register) -> bool
     ensures { Decides result (a.words ≡ b.words) }
 {
-    let x = a.words;
-    let y = b.words;
-    let mut i = 0;
-    while i < 14 {
-        if x[i] != y[i] {
-            return false;
-        }
-        i += 1;
-    }
-    true
+    a.words == b.words
 }
 
 // Whether a block has the shape and the remainder of the last decided one: both are of the first blocks or both are not, and the registers
@@ -176,7 +167,7 @@ fn higher_level(plan: Plan) -> usize
     let later = plan.later;
     let t = first.level as usize;
     let u = later.level as usize;
-    if t < u { u } else { t }
+    t.max(u)
 }
 
 // Fills lent tables for the blocks of a page from which on one field serves.
