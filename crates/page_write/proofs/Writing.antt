@@ -14,13 +14,13 @@ use Rattle.bits.proofs.Pages.{bytes-cong}
 use Rattle.mark.specs.declared.Mark.{Mark}
 use Rattle.mark.specs.Mark.{marked, put}
 use Rattle.mark.proofs.Putting.{put-length, put-bytes, put-mark, put-inside, put-ext, put-append}
+use Rattle.std.specs.Prelude.{Result, Err}
 use Rattle.replies.specs.declared.Refusal.{Refusal}
 use Rattle.replies.specs.Replies.{number, block}
 use Rattle.layout_plan.specs.declared.Shape.{Shape}
 use Rattle.layout_plan.specs.declared.Plan.{Plan}
+use Rattle.layout_plan.specs.declared.Layout.{Layout}
 use Rattle.layout.specs.declared.Refusal as kinds
-use Rattle.layout.specs.declared.Acceptance.{Acceptance}
-use Rattle.layout.specs.declared.Acceptance.TheVariants.{Refused}
 use Rattle.layout.specs.Acceptance.{refusal_of, refusal_reply}
 use Rattle.layout_plan.specs.Plan.{shape, bits, start, used, room, from, payload, Valid}
 use Rattle.code.specs.Word.{Word}
@@ -58,7 +58,7 @@ reply-bare q m d page = go (eqb page q.size) (eqb m q.metadata) (eqb d q.«data�
     go false y z = omega arith
 
 -- the layout record is refused
-pub write-layout : (m d page : List ℕ) {a : Acceptance} {x : kinds.Refusal} {y : Refusal} → y ≡ refusal_of x → a ≡ Refused x
+pub write-layout : (m d page : List ℕ) {a : Result Layout kinds.Refusal} {x : kinds.Refusal} {y : Refusal} → y ≡ refusal_of x → a ≡ Err x
     → write_ended (number y) (block y) page ≡ write_for a m d page
 unfolding write_for refusal_reply
 write-layout m d page {x = x} e f = rw (e, f, layout-bare x)

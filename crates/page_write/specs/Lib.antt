@@ -1,3 +1,2 @@
--- The answer of the writer, and what its parts speak of.
-pub mod Answers
+-- What the parts of the writer speak of.
 pub mod Writing

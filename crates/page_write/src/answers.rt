@@ -1,16 +1,16 @@
 // Document 01's reply of an answer.
 ghost use Rattle.std.specs.Prelude.{◌≡◌};
-ghost use Rattle.page_write.specs.Answers.{write_number};
+ghost use Rattle.replies.specs.Replies.{verdict_number};
 
-use crate::WriteAnswer;
-use replies::refusal_number;
+use replies::{Refusal, refusal_number};
 
 // The reply of an answer of the writer.
-pub fn write_number(answer: WriteAnswer) -> u8
-    ensures { result ≡ write_number answer }
+#[tactic(auto, unfolding(replies::specs::Replies::verdict_number))]
+pub fn write_number(answer: Result<(), Refusal>) -> u8
+    ensures { result ≡ verdict_number answer }
 {
     match answer {
-        WriteAnswer::Done => 0,
-        WriteAnswer::Refused(refusal) => refusal_number(refusal),
+        Ok(()) => 0,
+        Err(refusal) => refusal_number(refusal),
     }
 }

@@ -4,19 +4,19 @@ ghost use Rattle.replies.specs.Replies.{verdict_number};
 ghost use Rattle.page_theory.specs.Calls.{write_reply};
 
 use layout_plan::Plan;
-use replies::{Refusal, Verdict};
+use replies::Refusal;
 
-pub fn write_reply(plan: Plan, metadata: usize, data: usize, page: usize) -> Verdict
+pub fn write_reply(plan: Plan, metadata: usize, data: usize, page: usize) -> Result<(), Refusal>
     ensures { verdict_number result ≡ write_reply plan metadata «data» page }
 {
     if page != plan.size as usize {
-        return Verdict::Refused(Refusal::PageLength);
+        return Err(Refusal::PageLength);
     }
     if metadata != plan.metadata as usize {
-        return Verdict::Refused(Refusal::BufferLength);
+        return Err(Refusal::BufferLength);
     }
     if data != plan.data as usize {
-        return Verdict::Refused(Refusal::BufferLength);
+        return Err(Refusal::BufferLength);
     }
-    Verdict::Passed
+    Ok(())
 }

@@ -16,12 +16,4 @@ mod lengths;
 mod write;
 
 pub use answers::write_number;
-use replies::Refusal;
 pub use write::{write_for, write_in, write_page};
-
-// The answer of the writer: the page is written, or it is as it was and this is why.
-#[derive(Drop)]
-pub enum WriteAnswer {
-    Done,
-    Refused(Refusal),
-}

@@ -3,25 +3,24 @@
 ghost use Rattle.std.specs.Prelude.{◌≡◌, ◌++◌, ◌-◌, ◌≤◌, ◌<◌, length};
 ghost use Rattle.bits.specs.Bits.{bit_of, run, ones};
 ghost use Rattle.mark.specs.Mark.{put};
+ghost use Rattle.replies.specs.Replies.{verdict_number, verdict_block};
 ghost use Rattle.division_table.specs.Table.{Table};
 ghost use Rattle.layout_plan.specs.Plan.{shape, bits, start, room, from};
 ghost use Rattle.layout_plan.specs.Record.{words_of};
 ghost use Rattle.page_theory.specs.Page.{page_of};
 ghost use Rattle.page_theory.specs.Calls.{write_ended, write_in, write_for, write_of};
 ghost use Rattle.page_plan.specs.Plans.{Planned, Sound};
-ghost use Rattle.page_write.specs.Answers.{write_number, write_block};
 ghost use Rattle.block_write.specs.Encoded.{padded};
 ghost use Rattle.page_write.specs.Writing.{Lent};
 
-use crate::WriteAnswer;
 use crate::lengths::write_reply;
 use block_write::write_block;
 use division_table::make_table;
-use layout::{Acceptance, check_layout, refusal_of};
-use layout_plan::{Plan, block_shape, block_start, plan_of};
+use layout::check_layout;
+use layout_plan::{Layout, Plan, block_shape, block_start, plan_of};
 use page_plan::{later_table, message_start};
 use page_runs::write::fill_ones;
-use replies::Verdict;
+use replies::Refusal;
 
 // Writes block 0, and leaves the table of the later blocks' generator. One table is made after the other in the same place.
 fn write_first(plan: Plan, table: &mut [u8], metadata: &[u8], data: &[u8], page: &mut [u8])
@@ -68,42 +67,33 @@ fn write_blocks(plan: Plan, metadata: &[u8], data: &[u8], page: &mut [u8])
     requires { Planned plan × Lent plan metadata.now «data».now page.old }
     ensures { page.new ≡ page_of plan page.old (metadata.now ++ «data».now) }
 {
-    let blocks = plan.blocks;
     let mut table = [0u8; 36864];
     write_first(plan, &mut table, metadata, data, page);
-    let mut block = 1;
-    while block < blocks {
+    for block in 1..plan.blocks {
         write_later(plan, block, &table, metadata, data, page);
-        block += 1;
     }
     fill_tail(plan, page);
 }
 
 // Writes a page under the plan of an accepted layout.
-pub fn write_in(plan: Plan, metadata: &[u8], data: &[u8], page: &mut [u8]) -> WriteAnswer
+pub fn write_in(plan: Plan, metadata: &[u8], data: &[u8], page: &mut [u8]) -> Result<(), Refusal>
     requires { Planned plan }
-    ensures { write_ended (write_number result) (write_block result) page.new
+    ensures { write_ended (verdict_number result) (verdict_block result) page.new
         ≡ write_in plan metadata.now «data».now page.old }
 {
-    match write_reply(plan, metadata.len(), data.len(), page.len()) {
-        Verdict::Refused(refusal) => WriteAnswer::Refused(refusal),
-        Verdict::Passed => {
-            write_blocks(plan, metadata, data, page);
-            WriteAnswer::Done
-        }
-    }
+    write_reply(plan, metadata.len(), data.len(), page.len())?;
+    write_blocks(plan, metadata, data, page);
+    Ok(())
 }
 
 // Writes a page under the answer to a layout: that of layout words, or of whatever else names it.
-pub fn write_for(answer: Acceptance, metadata: &[u8], data: &[u8], page: &mut [u8]) -> WriteAnswer
+pub fn write_for(answer: Result<Layout, layout::Refusal>, metadata: &[u8], data: &[u8], page: &mut [u8]) -> Result<(), Refusal>
     requires { Sound answer }
-    ensures { write_ended (write_number result) (write_block result) page.new
+    ensures { write_ended (verdict_number result) (verdict_block result) page.new
         ≡ write_for answer metadata.now «data».now page.old }
 {
-    match answer {
-        Acceptance::Accepted(layout) => write_in(plan_of(layout), metadata, data, page),
-        Acceptance::Refused(refusal) => WriteAnswer::Refused(refusal_of(refusal)),
-    }
+    let layout = answer?;
+    write_in(plan_of(layout), metadata, data, page)
 }
 
 // Writes a page from metadata and data.
@@ -113,8 +103,8 @@ pub fn write_page(
     metadata: &[u8],
     data: &[u8],
     page: &mut [u8],
-) -> WriteAnswer
-    ensures { write_ended (write_number result) (write_block result) page.new
+) -> Result<(), Refusal>
+    ensures { write_ended (verdict_number result) (verdict_block result) page.new
         ≡ write_of (words_of edition words.now) metadata.now «data».now page.old }
 {
     write_for(check_layout(edition, words), metadata, data, page)

@@ -1,4 +1,3 @@
-use Prim.Native.Nat.{◌-◌}
 use mathlib.Core.Path.{◌≡◌, ◌∙◌}
 use native.Mathlib.Omega.{arith}
 use borrow.Author.Rules.{rules}
@@ -8,7 +7,7 @@ use Rattle.page_write.proofs.write.write_blocks.Goals as goal
 
 pub loop-block-init : goal.loop-block-init
 loop-block-init c = let q = c.args.plan in
-    (omega arith, c.requires.0.some, streamed-first q _ _ (shape-zero q c.requires.0) c.requires.1.size c.write_first.ensures.0)
+    streamed-first q _ _ (shape-zero q c.requires.0) c.requires.1.size c.write_first.ensures.0
 
 pub write_later-requires : goal.write_later-requires
 write_later-requires c = let s = c.loop-block in
@@ -16,28 +15,28 @@ write_later-requires c = let s = c.loop-block in
     record {
       planned = (
         c.requires.0,
-        record { metadata = h.metadata; «data» = h.«data»; size = streamed-size c.args.plan _ _ s.invariant.2 },
+        record { metadata = h.metadata; «data» = h.«data»; size = streamed-size c.args.plan _ _ s.invariant },
         c.write_first.ensures.1,
       );
-      block_nonzero = (s.invariant.0, c.loop-block-test.true);
+      block_nonzero = (omega arith, c.loop-block-test.true);
     }
 
 pub loop-block-preserved : goal.loop-block-preserved
 loop-block-preserved c = let s = c.loop-block in
-    let l = c.loop-block-test.true in
-    (omega arith, omega arith, streamed-next c.args.plan _ c.requires.0.valid s.block s.invariant.2 c.write_later.ensures)
+    streamed-next c.args.plan _ c.requires.0.valid s.block s.invariant c.write_later.ensures
 
 pub fill_tail-requires : goal.fill_tail-requires
-fill_tail-requires c = (c.requires.0, streamed-size c.args.plan _ _ c.loop-block.invariant.2)
+fill_tail-requires c = (c.requires.0, streamed-size c.args.plan _ _ c.loop-block.invariant)
 
 pub shape_of-page : goal.shape_of-page
-shape_of-page c = let n = streamed-size c.args.plan _ _ c.loop-block.invariant.2 in
+shape_of-page c = let n = streamed-size c.args.plan _ _ c.loop-block.invariant in
     let m = c.requires.1.size in
     search rules
 
 pub returns : goal.returns
 returns c = let q = c.args.plan in
     let s = c.loop-block in
+    let some = c.requires.0.some in
     let e : s.block ≡ q.blocks = omega arith in
-    streamed-end q _ c.requires.0.valid (rw e at s.invariant.2) c.fill_tail.ensures
+    streamed-end q _ c.requires.0.valid (rw e at s.invariant) c.fill_tail.ensures
     ∙ page-put q _ _ _ _ c.write_first.ensures.0

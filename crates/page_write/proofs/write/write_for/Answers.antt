@@ -1,16 +1,19 @@
 use mathlib.Core.Path.{◌∙◌}
+use Rattle.std.proofs.lemmas.Result.{err_from_is_err_and}
 use Rattle.page_theory.specs.Calls.{write_for}
-use Rattle.page_write.specs.Answers.{write_number, write_block}
+use Rattle.replies.specs.Replies.{verdict_number, verdict_block}
 use Rattle.page_write.proofs.Writing.{write-layout}
 use Rattle.page_write.proofs.write.write_for.Goals as goal
 
 pub write_in-requires : goal.write_in-requires
-write_in-requires c = rw c.plan_of.ensures (c.requires _ c.in-Accepted.is)
+write_in-requires c = rw c.plan_of.ensures (c.requires _ c.in_ok-layout.was)
 
-pub returns-in-Accepted : goal.returns-in-Accepted
+pub returns : goal.returns
 unfolding write_for
-returns-in-Accepted c = c.write_in.ensures ∙ simp (c.plan_of.ensures, c.in-Accepted.is)
+returns c = c.write_in.ensures ∙ simp (c.plan_of.ensures, c.in_ok-layout.was)
 
-pub returns-in-Refused : goal.returns-in-Refused
-unfolding write_number write_block
-returns-in-Refused c = write-layout _ _ _ c.refusal_of.ensures c.in-Refused.is
+pub returns-in_err-layout : goal.returns-in_err-layout
+unfolding verdict_number verdict_block
+returns-in_err-layout c =
+    let p = err_from_is_err_and c.from_residual.result c.from_residual.ensures.1 in
+    rw p.1 (write-layout _ _ _ p.2 c.in_err-layout.was)
