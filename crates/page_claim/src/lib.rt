@@ -13,11 +13,3 @@ mod claim;
 
 pub use answers::claim_number;
 pub use claim::{check_claim, claim_for, claim_in};
-use replies::Refusal;
-
-// The answer to claimed locations: they are right, or this is why not.
-#[derive(Drop)]
-pub enum ClaimAnswer {
-    Accepted,
-    Refused(Refusal),
-}

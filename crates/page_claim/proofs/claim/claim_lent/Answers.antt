@@ -1,5 +1,5 @@
 use Rattle.page_plan.proofs.Plans.{shape-stored, shape-fits, block_inside}
-use Rattle.page_claim.specs.Answers.{claim_number}
+use Rattle.replies.specs.Replies.{verdict_number}
 use Rattle.page_claim.proofs.Ends.{claim-accepted, claim-rejected}
 use Rattle.page_claim.proofs.claim.claim_lent.Goals as goal
 
@@ -13,7 +13,7 @@ is_right-requires c = let q = c.args.plan in
     )
 
 pub returns-then-is_right : goal.returns-then-is_right
-unfolding claim_number
+unfolding verdict_number
 returns-then-is_right c = claim-accepted c.args.plan c.args.page.now c.args.block c.requires.0.size c.requires.1 c.args.claims.now c.block_shape-shape.ensures
     c.block_start-position.ensures.eq c.is_right.ensures c.if-is_right.true
 

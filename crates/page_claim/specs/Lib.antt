@@ -1,2 +1,0 @@
--- The answer to a claim.
-pub mod Answers
