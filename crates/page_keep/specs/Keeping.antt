@@ -9,9 +9,9 @@
 --                                          and, if it is known, that of the next block
 -- Pending q page words s places flips      what deciding from s on counts on: the page has its size, the words are the table of the
 --                                          later blocks' generator, and the blocks before s are decided
--- PageDecided q page places flips r        what a decision says of a page: every block is decided, or the lowest ruined one
+-- PageDecided q page places flips r        what a decision says of a page: every block is decided, or r is the lowest ruined one
 -- Kept q places flips                      few exponents are kept for each block that is not erased, those of covered bits
-use Rattle.std.specs.Prelude.{◌≡◌, true, List, ℕ, ◌+◌, ◌*◌, ◌≤◌, ◌<◌, length, take, get_or}
+use Rattle.std.specs.Prelude.{◌≡◌, true, List, ℕ, ◌+◌, ◌*◌, ◌≤◌, ◌<◌, length, take, get_or, Option, None, Some}
 use Rattle.bits.specs.Bits.{run}
 use Rattle.layout_plan.specs.declared.Plan.{Plan}
 use Rattle.layout_plan.specs.Plan.{covered}
@@ -23,8 +23,6 @@ use Rattle.page_plan.specs.Plans.{Ready}
 use Rattle.page_decide.specs.declared.Scan.{Scan}
 use Rattle.page_decide.specs.Scanning.{remainder_at}
 use Rattle.page_decide.specs.Deciding.{DecidedAt}
-use Rattle.page_keep.specs.declared.Decision.{Decision}
-use Rattle.page_keep.specs.declared.Decision.TheVariants.{Sound, Ruined}
 
 unfoldable pub kept : List ℕ → ℕ → ℕ → List ℕ
 kept places b n = run (λ i. get_or places i 0) (64 * b) n
@@ -60,9 +58,9 @@ pub record Pending (q : Plan) (page words : List ℕ) (s : Scan) (places flips :
   pub table : Table q.later.field q.later.level words
   pub underway : Underway q page s places flips
 
-unfoldable pub PageDecided : Plan → List ℕ → List ℕ → List ℕ → Decision → Type 0
-PageDecided q page places flips Sound = AllDecided q page q.blocks places flips
-PageDecided q page places flips (Ruined b) = Lowest q page b
+unfoldable pub PageDecided : Plan → List ℕ → List ℕ → List ℕ → Option ℕ → Type 0
+PageDecided q page places flips None = AllDecided q page q.blocks places flips
+PageDecided q page places flips (Some b) = Lowest q page b
 
 pub record Kept (q : Plan) (places flips : List ℕ) : Type 0 where
   pub few : (b : ℕ) → b < q.blocks → get_or flips b 0 < 128 → get_or flips b 0 ≤ 64

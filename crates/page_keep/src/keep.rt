@@ -3,7 +3,6 @@ ghost use Rattle.std.specs.Prelude.{◌≡◌, true, false, ◌+◌, ◌*◌, �
 ghost use Rattle.page_decide.specs.Deciding.{OneField, Serves};
 ghost use Rattle.page_keep.specs.Keeping.{KeptFor, BlockKept, Pending, PageDecided};
 
-use crate::Decision;
 use decoder::Found;
 use layout_plan::Plan;
 use page_decide::damaged::next_damaged;
@@ -17,11 +16,8 @@ fn keep(found: Found, n: usize, block: u16, places: &mut [u16])
 {
     let exponents = found.exponents;
     let at = 64 * block as usize;
-    let mut i = 0;
-    while i < n {
-        let k = at + i;
-        places[k] = exponents[i];
-        i += 1;
+    for i in 0..n {
+        places[at + i] = exponents[i];
     }
 }
 
@@ -56,8 +52,8 @@ fn is_ruined(count: u8) -> bool
     count == 255
 }
 
-// Decides the damaged blocks from `scan` on with tables that serve them. `table` is that of the later
-// blocks' generator.
+// Decides the damaged blocks from `scan` on with tables that serve them, and answers with the lowest ruined one, if there is one. `table`
+// is that of the later blocks' generator.
 fn keep_from(
     plan: Plan,
     page: &[u8],
@@ -68,7 +64,7 @@ fn keep_from(
     rows: &[u16; 2048],
     places: &mut [u16],
     flips: &mut [u8; 256],
-) -> Decision
+) -> Option<u16>
     requires pending { Pending plan page.now table.now scan places.old flips.old }
     requires serves { Serves plan scan.block powers.now logs.now rows.now }
     ensures { PageDecided plan page.now places.new flips.new result }
@@ -81,12 +77,12 @@ fn keep_from(
         last = decide_block(plan, page, at, last, powers, logs, rows);
         let n = last.count;
         if is_ruined(n) {
-            return Decision::Ruined(b);
+            return Some(b);
         }
         keep_block(last, b, places, flips);
         at = next_damaged(plan, page, table, at);
     }
-    Decision::Sound
+    None
 }
 
 // Decides the damaged blocks from `scan` on, which all have the field of the later blocks, with lent tables, which are filled for it.
@@ -100,7 +96,7 @@ fn keep_alike(
     rows: &mut [u16; 2048],
     places: &mut [u16],
     flips: &mut [u8; 256],
-) -> Decision
+) -> Option<u16>
     requires pending { Pending plan page.now table.now scan places.old flips.old }
     requires one_field { (OneField plan scan.block) × (length powers.old ≡ 16384) × (length logs.old ≡ 16384) × (length rows.old ≡ 2048) }
     ensures { PageDecided plan page.now places.new flips.new result }
@@ -121,7 +117,7 @@ fn keep_lent(
     rows: &mut [u16; 2048],
     places: &mut [u16],
     flips: &mut [u8; 256],
-) -> Decision
+) -> Option<u16>
     requires pending { Pending plan page.now table.now scan places.old flips.old }
     requires block_lt_blocks { (scan.block < plan.blocks) × (length powers.old ≡ 16384) × (length logs.old ≡ 16384) × (length rows.old ≡ 2048) }
     ensures { PageDecided plan page.now places.new flips.new result }
@@ -133,19 +129,19 @@ fn keep_lent(
     let decided = decide_lent(plan, page, scan, powers, logs, rows);
     let count = decided.count;
     if is_ruined(count) {
-        return Decision::Ruined(0);
+        return Some(0);
     }
     keep_block(decided, 0, places, flips);
     let next = next_damaged(plan, page, table, scan);
     let block = next.block;
     if block == plan.blocks {
-        return Decision::Sound;
+        return None;
     }
     keep_alike(plan, page, next, table, powers, logs, rows, places, flips)
 }
 
-// Decides the damaged blocks of a page, of which `scan` is the first, up to the first that is ruined; `table` is that of the later
-// blocks' generator. The tables by which blocks are decoded are here, once for all blocks, since only a damaged page needs them.
+// Decides the damaged blocks of a page, of which `scan` is the first, up to the first that is ruined, which is the answer; none is where
+// every block can be read. `table` is that of the later blocks' generator. The tables by which blocks are decoded are here, once for all blocks, since only a damaged page needs them.
 pub fn keep_damaged(
     plan: Plan,
     page: &[u8],
@@ -153,7 +149,7 @@ pub fn keep_damaged(
     table: &[u8],
     places: &mut [u16],
     flips: &mut [u8; 256],
-) -> Decision
+) -> Option<u16>
     requires pending { Pending plan page.now table.now scan places.old flips.old }
     requires block_lt_blocks { scan.block < plan.blocks }
     ensures { PageDecided plan page.now places.new flips.new result }
