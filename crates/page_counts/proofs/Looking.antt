@@ -1,6 +1,5 @@
 -- The counts of a page, block after block.
 --
--- clear_next, clear-end                the counts passed are 0
 -- underway-start                       the blocks before the first damaged one have the count 0
 -- clean-sound                          where no block is damaged, none is ruined
 -- underway-left, underway-reached      the block at hand has its remainder
@@ -32,15 +31,6 @@ pub zeros-at : (n i : ℕ) → ◌≡◌ {A = ℕ} (get_or (replicate n 0) i 0) 
 zeros-at zero i = refl
 zeros-at (suc n) zero = refl
 zeros-at (suc n) (suc i) = zeros-at n i
-
-pub clear_next : (l : List ℕ) (i : ℕ) → ((k : ℕ) → k < i → get_or l k 0 ≡ 0) → i < length l → (k : ℕ) → k < i + 1 → get_or (set l i 0) k 0 ≡ 0
-clear_next l i h m k n = elim (ℕ_discrete k i) [
-  | yes e ↦ rw e (get_or-set_same l i 0 0 m)
-  | no e ↦ get_or-set_other l i k 0 0 e ∙ h k (omega arith)
-]
-
-pub clear-end : (l : List ℕ) {n : ℕ} → length l ≡ n → ((k : ℕ) → k < n → get_or l k 0 ≡ 0) → l ≡ replicate n 0
-clear-end l {n} e h = ext_get_or 0 l (replicate n 0) (e ∙ sym (length-replicate {A = ℕ} n 0)) (λ i k. h i (omega arith) ∙ sym (zeros-at n i))
 
 module _ (q : Plan) (page : List ℕ) (planned : Planned q) where
   -- a block that is not damaged
@@ -109,22 +99,22 @@ module _ (q : Plan) (page : List ℕ) (planned : Planned q) where
       go (erased m z) f k = absurd (omega (arith, gives-count _ _ _ _ m (erased_count z) (planned.valid.strong b l) (gives-outcome q page b m (erased_count z) (rw f of-erased))))
       go ruined f k = ruined-outcome q page b f
 
-  module _ {l : List ℕ} (same : l ≡ counts q page) {b : ℕ} (f : FirstRuined l b) where
+  module _ {l : List ℕ} (same : l ≡ counts q page) where
     count_at_lem : (c : ℕ) → c < q.blocks → get_or l c 0 ≡ count_of (outcome q page c)
     count_at_lem c k = rw same (counts-at q page c k)
 
     count-size : length l ≡ q.blocks
     count-size = ap length same ∙ counts-length q page
 
-    pub first-lowest : (b ≡ q.blocks → ⊥) → Lowest q page b
-    first-lowest n =
+    pub first-lowest : {b : ℕ} → b < length l → FirstRuined l b → Lowest q page b
+    first-lowest {b} n f =
         let size = count-size in
-        let inside : b < q.blocks = omega (arith, f.inside) in
+        let inside : b < q.blocks = omega arith in
         record {
           inside = inside;
-          ruins = count-ruined b inside (sym (count_at_lem b inside) ∙ f.ruined (omega arith));
+          ruins = count-ruined b inside (sym (count_at_lem b inside) ∙ f.ruined n);
           lower = λ c k h. f.lower c k (count_at_lem c (omega arith) ∙ ruined-count c h);
         }
 
-    pub first-sound : b ≡ q.blocks → (c : ℕ) → c < q.blocks → RefusedAt q page c → ⊥
-    first-sound e c k h = f.lower c (omega arith) (count_at_lem c k ∙ ruined-count c h)
+    pub first-sound : FirstRuined l (length l) → (c : ℕ) → c < q.blocks → RefusedAt q page c → ⊥
+    first-sound f c k h = let size = count-size in f.lower c (omega arith) (count_at_lem c k ∙ ruined-count c h)

@@ -5,7 +5,7 @@
 //   first_ruined     the first block with the count of a ruined one
 #![tactic(auto)]
 
-ghost use Rattle.std.specs.Prelude.{◌≡◌, ◌<◌, length, replicate};
+ghost use Rattle.std.specs.Prelude.{◌≡◌, ◌<◌, length, replicate, IfSome, IfNone};
 ghost use Rattle.page_theory.specs.Reading as reading;
 ghost use Rattle.page_decide.specs.Deciding.{OneField, Serves};
 ghost use Rattle.page_counts.specs.Looking.{Pending, FirstRuined};
@@ -19,12 +19,7 @@ use page_decide::decide::{apart, decide_alone, decide_block, fill_serving, nothi
 pub fn clear(counts: &mut [u8])
     ensures { counts.new ≡ replicate (length counts.old) 0 }
 {
-    let n = counts.len();
-    let mut i: usize = 0;
-    while i < n {
-        counts[i] = 0;
-        i += 1;
-    }
+    counts.fill(0);
 }
 
 // Counts the damaged blocks from `scan` on with tables that serve them. `table` is that of the later
@@ -93,17 +88,15 @@ pub fn count_damaged(plan: Plan, page: &[u8], scan: Scan, table: &[u8], counts: 
     count_alike(plan, page, next, table, counts);
 }
 
-// The first block with the count of a ruined one; the number of counts where there is none.
-pub fn first_ruined(counts: &[u8]) -> usize
-    ensures { FirstRuined counts.now result }
+// The first block with the count of a ruined one, if there is one.
+pub fn first_ruined(counts: &[u8]) -> Option<usize>
+    ensures found { IfSome result (λ b. (b < length counts.now) × FirstRuined counts.now b) }
+    ensures none { IfNone result (FirstRuined counts.now (length counts.now)) }
 {
-    let n = counts.len();
-    let mut b: usize = 0;
-    while b < n {
+    for b in 0..counts.len() {
         if counts[b] == 255 {
-            return b;
+            return Some(b);
         }
-        b += 1;
     }
-    b
+    None
 }
