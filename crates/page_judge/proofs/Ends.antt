@@ -5,12 +5,12 @@ use Prim.Native.Nat.{ℕ, ◌<◌}
 use native.Mathlib.Omega.{arith}
 use lib.ListN.{length}
 use borrow.Author.Tests.{ne_eqb}
+use Rattle.std.specs.Prelude.{Result, Err}
 use Rattle.replies.specs.declared.Refusal.{Refusal}
 use Rattle.replies.specs.Replies.{number, block}
 use Rattle.layout_plan.specs.declared.Plan.{Plan}
+use Rattle.layout_plan.specs.declared.Layout.{Layout}
 use Rattle.layout.specs.declared.Refusal as kinds
-use Rattle.layout.specs.declared.Acceptance.{Acceptance}
-use Rattle.layout.specs.declared.Acceptance.TheVariants.{Refused}
 use Rattle.layout.specs.Acceptance.{refusal_of, refusal_reply}
 use Rattle.page_theory.specs.Calls.{block_reply, judge_ended, judge_in, judge_for}
 use Rattle.page_theory.proofs.OneBlock.{judge-gives, judge-refuses}
@@ -21,7 +21,7 @@ use Rattle.page_decide.specs.Deciding.{DecidedAt}
 use Rattle.page_decide.proofs.Deciding.{clean-decided, decided-gives}
 
 -- the layout record is refused
-pub judge-layout : (page : List ℕ) (b : ℕ) {a : Acceptance} {x : kinds.Refusal} {y : Refusal} → y ≡ refusal_of x → a ≡ Refused x
+pub judge-layout : (page : List ℕ) (b : ℕ) {a : Result Layout kinds.Refusal} {x : kinds.Refusal} {y : Refusal} → y ≡ refusal_of x → a ≡ Err x
     → judge_ended (number y) (block y) 0 ≡ judge_for a page b
 unfolding judge_for refusal_reply
 judge-layout page b {x = x} e f = rw (e, f, layout-bare x)

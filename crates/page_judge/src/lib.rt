@@ -6,18 +6,10 @@
 // The call takes the layout record and the page as bytes of any length and asks nothing of its caller. What it answers is one
 // definition, `judge_of` of the crate `page_theory`, specs/Calls.antt: it depends on the block number, the layout words, the page's length
 // and that block's own bits. judge.rt works out the remainder of the block by a table of its own; zero is no flip, and else `page_decide`
-// decides the block: its count, that of an erased block too, or that it is ruined.
+// decides the block: its count, how many of its covered bits are flipped or 128 plus the zeros of an erased block, or the refusal that names
+// a ruined block.
 #![tactic(auto)]
 
 mod judge;
 
 pub use judge::{judge_block, judge_for, judge_in, own_remainder};
-use replies::Refusal;
-
-// The answer to one block: its count, or why there is none. The count is how many of its covered bits are flipped, or 128 plus the
-// zeros of an erased block. A ruined block is named itself.
-#[derive(Drop)]
-pub enum JudgeAnswer {
-    Flips(u8),
-    Refused(Refusal),
-}
