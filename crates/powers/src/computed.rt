@@ -21,11 +21,9 @@ fn first_powers(powers: &mut [u16; 16384])
     ensures { Begun Fourteen 14 powers.new }
 {
     let mut x: u16 = 1;
-    let mut k: usize = 0;
-    while k < 14 {
+    for k in 0..14 {
         powers[k] = x;
         x *= 2;
-        k += 1;
     }
 }
 
@@ -34,13 +32,11 @@ fn more_powers(stride: usize, from: usize, to: usize, powers: &mut [u16; 16384])
     requires { (Begun Fourteen from powers.old) × (Stride stride) × (stride * 14 ≤ from) × (from ≤ to) × (to ≤ 16384) }
     ensures { Begun Fourteen to powers.new }
 {
-    let mut k: usize = from;
-    while k < to {
+    for k in from..to {
         let nine = k - stride * 9;
         let eleven = k - stride * 11;
         let thirteen = k - stride * 13;
         let fourteen = k - stride * 14;
         powers[k] = powers[nine] ^ powers[eleven] ^ powers[thirteen] ^ powers[fourteen];
-        k += 1;
     }
 }

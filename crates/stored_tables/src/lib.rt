@@ -14,12 +14,7 @@ pub fn copy_part(part: &[u16], at: usize, table: &mut [u16; 16384])
     requires { (length table.old ≡ 16384) × (at + length part.now ≤ 16384) }
     ensures { Copied at part.now table.old table.new }
 {
-    let mut k: usize = 0;
-    while k < part.len() {
-        let place = at + k;
-        table[place] = part[k];
-        k += 1;
-    }
+    table[at..at + part.len()].copy_from_slice(part);
 }
 
 // Copies four parts to the entries from at on.

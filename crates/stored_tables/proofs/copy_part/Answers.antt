@@ -1,12 +1,11 @@
+use mathlib.Core.Path.{◌≡◌}
+use Prim.Native.Nat.{◌+◌, ◌-◌}
 use native.Mathlib.Omega.{arith}
-use Rattle.stored_tables.proofs.Copy.{copying-start, copying-next, copying-end}
+use lib.ListN.{length}
+use Rattle.stored_tables.proofs.Copy.{copied-part}
 use Rattle.stored_tables.proofs.copy_part.Goals as goal
 
-pub loop-k-init : goal.loop-k-init
-loop-k-init c = (omega arith, copying-start _ _ _)
-
-pub loop-k-preserved : goal.loop-k-preserved
-loop-k-preserved c = (omega arith, copying-next c.loop-k.invariant.1 (omega arith) (omega arith))
-
 pub returns : goal.returns
-returns c = copying-end c.loop-k.invariant.1 (omega arith) (omega arith)
+returns c =
+    let n : c.args.at + length c.args.part.now - c.args.at ≡ length c.args.part.now = omega arith in
+    rw (c.copy_from_slice.ensures.after, n) (copied-part _ _ _ (omega arith))
