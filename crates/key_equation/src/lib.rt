@@ -53,12 +53,9 @@ fn discrepancy(
     ensures { Represents f (gf f) (num f) (dot (gf f) (num f) c.now s.now k (suc len)) result }
 {
     let mut sum: u16 = 0;
-    let mut i: usize = 0;
-    while i <= len {
-        let j = k - i;
-        let p = product_by_tables(f, powers, logs, c[i], s[j]);
-        sum = sum ^ p;
-        i += 1;
+    for i in 0..len + 1 {
+        let p = product_by_tables(f, powers, logs, c[i], s[k - i]);
+        sum ^= p;
     }
     sum
 }
@@ -152,10 +149,8 @@ pub fn shortest(
         len: 0,
         gap: 1,
     };
-    let mut h: usize = 0;
-    while h < t {
+    for h in 0..t {
         r = step(f, powers, logs, s, t, h, &mut c, &mut u, r);
-        h += 1;
     }
     Recurrence {
         c: c,

@@ -32,11 +32,9 @@ fn value_at(
     ensures { Represents f (gf f) (num f) (value (gf f) (coef (gf f) (num f) c.now) (pow (gf f) (a f) p) len) result }
 {
     let mut v = c[0];
-    let mut i: usize = 0;
-    while i < len {
-        i += 1;
+    for i in 0..len {
         let q = scaled(f, powers, logs, v, p);
-        v = q ^ c[i];
+        v = q ^ c[i + 1];
     }
     v
 }
@@ -63,8 +61,7 @@ pub fn locate(
 {
     let mut exponents = [0; 64];
     let mut count: usize = 0;
-    let mut p: usize = 0;
-    while p < n {
+    for p in 0..n {
         if count == len {
             return Places {
                 exponents: exponents,
@@ -76,7 +73,6 @@ pub fn locate(
             exponents[count] = p as u16;
             count += 1;
         }
-        p += 1;
     }
     Places {
         exponents: exponents,

@@ -30,12 +30,8 @@ pub fn mix(
     requires e_bound { (e < longest f) × (gap + terms ≤ 128) × ((j : ℕ) → terms ≤ j → get_or u.now j 0 ≡ 0) }
     ensures { Updated f (gf f) (num f) c.old u.now e gap c.new }
 {
-    let mut i: usize = 0;
-    while i < terms {
+    for i in 0..terms {
         let p = scaled(f, powers, logs, u[i], e);
-        let at = gap + i;
-        let old = c[at];
-        c[at] = old ^ p;
-        i += 1;
+        c[gap + i] ^= p;
     }
 }

@@ -30,13 +30,10 @@ fn spread(
     ensures { Spread f (gf f) (num f) s.now n result }
 {
     let mut v = [0; 128];
-    let mut i: usize = 0;
-    while i < n {
+    for i in 0..n {
         let x = s[i];
         let square = product_by_tables(f, powers, logs, x, x);
-        let at = i + i;
-        v[at] = square;
-        i += 1;
+        v[i + i] = square;
     }
     v
 }
@@ -78,10 +75,8 @@ fn reduced(
     ensures { Reduced f (gf f) (num f) c.now (suc n) t n result }
 {
     let mut v = t;
-    let mut i: usize = 0;
-    while i < n {
+    for i in 0..n {
         clear(f, powers, logs, c, n + 1, &mut v, i);
-        i += 1;
     }
     v
 }
@@ -92,11 +87,8 @@ fn lowered(t: &[u16; 128], from: usize, n: usize) -> [u16; 128]
     ensures { Lowered t.now from n result }
 {
     let mut v = [0; 128];
-    let mut i: usize = 0;
-    while i < n {
-        let at = from + i;
-        v[i] = t[at];
-        i += 1;
+    for i in 0..n {
+        v[i] = t[from + i];
     }
     v
 }
@@ -124,14 +116,12 @@ fn same(s: &[u16; 128], x: &[u16; 128], n: usize) -> bool
     requires { n ≤ 128 }
     ensures { Decides result ((j : ℕ) → j < n → get_or s.now j 0 ≡ get_or x.now j 0) }
 {
-    let mut i: usize = 0;
-    while i < n {
+    for i in 0..n {
         let p = s[i];
         let q = x[i];
         if p != q {
             return false;
         }
-        i += 1;
     }
     true
 }
@@ -146,10 +136,8 @@ fn may_split(f: Field, powers: &[u16; 16384], logs: &[u16; 16384], c: &[u16; 128
     let mut x = [0; 128];
     x[d] = 1;
     let mut s = x;
-    let mut k: usize = 0;
-    while k < m {
+    for k in 0..m {
         s = squared(f, powers, logs, c, s, d + 1);
-        k += 1;
     }
     same(&s, &x, d + 2)
 }

@@ -1,11 +1,7 @@
-use Prim.Native.Nat.{suc, ◌-◌, ◌≤◌}
 use Rattle.algebra.specs.Array.{dot}
 use Rattle.field.proofs.Instance.{gf, num}
 use Rattle.series.specs.Series.{Represents}
 use Rattle.key_equation.proofs.discrepancy.Given as goal
 
 abbrev pub invariant-loop-i : goal.invariant-loop-i
-invariant-loop-i l = (l.i ≤ suc l.len) × (Represents l.f (gf l.f) (num l.f) (dot (gf l.f) (num l.f) l.c l.s l.k l.i) l.sum)
-
-abbrev pub decreases-loop-i : goal.decreases-loop-i
-decreases-loop-i l = suc l.len - l.i
+invariant-loop-i l = Represents l.f (gf l.f) (num l.f) (dot (gf l.f) (num l.f) l.c l.s l.k l.i) l.sum

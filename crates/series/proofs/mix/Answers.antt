@@ -6,14 +6,14 @@ use Rattle.series.proofs.Arrays.{update-next, update-end}
 use Rattle.series.proofs.mix.Goals as goal
 
 pub loop-i-init : goal.loop-i-init
-loop-i-init c = (omega arith, mixed-start _ _ (elements-small _ c.requires.elements.0))
+loop-i-init c = mixed-start _ _ (elements-small _ c.requires.elements.0)
 
 pub scaled-p-requires : goal.scaled-p-requires
 scaled-p-requires c = record { tables = c.requires.tables; x_bound = (c.requires.elements.1.small _, c.requires.e_bound.0) }
 
 pub loop-i-preserved : goal.loop-i-preserved
-loop-i-preserved c = (omega arith, update-next _ _ c.requires.elements.1 (omega arith) c.loop-i.invariant.1 c.scaled-p.ensures)
+loop-i-preserved c = update-next _ _ c.requires.elements.1 (omega arith) c.loop-i.invariant c.scaled-p.ensures
 
 pub returns : goal.returns
 returns c = let e : c.loop-i.i ≡ c.args.terms = omega arith in
-    update-end _ c.loop-i.invariant.1 (rw e c.requires.e_bound.2)
+    update-end _ c.loop-i.invariant (rw e c.requires.e_bound.2)

@@ -1,11 +1,7 @@
-use Prim.Native.Nat.{◌-◌, ◌≤◌}
 use Rattle.algebra.proofs.Array.{Mixed}
 use Rattle.field.specs.Field.{a^}
 use Rattle.field.proofs.Instance.{gf, num}
 use Rattle.series.proofs.mix.Given as goal
 
 abbrev pub invariant-loop-i : goal.invariant-loop-i
-invariant-loop-i l = (l.i ≤ l.terms) × (Mixed (gf l.f) (num l.f) l.initial.c l.u (a^ l.f l.e) l.gap l.c l.i)
-
-abbrev pub decreases-loop-i : goal.decreases-loop-i
-decreases-loop-i l = l.terms - l.i
+invariant-loop-i l = Mixed (gf l.f) (num l.f) l.initial.c l.u (a^ l.f l.e) l.gap l.c l.i

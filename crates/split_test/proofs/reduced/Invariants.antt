@@ -1,9 +1,6 @@
-use Prim.Native.Nat.{suc, ◌-◌, ◌≤◌}
+use Prim.Native.Nat.{suc}
 use Rattle.split_test.proofs.Splitting.{Reducing}
 use Rattle.split_test.proofs.reduced.Given as goal
 
 abbrev pub invariant-loop-i : goal.invariant-loop-i
-invariant-loop-i l = (l.i ≤ l.n) × (Reducing l.f l.c (suc l.n) l.initial.v l.n l.i l.v)
-
-abbrev pub decreases-loop-i : goal.decreases-loop-i
-decreases-loop-i l = l.n - l.i
+invariant-loop-i l = Reducing l.f l.c (suc l.n) l.initial.v l.n l.i l.v
