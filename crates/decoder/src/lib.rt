@@ -74,14 +74,12 @@ fn descend_below(places: &[u16; 64], count: usize, n: usize) -> bool
     ensures { Decides result (Descending n count places.now) }
 {
     let mut bound = n;
-    let mut k: usize = 0;
-    while k < count {
+    for k in 0..count {
         let p = place(places[k]);
         if !is_below(p, bound) {
             return false;
         }
         bound = p;
-        k += 1;
     }
     true
 }
@@ -92,11 +90,9 @@ fn reversed(places: &[u16; 64], count: usize) -> [u16; 64]
     ensures { Reversed count places.now result }
 {
     let mut v = [0; 64];
-    let mut i: usize = 0;
-    while i < count {
+    for i in 0..count {
         let at = count - 1 - i;
         v[i] = places[at];
-        i += 1;
     }
     v
 }

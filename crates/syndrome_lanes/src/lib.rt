@@ -26,13 +26,9 @@ fn fill_row(powers: &[u16; 16384], rows: &mut [u16; 2048], t: usize, p: usize)
     let at = 64 * p;
     let step = p + p;
     let mut e = p;
-    let mut i: usize = 0;
-    while i < t {
-        let k = at + i;
-        let power = powers[e];
-        rows[k] = power;
-        e = e + step;
-        i += 1;
+    for i in 0..t {
+        rows[at + i] = powers[e];
+        e += step;
     }
 }
 
@@ -41,10 +37,8 @@ fn fill_lanes(powers: &[u16; 16384], rows: &mut [u16; 2048], t: usize)
     requires { (t ≤ 62) × (length rows.old ≡ 2048) }
     ensures { Filled powers.now t 32 rows.new }
 {
-    let mut p: usize = 0;
-    while p < 32 {
+    for p in 0..32 {
         fill_row(powers, rows, t, p);
-        p += 1;
     }
 }
 
@@ -66,13 +60,8 @@ fn add_row(rows: &[u16; 2048], lanes: &mut [u16; 64], p: usize, width: usize)
     ensures { Added width rows.now p lanes.old lanes.new }
 {
     let at = 64 * p;
-    let mut i: usize = 0;
-    while i < width {
-        let k = at + i;
-        let old = lanes[i];
-        let power = rows[k];
-        lanes[i] = old ^ power;
-        i += 1;
+    for i in 0..width {
+        lanes[i] ^= rows[at + i];
     }
 }
 
@@ -110,13 +99,10 @@ fn raise(f: Field, powers: &[u16; 16384], logs: &[u16; 16384], lanes: &mut [u16;
     ensures { Raised f t lanes.old lanes.new }
 {
     let mut e: usize = 32;
-    let mut i: usize = 0;
-    while i < t {
-        let v = lanes[i];
-        let w = scaled(f, powers, logs, v, e);
+    for i in 0..t {
+        let w = scaled(f, powers, logs, lanes[i], e);
         lanes[i] = w;
         e = e + 64;
-        i += 1;
     }
 }
 
@@ -137,13 +123,11 @@ pub fn lane_values(
     let n = (d + 31) / 32;
     let words = state.words;
     let mut lanes = [0u16; 64];
-    let mut i: usize = 0;
-    while i < n {
+    for i in 0..n {
         let at = n - 1 - i;
         let word = ((words[at / 2] >> (32 * (at % 2))) % 4294967296) as u32;
         raise(f, powers, logs, &mut lanes, t);
         add_digit_fixed(rows, &mut lanes, word, t);
-        i += 1;
     }
     lanes
 }

@@ -29,14 +29,9 @@ fn add_powers(f: Field, powers: &[u16; 16384], sums: &mut [u16; 128], t: usize, 
 {
     let double = wrap(f, p + p);
     let mut e = p;
-    let mut i: usize = 0;
-    while i < t {
-        let at = i + i;
-        let old = sums[at];
-        let power = powers[e];
-        sums[at] = old ^ power;
+    for i in 0..t {
+        sums[i + i] ^= powers[e];
         e = wrap(f, e + double);
-        i += 1;
     }
 }
 
@@ -52,13 +47,10 @@ fn add_squares(
     requires t_bound { (t ≤ 62) × (Elements f sums.old) }
     ensures { Squared f t sums.old sums.new }
 {
-    let mut i: usize = 0;
-    while i < t {
+    for i in 0..t {
         let v = sums[i];
         let square = product_by_tables(f, powers, logs, v, v);
-        let at = i + i + 1;
-        sums[at] = square;
-        i += 1;
+        sums[i + i + 1] = square;
     }
 }
 
@@ -68,12 +60,8 @@ fn spread(lanes: &[u16; 64], t: usize) -> [u16; 128]
     ensures { Spread t lanes.now result }
 {
     let mut sums = [0; 128];
-    let mut i: usize = 0;
-    while i < t {
-        let at = i + i;
-        let v = lanes[i];
-        sums[at] = v;
-        i += 1;
+    for i in 0..t {
+        sums[i + i] = lanes[i];
     }
     sums
 }
@@ -102,13 +90,10 @@ fn all_zero(sums: &[u16; 128], t: usize) -> bool
     requires { t ≤ 62 }
     ensures { Decides result ((i : ℕ) → i < t → get_or sums.now (i + i) 0 ≡ 0) }
 {
-    let mut i: usize = 0;
-    while i < t {
-        let at = i + i;
-        if sums[at] != 0 {
+    for i in 0..t {
+        if sums[i + i] != 0 {
             return false;
         }
-        i += 1;
     }
     true
 }
@@ -127,11 +112,9 @@ pub fn sums_agree(
     ensures { Decides result (Agrees f t sums.now (take count places.now)) }
 {
     let mut left = *sums;
-    let mut k: usize = 0;
-    while k < count {
+    for k in 0..count {
         let p = places[k] as usize;
         add_powers(f, powers, &mut left, t, p);
-        k += 1;
     }
     all_zero(&left, t)
 }

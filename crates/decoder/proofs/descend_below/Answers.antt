@@ -5,15 +5,15 @@ use Rattle.decoder.proofs.Locating.{ordered-start, ordered-next, ordered-high}
 use Rattle.decoder.proofs.descend_below.Goals as goal
 
 pub loop-k-init : goal.loop-k-init
-loop-k-init c = (omega arith, ordered-start _ _)
+loop-k-init c = ordered-start _ _
 
 pub returns-then-not-is_below : goal.returns-then-not-is_below
-returns-then-not-is_below c = decides-false (ordered-high _ c.loop-k.invariant.1 (omega arith) (omega (arith, c.place-p.ensures, c.is_below.ensures.1 c.if-not-is_below.true)))
+returns-then-not-is_below c = decides-false (ordered-high _ c.loop-k.invariant (omega arith) (omega (arith, c.place-p.ensures, c.is_below.ensures.1 c.if-not-is_below.true)))
 
 pub loop-k-preserved : goal.loop-k-preserved
 loop-k-preserved c = let e = c.place-p.ensures in
-    (omega arith, rw e (ordered-next _ c.loop-k.invariant.1 (omega (arith, c.is_below.ensures.0 c.if-not-is_below.false))))
+    rw e (ordered-next _ c.loop-k.invariant (omega (arith, c.is_below.ensures.0 c.if-not-is_below.false)))
 
 pub returns : goal.returns
 returns c = let e : c.loop-k.k ≡ c.args.count = omega arith in
-    decides-true (rw e at c.loop-k.invariant.1.order)
+    decides-true (rw e at c.loop-k.invariant.order)

@@ -4,10 +4,10 @@ use Rattle.decoder.proofs.Locating.{reversing-start, reversing-next, reversing-e
 use Rattle.decoder.proofs.reversed.Goals as goal
 
 pub loop-i-init : goal.loop-i-init
-loop-i-init c = (omega arith, reversing-start)
+loop-i-init c = reversing-start
 
 pub loop-i-preserved : goal.loop-i-preserved
-loop-i-preserved c = (omega arith, reversing-next _ (omega arith) c.loop-i.invariant.1)
+loop-i-preserved c = reversing-next _ (omega arith) c.loop-i.invariant
 
 pub returns : goal.returns
-returns c = let e : c.loop-i.i ≡ c.args.count = omega arith in reversing-end (rw e at c.loop-i.invariant.1)
+returns c = let e : c.loop-i.i ≡ c.args.count = omega arith in reversing-end (rw e at c.loop-i.invariant)

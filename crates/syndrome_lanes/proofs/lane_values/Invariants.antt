@@ -1,5 +1,5 @@
 use mathlib.Core.Path.{◌≡◌}
-use Prim.Native.Nat.{◌*◌, ◌/◌, ◌^◌, ◌-◌, ◌≤◌}
+use Prim.Native.Nat.{◌*◌, ◌/◌, ◌^◌, ◌-◌}
 use lib.ListN.{length}
 use Rattle.code.specs.Register.{register}
 use Rattle.remainder.proofs.Words.{Words}
@@ -7,7 +7,4 @@ use Rattle.syndrome_lanes.specs.Lanes.{Lanes}
 use Rattle.syndrome_lanes.proofs.lane_values.Given as goal
 
 abbrev pub invariant-loop-i : goal.invariant-loop-i
-invariant-loop-i l = (l.i ≤ l.n) × (length l.words ≡ 14) × (Words l.words) × (Lanes l.f l.t (register l.words / 2 ^ (32 * (l.n - l.i))) (32 * l.i) l.lanes)
-
-abbrev pub decreases-loop-i : goal.decreases-loop-i
-decreases-loop-i l = l.n - l.i
+invariant-loop-i l = (length l.words ≡ 14) × (Words l.words) × (Lanes l.f l.t (register l.words / 2 ^ (32 * (l.n - l.i))) (32 * l.i) l.lanes)
