@@ -14,6 +14,7 @@
 ghost use Rattle.std.specs.Prelude.{◌≡◌, ◌^◌, ◌<◌};
 ghost use Rattle.field.specs.Field.{degree, modulus, longest, chosen, mul, product, power, Elem, Usable};
 
+// By hand: (d) the two field types share no code, and no generic function reads their constants: a trait would add its name alone.
 // The field of 2^13 elements.
 #[derive(Clone, Copy)]
 pub struct Gf13;
@@ -106,9 +107,8 @@ fn shift_and_add(m: u32, modulus: u32, x: u32, y: u32) -> u32
     ensures { Elem m (mul m modulus x y) result }
 {
     let mut r: u32 = 0;
-    let mut i: u32 = m;
-    while 0 < i {
-        i -= 1;
+    for k in 0..m {
+        let i = m - 1 - k;
         let d = r * 2;
         let reduced = d ^ ((d >> m) & 1) * modulus;
         r = reduced ^ ((y >> i) & 1) * x;
