@@ -3,12 +3,10 @@
 //   call             which of several calls a line is
 //   number, buffer   a number and a buffer of a line
 //
-// Words are counted from 0. No function asks anything of its caller: words that are not there are no number and no buffer.
+// Words are counted from 0. No function asks anything of its caller: words that are not there are `None`.
 #![tactic(auto)]
 
 ghost use Rattle.std.specs.Prelude.{◌≤◌, length};
-
-use text::Number;
 
 // Where the next space stands from place `at` on; the end of the line where there is none.
 fn space_from(line: &[u8], at: usize) -> usize
@@ -16,12 +14,10 @@ fn space_from(line: &[u8], at: usize) -> usize
     ensures low { at ≤ result }
     ensures high { result ≤ length line.now }
 {
-    for i in at..line.len() {
-        if line[i] == b' ' {
-            return i;
-        }
+    match line[at..].iter().position(|&c| c == b' ') {
+        Some(k) => at + k,
+        None => line.len(),
     }
-    line.len()
 }
 
 // Where the word after the one at place `at` starts; the end of the line where there is none.
@@ -63,18 +59,18 @@ pub fn call(line: &[u8], names: &[u8]) -> u64 {
 }
 
 // The number that word n is: decimal, or hexadecimal after 0x.
-pub fn number(line: &[u8], n: usize) -> Number {
+pub fn number(line: &[u8], n: usize) -> Option<u64> {
     text::parse_number(word(line, n))
 }
 
 // Puts the bytes that word n says to the front of `out`, and says how many they are: hexadecimal digits, or `-` for none.
-pub fn buffer(line: &[u8], n: usize, out: &mut [u8]) -> Number {
+pub fn buffer(line: &[u8], n: usize, out: &mut [u8]) -> Option<u64> {
     let digits = word(line, n);
-    if digits.len() == 0 {
-        return Number::Bad;
+    if digits.is_empty() {
+        return None;
     }
-    if text::same(digits, b"-") {
-        return Number::Is(0);
+    if digits == b"-".as_slice() {
+        return Some(0);
     }
     text::parse_bytes(digits, out)
 }
