@@ -15,60 +15,17 @@
 
 mod locates;
 
-use bch::LocateAnswer;
-use fragments::FragmentsAnswer;
 use fragments::answers::fragments_reply;
+use replies::Refusal;
 
-fn put_bytes(line: &mut [u8], at: usize, bytes: &[u8]) -> usize {
-    let mut p = at;
-    for x in bytes {
-        p = put_byte(line, p, *x);
-    }
-    p
-}
-
-fn put_byte(line: &mut [u8], at: usize, x: u8) -> usize {
-    vector_io::put_number(line, at, x as u64)
-}
-
-// A line of a reply and of bytes.
-fn show_bytes<R: Input + Print>(rt: &R, reply: u8, bytes: &[u8]) {
+// Writes a line of numbers and of the items of a list.
+fn show<R: Input + Print, T: Copy + Into<u64>>(rt: &R, numbers: &[u64], items: &[T]) {
     let mut line = [0u8; 512];
-    let at = put_byte(&mut line, 0, reply);
-    let end = put_bytes(&mut line, at, bytes);
-    vector_io::write_line(rt, &line, end);
-}
-
-fn put_fragments(line: &mut [u8], at: usize, fragments: &[u32]) -> usize {
-    let mut p = at;
-    for x in fragments {
-        p = put_fragment(line, p, *x);
+    let mut at = vector_io::put_numbers(&mut line, 0, numbers);
+    for item in items {
+        at = vector_io::put_number(&mut line, at, (*item).into());
     }
-    p
-}
-
-fn put_fragment(line: &mut [u8], at: usize, x: u32) -> usize {
-    vector_io::put_number(line, at, x as u64)
-}
-
-fn put_places(line: &mut [u8], at: usize, places: &[u16]) -> usize {
-    let mut p = at;
-    for x in places {
-        p = put_place(line, p, *x);
-    }
-    p
-}
-
-fn put_place(line: &mut [u8], at: usize, x: u16) -> usize {
-    vector_io::put_number(line, at, x as u64)
-}
-
-// A line of numbers and of the places of a list.
-fn show_places<R: Input + Print>(rt: &R, numbers: &[u64], places: &[u16]) {
-    let mut line = [0u8; 512];
-    let at = vector_io::put_numbers(&mut line, 0, numbers);
-    let end = put_places(&mut line, at, places);
-    vector_io::write_line(rt, &line, end);
+    vector_io::write_line(rt, &line, at);
 }
 
 // A line of two numbers, the size of the set that was located, where there is one, and the places of a list.
@@ -76,167 +33,119 @@ fn show_located<R: Input + Print>(
     rt: &R,
     first: u8,
     second: u8,
-    answer: LocateAnswer,
+    answer: Result<usize, Refusal>,
     places: &[u16],
 ) {
     match answer {
-        LocateAnswer::Located(size) => show_places(
-            rt,
-            &[first as u64, second as u64, size as u64],
-            places,
-        ),
-        LocateAnswer::Refused(_) => show_places(rt, &[first as u64, second as u64], places),
+        Ok(size) => show(rt, &[first as u64, second as u64, size as u64], places),
+        Err(_) => show(rt, &[first as u64, second as u64], places),
     }
 }
 
-// The first n fragments, to be written; all where there are no more.
-fn front_fragments(fragments: &mut [u32], n: usize) -> &mut [u32] {
-    if fragments.len() <= n {
-        return fragments;
+// The first n items, to be written; all where there are no more.
+fn front_mut<T>(items: &mut [T], n: usize) -> &mut [T] {
+    if items.len() <= n {
+        return items;
     }
-    &mut fragments[..n]
+    &mut items[..n]
 }
 
-// The first n places, to be written; all where there are no more.
-fn front_places(places: &mut [u16], n: usize) -> &mut [u16] {
-    if places.len() <= n {
-        return places;
-    }
-    &mut places[..n]
+fn export<R: Input + Print>(rt: &R, level_field: u64, remainder: &[u8], fragments: &mut [u32]) {
+    let reply = fragments_reply(fragments::export_fragments(level_field, remainder, fragments));
+    show(rt, &[reply as u64], fragments);
 }
 
-// What a vector gives: the remainder and the fragments with their lengths, and the number of places.
-#[derive(Clone, Copy)]
-struct Vector {
+fn import<R: Input + Print>(rt: &R, level_field: u64, fragments: &[u32], remainder: &mut [u8]) {
+    let reply = fragments_reply(fragments::import_fragments(level_field, fragments, remainder));
+    show(rt, &[reply as u64], remainder);
+}
+
+fn locate<R: Input + Print>(
+    rt: &R,
     level_field: u64,
     n: u64,
-    remainder: [u8; 40],
-    length: usize,
-    fragments: [u32; 16],
-    count: usize,
-    size: usize,
-}
-
-fn export<R: Input + Print>(rt: &R, v: Vector) {
-    let remainder = v.remainder;
-    let mut fragments = v.fragments;
-    let answer = fragments::export_fragments(
-        v.level_field,
-        text::front(&remainder, v.length),
-        front_fragments(&mut fragments, v.count),
-    );
-    let mut line = [0u8; 512];
-    let at = vector_io::put_number(&mut line, 0, fragments_reply(answer) as u64);
-    let end = put_fragments(&mut line, at, text::front_words(&fragments, v.count));
-    vector_io::write_line(rt, &line, end);
-}
-
-// Imports the fragments of a vector into a remainder: the reply.
-fn imported(v: Vector, remainder: &mut [u8]) -> u8 {
-    let fragments = v.fragments;
-    let answer = fragments::import_fragments(
-        v.level_field,
-        text::front_words(&fragments, v.count),
-        remainder,
-    );
-    fragments_reply(answer)
-}
-
-fn import<R: Input + Print>(rt: &R, v: Vector) {
-    let mut remainder = v.remainder;
-    let reply = imported(v, text::front_mut(&mut remainder, v.length));
-    show_bytes(rt, reply, text::front(&remainder, v.length));
-}
-
-fn locate<R: Input + Print>(rt: &R, v: Vector) {
-    let mut remainder = v.remainder;
-    let reply = imported(v, text::front_mut(&mut remainder, v.length));
-    locate_in(rt, v, reply, text::front(&remainder, v.length));
-}
-
-fn locate_in<R: Input + Print>(rt: &R, v: Vector, reply: u8, remainder: &[u8]) {
-    let mut places = [42405u16; 16];
-    let located = bch::locate_errors(
-        1,
-        v.level_field,
-        0,
-        v.n,
-        remainder,
-        front_places(&mut places, v.size),
-    );
+    fragments: &[u32],
+    remainder: &mut [u8],
+    places: &mut [u16],
+) {
+    let reply = fragments_reply(fragments::import_fragments(level_field, fragments, remainder));
+    let located = bch::locate_errors(1, level_field, 0, n, remainder, places);
     show_located(
         rt,
         reply,
         bch::answers::locate_reply(located),
         located,
-        text::front_exponents(&places, v.size),
+        places,
     );
 }
 
 // Answers a vector by its kind.
-fn answer<R: Input + Print>(rt: &R, kind: u8, v: Vector) {
-    match kind {
-        b'X' => export(rt, v),
-        b'M' => import(rt, v),
-        b'L' => locate(rt, v),
+fn answer<R: Input + Print>(
+    rt: &R,
+    head: &[u8; 32],
+    remainder: &mut [u8],
+    fragments: &mut [u32],
+    places: &mut [u16],
+) {
+    let level_field = vector_io::number(head, 8, 8);
+    let n = vector_io::number(head, 16, 8);
+    match head[0] {
+        b'X' => export(rt, level_field, remainder, fragments),
+        b'M' => import(rt, level_field, fragments, remainder),
+        b'L' => locate(rt, level_field, n, fragments, remainder, places),
         _ => vector_io::write_line(rt, b"", 0),
     }
 }
 
-// Sixteen fragments, or as many as the bytes hold and then zeros.
-fn fragments_in(bytes: &[u8]) -> [u32; 16] {
+// Sixteen fragments.
+fn fragments_in(bytes: &[u8; 64]) -> [u32; 16] {
     let mut fragments = [0u32; 16];
-    for i in 0..16 {
-        fragments[i] = fragment_in(bytes, 4 * i);
+    for (fragment, word) in fragments.iter_mut().zip(bytes.as_chunks::<4>().0) {
+        *fragment = u32::from_be_bytes(*word);
     }
     fragments
 }
 
-fn fragment_in(bytes: &[u8], at: usize) -> u32 {
-    (vector_io::number(bytes, at, 4) % 4294967296) as u32
-}
-
 // Reads the remainder and the fragments that follow a head, and answers: false where the input ends before.
-fn next_body<R: Input + Print>(rt: &R, head: &[u8], length: u8, count: u8, size: u8) -> bool {
-    let mut remainder = [0u8; 40];
+fn next_body<R: Input + Print>(
+    rt: &R,
+    head: &[u8; 32],
+    remainder: &mut [u8],
+    count: u8,
+    places: &mut [u16],
+) -> bool {
     let mut bytes = [0u8; 64];
-    if !vector_io::fill(rt, text::front_mut(&mut remainder, length as usize)) {
+    if !vector_io::fill(rt, remainder)
+        || !vector_io::fill(rt, text::front_mut(&mut bytes, 4 * count as usize))
+    {
         return false;
     }
-    if !vector_io::fill(rt, text::front_mut(&mut bytes, 4 * count as usize)) {
-        return false;
-    }
+    let mut fragments = fragments_in(&bytes);
     answer(
         rt,
-        vector_io::byte(head, 0, 0),
-        Vector {
-            level_field: vector_io::number(head, 8, 8),
-            n: vector_io::number(head, 16, 8),
-            remainder: remainder,
-            length: length as usize,
-            fragments: fragments_in(&bytes),
-            count: count as usize,
-            size: size as usize,
-        },
+        head,
+        remainder,
+        front_mut(&mut fragments, count as usize),
+        places,
     );
     true
 }
 
 // Answers the vector of a head that is none of `E`, with the lengths that it gives: false where the input ends before it.
-fn next<R: Input + Print>(rt: &R, head: &[u8]) -> bool {
-    let length = vector_io::byte(head, 1, 0);
-    let count = vector_io::byte(head, 2, 0);
-    let size = vector_io::byte(head, 3, 0);
-    if 40 < length {
+fn next<R: Input + Print>(rt: &R, head: &[u8; 32]) -> bool {
+    let [_, length, count, size, ..] = *head;
+    if 40 < length || 16 < count || 16 < size {
         return false;
     }
-    if 16 < count {
-        return false;
-    }
-    if 16 < size {
-        return false;
-    }
-    next_body(rt, head, length, count, size)
+    let mut remainder = [0u8; 40];
+    let mut places = [42405u16; 16];
+    next_body(
+        rt,
+        head,
+        text::front_mut(&mut remainder, length as usize),
+        count,
+        front_mut(&mut places, size as usize),
+    )
 }
 
 // Answers the next vector: false where there is none.
