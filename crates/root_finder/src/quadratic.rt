@@ -7,62 +7,26 @@ ghost use Rattle.std.specs.Prelude.{◌≡◌, ◌<◌};
 use coefficient_rows::{inverse, log_of, wrapped};
 use field::Field;
 
-// A solution y of y^2 + y = a^j for m = 13; where a^j has the trace 1, of y^2 + y = a^j + 1.
-fn half_thirteen(j: u16) -> u16 {
-    match j {
-        1 => 5376,
-        2 => 5378,
-        3 => 898,
-        4 => 5382,
-        5 => 5276,
-        6 => 906,
-        7 => 280,
-        8 => 5398,
-        9 => 3324,
-        10 => 5308,
-        11 => 4110,
-        12 => 970,
-        _ => 0,
-    }
-}
+// For each bit j a solution y of y^2 + y = a^j for m = 13; where a^j has the trace 1, of y^2 + y = a^j + 1.
+static HALVES_13: [u16; 14] = [
+    0, 5376, 5378, 898, 5382, 5276, 906, 280, 5398, 3324, 5308, 4110, 970, 0,
+];
 
-// A solution y of y^2 + y = a^j for m = 14; where a^j has the trace 1, of y^2 + y = a^j + a^9.
-fn half_fourteen(j: u16) -> u16 {
-    match j {
-        0 => 8648,
-        1 => 8284,
-        2 => 8286,
-        3 => 9038,
-        4 => 8282,
-        5 => 7502,
-        6 => 9030,
-        7 => 16148,
-        8 => 8266,
-        10 => 7534,
-        11 => 1340,
-        12 => 8966,
-        13 => 10314,
-        _ => 0,
-    }
-}
-
-// The stored solution for bit j of v, 0 where the bit is 0.
-fn half_of(f: Field, v: u16, j: u16) -> u16 {
-    if v % 2 == 0 {
-        return 0;
-    }
-    match f {
-        Field::Thirteen => half_thirteen(j),
-        Field::Fourteen => half_fourteen(j),
-    }
-}
+// For each bit j a solution y of y^2 + y = a^j for m = 14; where a^j has the trace 1, of y^2 + y = a^j + a^9.
+static HALVES_14: [u16; 14] = [
+    8648, 8284, 8286, 9038, 8282, 7502, 9030, 16148, 8266, 0, 7534, 1340, 8966, 10314,
+];
 
 // A solution y of y^2 + y = v, where there is one.
 fn half(f: Field, v: u16) -> u16 {
+    let halves = match f {
+        Field::Thirteen => &HALVES_13,
+        Field::Fourteen => &HALVES_14,
+    };
     let mut y: u16 = 0;
     let mut left = v;
-    for j in 0..14 {
-        y ^= half_of(f, left, j);
+    for &part in halves {
+        y ^= if left % 2 == 0 { 0 } else { part };
         left /= 2;
     }
     y
