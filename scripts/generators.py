@@ -15,7 +15,6 @@ FIELDS = {13: 0x201B, 14: 0x402B}  # x^13 + x^4 + x^3 + x + 1, x^14 + x^5 + x^3 
 NAMES = {13: "thirteen", 14: "fourteen"}
 MOST = 31  # the highest level field, for t = 62
 WORDS = 14  # of 64 bits in a row: room for 14 * 62 + 1 coefficients
-ARMS = 6  # of a match: the checker sees by itself what is left after so many
 WIDTH = 60  # the longest row that the formatter leaves on one line
 
 
@@ -90,47 +89,11 @@ def array(row, indent):
     return "[\n" + "".join(f"{indent}    {literal(word)},\n" for word in row) + f"{indent}]"
 
 
-def first_name(m, ecc):
-    return f"row{m}" if ecc == 0 else f"row{m}_from_{2 * ecc}" if ecc < MOST else f"row{m}_of_{2 * MOST}"
-
-
-def function(m, rows, first):
-    """A function that answers the rows from one on by a match, and leaves those after them to the next."""
-    after = min(first + ARMS, MOST)
-    about = "The row of a level field: here those" if first == 0 else "Those" if first + 1 < after else "That"
-    levels = ", ".join(str(2 * ecc) for ecc in range(first, after))
-    asked = f"ecc ≤ {MOST}" if first == 0 else f"({first} ≤ ecc) × (ecc ≤ {MOST})"
-    arms = "".join(f"        {ecc} => {array(rows[ecc], ' ' * 8)},\n" for ecc in range(first, after))
-    return f"""
-// {about} of t = {levels}.
-{"pub " if first == 0 else ""}fn {first_name(m, first)}(ecc: usize) -> [u64; {WORDS}]
-    requires {{ {asked} }}
-    ensures {{ result ≡ get_or {NAMES[m]} ecc [] }}
-{{
-    match ecc {{
-{arms}        _ => {first_name(m, after)}(ecc),
-    }}
-}}
-"""
-
-
 def code(m):
-    rows = generators(m)
+    rows = "".join(f"    {array(row, ' ' * 4)},\n" for row in generators(m))
     return (
-        f"""// The generators for m = {m} as constants, by level field, as `scripts/generators.py {NAMES[m]}` prints them.
-ghost use Rattle.std.specs.Prelude.{{◌≡◌, [], ◌≤◌, get_or}};
-ghost use Rattle.generators.specs.Rows.{{{NAMES[m]}}};
-"""
-        + "".join(function(m, rows, first) for first in range(0, MOST, ARMS))
-        + f"""
-// That of t = {2 * MOST}.
-fn {first_name(m, MOST)}(ecc: usize) -> [u64; {WORDS}]
-    requires {{ ecc ≡ {MOST} }}
-    ensures {{ result ≡ get_or {NAMES[m]} ecc [] }}
-{{
-    {array(rows[MOST], " " * 4)}
-}}
-"""
+        f"// The generators for m = {m}, by level field, as `scripts/generators.py {NAMES[m]}` prints them.\n"
+        f"pub static ROWS: [[u64; {WORDS}]; {MOST + 1}] = [\n{rows}];\n"
     )
 
 

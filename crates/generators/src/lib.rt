@@ -2,8 +2,8 @@
 //
 //   generator_row    the generator of a level
 //
-// A row is the generator of its level: bit p of the number in the words, lowest word first, is the coefficient of x^p. A `match` whose arms
-// are constants is compiled to tables in read-only memory, so that a row takes no stack and no time but its reading.
+// A row is the generator of its level: bit p of the number in the words, lowest word first, is the coefficient of x^p. The rows are statics,
+// which lie in read-only memory: a row takes no stack and no time but its reading.
 //
 //   thirteen, fourteen    the rows of each field
 //
@@ -27,7 +27,7 @@ pub fn generator_row(f: Field, ecc: usize) -> [u64; 14]
     ensures { register result ≡ generator f (2 * ecc) }
 {
     match f {
-        Field::Thirteen => thirteen::row13(ecc),
-        Field::Fourteen => fourteen::row14(ecc),
+        Field::Thirteen => thirteen::ROWS[ecc],
+        Field::Fourteen => fourteen::ROWS[ecc],
     }
 }
