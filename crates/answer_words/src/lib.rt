@@ -8,6 +8,7 @@ ghost use Rattle.answer_words.specs.Answer.{answer_word, done_word, refused_word
 use replies::{Refusal, refusal_block, refusal_number};
 
 // Reply in bits 0 to 7, its block in bits 8 to 23, kind in bits 24 to 31, value in bits 32 to 63.
+#[tactic(auto, unfolding(crate::specs::Answer::answer_word))]
 pub fn answer_word(reply: u8, block: u16, kind: u8, value: u32) -> u64
     ensures { result ≡ answer_word reply block kind value }
 {
@@ -15,6 +16,7 @@ pub fn answer_word(reply: u8, block: u16, kind: u8, value: u32) -> u64
 }
 
 // The word of reply 0.
+#[tactic(auto, unfolding(crate::specs::Answer::done_word))]
 pub fn done(kind: u8, value: u32) -> u64
     ensures { result ≡ done_word kind value }
 {
@@ -22,6 +24,7 @@ pub fn done(kind: u8, value: u32) -> u64
 }
 
 // The word of a refusal, by its number and its block.
+#[tactic(auto, unfolding(crate::specs::Answer::refused_word))]
 pub fn refused(reply: u8, block: u16) -> u64
     ensures { result ≡ refused_word reply block }
 {
@@ -29,6 +32,7 @@ pub fn refused(reply: u8, block: u16) -> u64
 }
 
 // The word of a refusal of document 01's table.
+#[tactic(auto, unfolding(crate::specs::Answer::refused_word))]
 pub fn refused_by(refusal: Refusal) -> u64
     ensures { result ≡ refused_word (number refusal) (block refusal) }
 {

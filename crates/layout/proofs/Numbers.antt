@@ -1,13 +1,19 @@
 -- The numbers that this crate's refusals have in document 01's table.
 use mathlib.Core.Path.{◌≡◌, refl}
 use mathlib.Core.Logic.{◌⊎◌, inl, inr}
-use Prim.Native.Nat.{◌<◌}
+use Prim.Native.Nat.{ℕ, ◌<◌}
 use native.Mathlib.Omega.{arith}
+use Rattle.std.specs.Prelude.{Result, Ok, Err}
 use Rattle.replies.specs.Replies.{number}
+use Rattle.layout_plan.specs.declared.Layout.{Layout}
 use Rattle.layout.specs.declared.Rule.{Rule}
 use Rattle.layout.specs.declared.Rule.TheVariants.{Level, Message, Length, Outside, Room}
 use Rattle.layout.specs.declared.Refusal.{Refusal}
 use Rattle.layout.specs.declared.Refusal.TheVariants as refusal
+use Rattle.layout.specs.declared.BitPlace.{BitPlace}
+use Rattle.layout.specs.declared.BitPlace.TheVariants as bit
+use Rattle.layout.specs.Answers as numbers
+use Rattle.layout.specs.Answers.{answer_reply, acceptance_numbers, bit_numbers, position_numbers}
 use Rattle.layout.specs.Acceptance.{rule_refusal, refusal_of, rule_number, refusal_reply}
 
 pub rule-number-range : (r : Rule) → (0 < rule_number r) × (rule_number r < 12)
@@ -40,3 +46,21 @@ refusal-reply-early refusal.Edition = inl (omega arith)
 refusal-reply-early refusal.RecordLength = inl (omega arith)
 refusal-reply-early (refusal.Rule r) = rule-reply r.rule
 refusal-reply-early refusal.Range = inl (omega arith)
+
+-- The reply of an answer is the one among its numbers.
+pub acceptance-reply : (a : Result Layout Refusal) → answer_reply a ≡ (acceptance_numbers a).reply
+unfolding answer_reply acceptance_numbers numbers.done numbers.refused
+acceptance-reply (Ok l) = refl
+acceptance-reply (Err r) = refl
+
+pub bit-reply : (a : Result BitPlace Refusal) → answer_reply a ≡ (bit_numbers a).reply
+unfolding answer_reply bit_numbers numbers.done numbers.refused
+bit-reply (Ok (bit.InBlock b e)) = refl
+bit-reply (Ok bit.Tail) = refl
+bit-reply (Ok bit.Mark) = refl
+bit-reply (Err r) = refl
+
+pub position-reply : (a : Result ℕ Refusal) → answer_reply a ≡ (position_numbers a).reply
+unfolding answer_reply position_numbers numbers.done numbers.refused
+position-reply (Ok p) = refl
+position-reply (Err r) = refl

@@ -4,6 +4,7 @@
 -- Numbers               a reply, its block, and the values that go with it
 -- done values           reply 0
 -- refused r             a refusal, which has no values
+-- answer_reply a        the reply of an answer, whatever it holds
 -- acceptance_numbers     a layout record: nothing but the reply
 -- bit_numbers            a page bit: block and exponent, or nothing in the tail and in the mark
 -- position_numbers       a code bit: its position
@@ -24,6 +25,10 @@ done values = record { reply = 0; block = 0; values = values }
 
 unfoldable pub refused : Refusal → Numbers
 refused r = record { reply = refusal_reply r; block = 0; values = [] }
+
+unfoldable pub answer_reply : {A : Type 0} → Result A Refusal → ℕ
+answer_reply (Ok a) = 0
+answer_reply (Err r) = refusal_reply r
 
 unfoldable pub acceptance_numbers : Result Layout Refusal → Numbers
 acceptance_numbers (Ok l) = done []

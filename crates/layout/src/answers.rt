@@ -1,10 +1,9 @@
 // Document 01's reply of each answer.
 ghost use Rattle.std.specs.Prelude.{◌≡◌};
 ghost use Rattle.layout.specs.Acceptance.{rule_refusal, refusal_of, refusal_reply};
-ghost use Rattle.layout.specs.Answers.{acceptance_numbers};
+ghost use Rattle.layout.specs.Answers.{answer_reply};
 
 use crate::{Refusal, Rule};
-use layout_plan::Layout;
 use replies::refusal_number;
 
 // The case of document 01's table that a broken rule is.
@@ -46,10 +45,10 @@ pub fn refusal_reply(refusal: Refusal) -> u8
     refusal_number(replies::Refusal::from(refusal))
 }
 
-// The reply of an answer to a layout record.
-#[tactic(auto, unfolding(crate::specs::Answers::acceptance_numbers, crate::specs::Answers::done, crate::specs::Answers::refused))]
-pub fn acceptance_reply(answer: Result<Layout, Refusal>) -> u8
-    ensures { result ≡ (acceptance_numbers answer).reply }
+// The reply of an answer, to a layout record or about a bit: 0 where nothing is refused.
+#[tactic(auto, unfolding(crate::specs::Answers::answer_reply))]
+pub fn answer_reply<A: Drop>(answer: Result<A, Refusal>) -> u8
+    ensures { result ≡ answer_reply answer }
 {
     match answer {
         Ok(_) => 0,

@@ -16,7 +16,7 @@ ghost use Rattle.layout_plan.specs.Record.{words_of};
 ghost use Rattle.layout.specs.Acceptance.{acceptance};
 ghost use Rattle.layout.specs.declared.Refusal.TheVariants as refusal;
 
-pub use answers::{acceptance_reply, refusal_reply};
+pub use answers::{answer_reply, refusal_reply};
 use layout_plan::{Layout, layout_for, plan_of};
 use layout_record::{fields_in, record_length};
 use replies::offered;

@@ -8,6 +8,7 @@ use layout_plan::{BlockFields, Fields, Plan, Shape, page_room};
 use replies::highest;
 
 // The finding of one rule.
+#[tactic(auto, unfolding(crate::specs::Acceptance::test))]
 pub fn test(broken: bool, reason: Reason) -> Result<(), Reason>
     ensures { result ≡ test broken reason }
 {
@@ -18,6 +19,7 @@ pub fn test(broken: bool, reason: Reason) -> Result<(), Reason>
 }
 
 // Reply 1, a level field above the highest of the edition.
+#[tactic(auto, unfolding(crate::specs::Acceptance::level_rule))]
 pub fn level_rule(edition: u64, kind: Kind, fields: BlockFields) -> Result<(), Reason>
     ensures { result ≡ level_rule edition kind fields }
 {
@@ -35,6 +37,7 @@ pub fn level_rule(edition: u64, kind: Kind, fields: BlockFields) -> Result<(), R
 }
 
 // Reply 2, an empty message.
+#[tactic(auto, unfolding(crate::specs::Acceptance::message_rule))]
 pub fn message_rule(kind: Kind, shape: Shape) -> Result<(), Reason>
     ensures { result ≡ message_rule kind shape }
 {
@@ -51,6 +54,7 @@ pub fn message_rule(kind: Kind, shape: Shape) -> Result<(), Reason>
 }
 
 // Reply 3, a block with t > 0 longer than 2^m - 1 bits.
+#[tactic(auto, unfolding(crate::specs::Acceptance::length_rule, crate::specs::Acceptance::test))]
 pub fn length_rule(kind: Kind, shape: Shape) -> Result<(), Reason>
     ensures { result ≡ length_rule kind shape }
 {
@@ -72,6 +76,7 @@ pub fn length_rule(kind: Kind, shape: Shape) -> Result<(), Reason>
 }
 
 // Reply 11, a mark beyond the page, or bits after it that are not zero.
+#[tactic(auto, unfolding(crate::specs::Acceptance::mark_rule, crate::specs::Acceptance::either, crate::specs::Acceptance::test))]
 pub fn mark_rule(fields: Fields) -> Result<(), Reason>
     ensures { result ≡ mark_rule fields }
 {
@@ -99,6 +104,7 @@ pub fn mark_rule(fields: Fields) -> Result<(), Reason>
 }
 
 // Reply 4, blocks that need more bits than the page has beside the mark.
+#[tactic(auto, unfolding(crate::specs::Acceptance::room_rule))]
 pub fn room_rule(plan: Plan) -> Result<(), Reason>
     ensures { result ≡ room_rule plan }
 {

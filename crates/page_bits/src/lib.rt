@@ -8,14 +8,12 @@
 // stream leaves the mark out (crate mark), so a page position before it is its own stream position and one behind it is less by its bits.
 #![tactic(auto)]
 
-mod answers;
 mod places;
 
 ghost use Rattle.std.specs.Prelude.{◌≡◌};
 ghost use Rattle.layout_plan.specs.Record.{words_of};
 ghost use Rattle.layout.specs.Bits.{bit_for, bit_answer, position_for, position_answer};
 
-pub use answers::{bit_reply, position_reply};
 use layout::{BitPlace, Refusal, check_layout};
 use layout_plan::{Layout, plan_of};
 

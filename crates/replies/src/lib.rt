@@ -2,6 +2,7 @@
 //
 //   refusal_number    the number of a refusal in the table; reply 0, done, is none of them
 //   refusal_block     the block that goes with it
+//   answer_number     the number of an answer, whatever it holds: 0 where nothing is refused
 //   offered           whether there is such an edition (document 02, E13)
 //   highest           the highest level field of an edition
 //
@@ -12,7 +13,7 @@
 mod edition;
 
 ghost use Rattle.std.specs.Prelude.{◌≡◌};
-ghost use Rattle.replies.specs.Replies.{number, block};
+ghost use Rattle.replies.specs.Replies.{number, block, verdict_number};
 
 pub use edition::{highest, offered};
 
@@ -44,6 +45,8 @@ pub enum Refusal {
 }
 
 // The number of a refusal in the table.
+// By hand: two numbers go with a refusal, this one and its block, and a `u8::from(refusal)` would not say which is meant.
+#[tactic(auto, unfolding(crate::specs::Replies::number))]
 pub fn refusal_number(refusal: Refusal) -> u8
     ensures { result ≡ number refusal }
 {
@@ -63,6 +66,8 @@ pub fn refusal_number(refusal: Refusal) -> u8
 }
 
 // The block that goes with a refusal: 0 except where a block has no codeword near.
+// By hand: as above; and a pattern for the cases without a block would hide a case that is added later.
+#[tactic(auto, unfolding(crate::specs::Replies::block))]
 pub fn refusal_block(refusal: Refusal) -> u16
     ensures { result ≡ block refusal }
 {
@@ -78,5 +83,16 @@ pub fn refusal_block(refusal: Refusal) -> u16
         Refusal::Uncorrectable(at) => at,
         Refusal::ClaimWrong => 0,
         Refusal::MarkOutside => 0,
+    }
+}
+
+// The number of an answer: 0 where nothing is refused.
+#[tactic(auto, unfolding(crate::specs::Replies::verdict_number))]
+pub fn answer_number<A: Drop>(answer: Result<A, Refusal>) -> u8
+    ensures { result ≡ verdict_number answer }
+{
+    match answer {
+        Ok(_) => 0,
+        Err(refusal) => refusal_number(refusal),
     }
 }

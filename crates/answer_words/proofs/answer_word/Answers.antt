@@ -1,7 +1,0 @@
-use mathlib.Core.Path.{refl}
-use Rattle.answer_words.specs.Answer.{answer_word}
-use Rattle.answer_words.proofs.answer_word.Goals as goal
-
-pub returns : goal.returns
-unfolding answer_word
-returns c = refl
