@@ -1,19 +1,18 @@
 // The help.
 
+use say::Answer;
 use streams::System;
 
-pub fn unknown<R: System>(rt: &R, out: &mut [u8; 32768]) {
-    say::error(
+pub fn unknown<R: System>(rt: &R, out: &mut Answer) {
+    out.error(
         rt,
-        out,
-        b"the commands are layout, bits, write, read, look, salvage, compare, judge, explain, claim, locate and fragments; nandpage --help says more",
+        "the commands are layout, bits, write, read, look, salvage, compare, judge, explain, claim, locate and fragments; nandpage --help says more",
     );
 }
 
-pub fn all(out: &mut [u8; 32768]) {
-    say::put(
-        out,
-        b"nandpage: pages of NAND flash under BCH codes, written, read and judged\n\
+pub fn all(out: &mut Answer) {
+    out.put(
+        "nandpage: pages of NAND flash under BCH codes, written, read and judged\n\
         \n\
         \x20 nandpage layout WORD0 WORD1                     is this layout accepted? Its fields and blocks, or the reason\n\
         \x20 nandpage bits WORD0 WORD1 POSITION              the block and exponent of a page bit, or the tail, or the mark\n\

@@ -1,160 +1,132 @@
 // The command bits.
-use arguments::Options;
-use layout::{BitAnswer, PositionAnswer};
+use arguments::{Choice, Options};
+use layout::BitPlace;
 use layout_plan::Plan;
 use plans::Planned;
+use say::Answer;
 use streams::System;
-use text::Number;
 
 // Which page of a dump is asked about, where one is.
-fn page(out: &mut [u8; 32768], options: Options) {
-    if options.paged {
-        say::page_number(out, options.page);
+fn page(out: &mut Answer, options: Options) {
+    if let Some(page) = options.page {
+        out.page_number(page);
     }
 }
 
-fn bit_in_block(out: &mut [u8; 32768], options: Options, block: u64, exponent: u64) {
+fn bit(out: &mut Answer, options: Options, place: BitPlace) {
     page(out, options);
-    say::facts(out, b"reply 0: block #, exponent #\n", &[block, exponent]);
+    match place {
+        BitPlace::InBlock { block, exponent } => out.put(format_args!(
+            "reply 0: block {block}, exponent {exponent}\n",
+        )),
+        BitPlace::Tail => out.put("reply 0: tail\n"),
+        BitPlace::Mark => out.put("reply 0: mark\n"),
+    }
 }
 
-// A bit that is in no block: in the tail, or with k = 1 in the mark.
-fn bit_beside(out: &mut [u8; 32768], options: Options, k: u64) {
-    page(out, options);
-    say::one_of(out, b"reply 0: tail\n|reply 0: mark\n", k);
-}
-
-fn locate(out: &mut [u8; 32768], options: Options, record: &[u8; 12], position: u64) {
-    match page_bits::locate_bit(options.edition, record, position) {
-        BitAnswer::InBlock { block, exponent } => bit_in_block(out, options, block, exponent),
-        BitAnswer::Tail => bit_beside(out, options, 0),
-        BitAnswer::Mark => bit_beside(out, options, 1),
-        BitAnswer::Refused(refusal) => plans::refused(
+fn locate(out: &mut Answer, options: Options, record: &[u8; 12], position: u64) {
+    let edition = options.edition();
+    match page_bits::locate_bit(edition, record, position) {
+        Ok(place) => bit(out, options, place),
+        Err(refusal) => plans::refused(
             out,
-            options.edition,
+            edition,
             record,
             refusal,
-            b"the page has no bit at this position\n",
+            "the page has no bit at this position\n",
         ),
     }
 }
 
 // The byte of a dump that is byte b of a page.
-fn dump_byte(out: &mut [u8; 32768], options: Options, plan: Plan, b: u64) {
-    if options.paged {
-        say::fact(
-            out,
-            b", byte ",
-            text::plus(text::times(options.page, plan.size as u32), b),
-            b" of the dump",
-        );
+fn dump_byte(out: &mut Answer, options: Options, plan: Plan, b: u64) {
+    if let Some(page) = options.page {
+        let byte = text::plus(text::times(page, plan.size as u32), b);
+        out.put(format_args!(", byte {byte} of the dump"));
     }
 }
 
-fn bit_at(out: &mut [u8; 32768], options: Options, plan: Plan, position: u64) {
+fn bit_at(out: &mut Answer, options: Options, plan: Plan, position: u64) {
     page(out, options);
-    say::facts(
-        out,
-        b"reply 0: bit # of the page, byte # bit #",
-        &[position, position / 8, 7 - position % 8],
-    );
+    out.put(format_args!(
+        "reply 0: bit {position} of the page, byte {} bit {}",
+        position / 8,
+        7 - position % 8,
+    ));
     dump_byte(out, options, plan, position / 8);
-    say::put(out, b"\n");
+    out.put("\n");
 }
 
 fn position(
-    out: &mut [u8; 32768],
+    out: &mut Answer,
     options: Options,
     plan: Plan,
     record: &[u8; 12],
     block: u64,
     exponent: u64,
 ) {
-    match page_bits::bit_position(options.edition, record, block, exponent) {
-        PositionAnswer::Position(p) => bit_at(out, options, plan, p),
-        PositionAnswer::Refused(refusal) => plans::refused(
+    let edition = options.edition();
+    match page_bits::bit_position(edition, record, block, exponent) {
+        Ok(p) => bit_at(out, options, plan, p),
+        Err(refusal) => plans::refused(
             out,
-            options.edition,
+            edition,
             record,
             refusal,
-            b"the page has no such block, or the block no such exponent\n",
+            "the page has no such block, or the block no such exponent\n",
         ),
     }
 }
 
 // nandpage bits WORD0 WORD1 POSITION
-fn bits_of_position<R: System>(rt: &R, out: &mut [u8; 32768], options: Options, record: &[u8; 12]) {
-    let Number::Is(p) = arguments::number(rt, out, arguments::place(options.at, 2), b"POSITION")
-    else {
-        return;
-    };
-    locate(out, options, record, p);
+fn bits_of_position<R: System>(rt: &R, out: &mut Answer, options: Options, record: &[u8; 12]) {
+    if let Some(p) = arguments::number(rt, out, options.place(2), "POSITION") {
+        locate(out, options, record, p);
+    }
 }
 
 // nandpage bits WORD0 WORD1 BLOCK EXPONENT
 fn bits_of_exponent<R: System>(
     rt: &R,
-    out: &mut [u8; 32768],
+    out: &mut Answer,
     options: Options,
     plan: Plan,
     record: &[u8; 12],
 ) {
-    let Number::Is(block) = arguments::number(rt, out, arguments::place(options.at, 2), b"BLOCK")
-    else {
+    let Some(block) = arguments::number(rt, out, options.place(2), "BLOCK") else {
         return;
     };
-    let Number::Is(exponent) = arguments::number(
-        rt,
-        out,
-        arguments::place(options.at, 3),
-        b"EXPONENT",
-    ) else {
+    let Some(exponent) = arguments::number(rt, out, options.place(3), "EXPONENT") else {
         return;
     };
     position(out, options, plan, record, block, exponent);
 }
 
-fn usage<R: System>(rt: &R, out: &mut [u8; 32768]) {
-    say::error(
-        rt,
-        out,
-        b"usage: nandpage bits [--edition N] [--mark WORD2] [--page K] WORD0 WORD1 POSITION, or with BLOCK EXPONENT in place of POSITION",
-    );
-}
-
-// Whether so many arguments are three or four from place `at` on.
-fn are_enough(at: usize, count: usize) -> bool {
-    if count < arguments::place(at, 3) {
-        return false;
-    }
-    count <= arguments::place(at, 4)
-}
-
-fn bits_of<R: System>(rt: &R, out: &mut [u8; 32768], options: Options) {
-    let Planned::Under { words, plan } = plans::plan_of_words(rt, out, options) else {
+fn bits_of<R: System>(rt: &R, out: &mut Answer, options: Options) {
+    let Some(Planned { words, plan }) = plans::plan_of_words(rt, out, options) else {
         return;
     };
-    let record = arguments::record_of(words);
-    if arguments::count(rt) == arguments::place(options.at, 3) {
+    let record = words.record();
+    if arguments::count(rt) == options.place(3) {
         bits_of_position(rt, out, options, &record);
-        return;
+    } else {
+        bits_of_exponent(rt, out, options, plan, &record);
     }
-    bits_of_exponent(rt, out, options, plan, &record);
 }
 
 // nandpage bits ..
-pub fn bits<R: System>(rt: &R, out: &mut [u8; 32768]) {
-    let options = arguments::find_options(
-        rt,
-        out,
-        arguments::MARK + arguments::EDITION + arguments::PAGE,
-    );
-    if !options.good {
+pub fn bits<R: System>(rt: &R, out: &mut Answer) {
+    let allowed = [Choice::Mark, Choice::Edition, Choice::Page];
+    let Some(options) = arguments::find_options(rt, out, &allowed) else {
         return;
+    };
+    let count = arguments::count(rt);
+    if options.place(3) <= count && count <= options.place(4) {
+        bits_of(rt, out, options);
+    } else {
+        out.error(
+            rt,
+            "usage: nandpage bits [--edition N] [--mark WORD2] [--page K] WORD0 WORD1 POSITION, or with BLOCK EXPONENT in place of POSITION",
+        );
     }
-    if !are_enough(options.at, arguments::count(rt)) {
-        usage(rt, out);
-        return;
-    }
-    bits_of(rt, out, options);
 }

@@ -1,89 +1,71 @@
 // The command fragments: export and import.
 use crate::remainder_at;
-use fragments::FragmentsAnswer;
 use replies::{Refusal, refusal_number};
+use say::Answer;
 use streams::System;
-use text::Number;
 
-fn hex_byte(out: &mut [u8; 32768], b: u8) {
-    say::put(out, &text::hex_byte(b));
+// Bytes in hexadecimal.
+fn hex(out: &mut Answer, bytes: &[u8]) {
+    for b in bytes {
+        out.put_bytes(&text::hex_byte(*b));
+    }
 }
 
-// A word in hexadecimal, after a blank.
-fn word(x: u32) -> [u8; 11] {
-    let a = text::hex_byte((x / 16777216) as u8);
-    let b = text::hex_byte((x / 65536 % 256) as u8);
-    let c = text::hex_byte((x / 256 % 256) as u8);
-    let d = text::hex_byte((x % 256) as u8);
-    [
-        b' ', b'0', b'x', a[0], a[1], b[0], b[1], c[0], c[1], d[0], d[1],
-    ]
-}
-
-fn fragment(out: &mut [u8; 32768], x: u32) {
-    say::put(out, &word(x));
-}
-
-fn exported(out: &mut [u8; 32768], list: &[u32]) {
-    say::put(out, b"reply 0: fragments");
+fn exported(out: &mut Answer, list: &[u32]) {
+    out.put("reply 0: fragments");
     for x in list {
-        fragment(out, *x);
+        out.put(" 0x");
+        hex(out, &x.to_be_bytes());
     }
-    say::put(out, b"\n");
+    out.put("\n");
 }
 
-fn imported(out: &mut [u8; 32768], remainder: &[u8]) {
-    say::put(out, b"reply 0: remainder ");
-    for b in remainder {
-        hex_byte(out, *b);
-    }
-    say::put(out, b"\n");
+fn imported(out: &mut Answer, remainder: &[u8]) {
+    out.put("reply 0: remainder ");
+    hex(out, remainder);
+    out.put("\n");
 }
 
-fn refused(out: &mut [u8; 32768], refusal: Refusal) {
-    say::reply(out, refusal_number(refusal));
+fn refused(out: &mut Answer, refusal: Refusal) {
+    out.reply(refusal_number(refusal));
     match refusal {
-        Refusal::LevelTooHigh => say::put(
-            out,
-            b"the locator has the level fields 2, 4 and 8, for t = 4, 8 and 16\n",
+        Refusal::LevelTooHigh => out.put(
+            "the locator has the level fields 2, 4 and 8, for t = 4, 8 and 16\n",
         ),
-        Refusal::BufferLength => say::put(
-            out,
-            b"a remainder has 7, 13 or 26 bytes at these levels, and there are seven fragments\n",
+        Refusal::BufferLength => out.put(
+            "a remainder has 7, 13 or 26 bytes at these levels, and there are seven fragments\n",
         ),
-        _ => say::put(
-            out,
-            b"there is a one above bit mt - 1; the start bit, bit 16 of fragment 6, is one of these\n",
+        _ => out.put(
+            "there is a one above bit mt - 1; the start bit, bit 16 of fragment 6, is one of these\n",
         ),
     }
 }
 
-fn export_from(out: &mut [u8; 32768], level: u64, remainder: &[u8]) {
+fn export_from(out: &mut Answer, level: u64, remainder: &[u8]) {
     let mut list = [0u32; 7];
     match fragments::export_fragments(level, remainder, &mut list) {
-        FragmentsAnswer::Done => exported(out, &list),
-        FragmentsAnswer::Refused(refusal) => refused(out, refusal),
+        Ok(()) => exported(out, &list),
+        Err(refusal) => refused(out, refusal),
     }
 }
 
 // nandpage fragments export LEVEL REMAINDER
-fn export<R: System>(rt: &R, out: &mut [u8; 32768], at: usize) {
+fn export<R: System>(rt: &R, out: &mut Answer, at: usize) {
     if !arguments::are(
         rt,
         out,
         at,
         2,
-        b"usage: nandpage fragments export LEVEL REMAINDER",
+        "usage: nandpage fragments export LEVEL REMAINDER",
     ) {
         return;
     }
-    let Number::Is(level) = arguments::number(rt, out, at, b"LEVEL") else {
+    let Some(level) = arguments::number(rt, out, at, "LEVEL") else {
         return;
     };
-    let mut remainder = [0u8; 128];
-    match remainder_at(rt, out, arguments::place(at, 1), &mut remainder) {
-        Number::Is(count) => export_from(out, level, text::front(&remainder, count as usize)),
-        Number::Bad => (),
+    let mut buffer = [0u8; 128];
+    if let Some(remainder) = remainder_at(rt, out, arguments::place(at, 1), &mut buffer) {
+        export_from(out, level, remainder);
     }
 }
 
@@ -96,17 +78,17 @@ fn bytes_for(level: u64) -> usize {
     }
 }
 
-fn import_into(out: &mut [u8; 32768], level: u64, list: &[u32], remainder: &mut [u8]) {
+fn import_into(out: &mut Answer, level: u64, list: &[u32], remainder: &mut [u8]) {
     match fragments::import_fragments(level, list, remainder) {
-        FragmentsAnswer::Done => imported(out, remainder),
-        FragmentsAnswer::Refused(refusal) => refused(out, refusal),
+        Ok(()) => imported(out, remainder),
+        Err(refusal) => refused(out, refusal),
     }
 }
 
 // The list is as long as the words that are given, and 16 stand for all that are more.
-fn import_of<R: System>(rt: &R, out: &mut [u8; 32768], level: u64, first: usize, end: usize) {
+fn import_of<R: System>(rt: &R, out: &mut Answer, level: u64, first: usize, end: usize) {
     let mut list = [0u32; 16];
-    if !arguments::word_list(rt, out, first, end, b"FRAGMENT", arguments::WORD, &mut list) {
+    if !arguments::word_list(rt, out, first..end, "FRAGMENT", arguments::WORD, &mut list) {
         return;
     }
     let mut remainder = [0u8; 26];
@@ -114,46 +96,40 @@ fn import_of<R: System>(rt: &R, out: &mut [u8; 32768], level: u64, first: usize,
         import_into(
             out,
             level,
-            text::front_words(&list, end - first),
+            text::front(&list, end - first),
             text::front_mut(&mut remainder, bytes_for(level)),
         );
     }
 }
 
 // nandpage fragments import LEVEL FRAGMENT..
-fn import<R: System>(rt: &R, out: &mut [u8; 32768], at: usize) {
+fn import<R: System>(rt: &R, out: &mut Answer, at: usize) {
     let count = arguments::count(rt);
     let first = arguments::place(at, 1);
     if count <= first {
         usage(rt, out);
-        return;
+    } else if let Some(level) = arguments::number(rt, out, at, "LEVEL") {
+        import_of(rt, out, level, first, count);
     }
-    let Number::Is(level) = arguments::number(rt, out, at, b"LEVEL") else {
-        return;
-    };
-    import_of(rt, out, level, first, count);
 }
 
-fn usage<R: System>(rt: &R, out: &mut [u8; 32768]) {
-    say::error(
+fn usage<R: System>(rt: &R, out: &mut Answer) {
+    out.error(
         rt,
-        out,
-        b"usage: nandpage fragments export LEVEL REMAINDER, or nandpage fragments import LEVEL FRAGMENT..",
+        "usage: nandpage fragments export LEVEL REMAINDER, or nandpage fragments import LEVEL FRAGMENT..",
     );
 }
 
 // nandpage fragments export .. or import ..
-pub fn fragments<R: System>(rt: &R, out: &mut [u8; 32768]) {
-    let options = arguments::find_options(rt, out, 0);
-    if !options.good {
+pub fn fragments<R: System>(rt: &R, out: &mut Answer) {
+    let Some(options) = arguments::find_options(rt, out, &[]) else {
         return;
-    }
+    };
     let mut name = [0u8; 16];
-    let n = arguments::argument(rt, options.at, &mut name);
-    let at = arguments::place(options.at, 1);
-    match text::index_of(&name[..n], b"export|import") {
-        0 => export(rt, out, at),
-        1 => import(rt, out, at),
+    let at = options.place(1);
+    match arguments::argument(rt, options.at, &mut name) {
+        b"export" => export(rt, out, at),
+        b"import" => import(rt, out, at),
         _ => usage(rt, out),
     }
 }

@@ -6,26 +6,23 @@ mod locating;
 
 pub use fragmenting::fragments;
 pub use locating::locate;
+use say::Answer;
 use streams::System;
-use text::Number;
 
-// Puts the remainder that argument i has in hexadecimal digits to the front of a buffer, and says how many bytes it has; none where
-// an error was printed.
-fn remainder_at<R: System>(
+// Puts the remainder that argument i has in hexadecimal digits to the front of a buffer: none where an error was printed.
+fn remainder_at<'a, R: System>(
     rt: &R,
-    out: &mut [u8; 32768],
+    out: &mut Answer,
     i: usize,
-    remainder: &mut [u8],
-) -> Number {
+    remainder: &'a mut [u8],
+) -> Option<&'a [u8]> {
     let mut buffer = [0u8; 258];
-    let given = rt.arg(i, &mut buffer);
-    if !arguments::whole(rt, out, given, b"REMAINDER") {
-        return Number::Bad;
+    let digits = arguments::given(rt, out, i, "REMAINDER", &mut buffer)?;
+    match text::parse_bytes(text::without_prefix(digits), remainder) {
+        Some(count) => Some(text::front(remainder, count as usize)),
+        None => {
+            arguments::bad_remainder(rt, out);
+            None
+        }
     }
-    let digits = text::front(&buffer, given.unwrap_or(0));
-    let found = text::parse_bytes(text::without_prefix(digits), remainder);
-    if let Number::Bad = found {
-        arguments::bad_remainder(rt, out);
-    }
-    found
 }

@@ -1,121 +1,94 @@
 // The plan of a page under the layout words of the arguments, and why a layout is refused.
 #![tactic(auto)]
 
-use arguments::{LayoutWords, Options, Words};
-use layout::{Acceptance, Kind, Reason, Refusal, Rule};
+use arguments::{LayoutWords, Options};
+use layout::{Kind, Reason, Refusal, Rule};
 use layout_plan::{Fields, Plan};
+use say::Answer;
 use streams::System;
 
-// What a rule is about, by its number among the texts of `reason`.
-fn number(kind: Kind) -> u64 {
+// What a rule is about.
+fn name(kind: Kind) -> &'static str {
     match kind {
-        Kind::First => 0,
-        Kind::Later => 1,
-        Kind::Page => 2,
+        Kind::First => "block 0",
+        Kind::Later => "each later block",
+        Kind::Page => "the page",
     }
 }
 
 // Why a mark is refused. The numbers that were compared are its end and PAGE_SIZE or, where it ends in the page, the zero bits and 0.
-fn outside(out: &mut [u8; 32768], fields: Fields, found: u64, limit: u64) {
+fn outside(out: &mut Answer, fields: Fields, found: u64, limit: u64) {
     let mark = fields.mark;
     let end = mark.offset as u64 + mark.length as u64;
     if (fields.page as u64) < end {
-        say::facts(
-            out,
-            b" has # bytes, and mark offset and mark length come to #\n",
-            &[limit, found],
-        );
-        return;
+        out.put(format_args!(
+            " has {limit} bytes, and mark offset and mark length come to {found}\n",
+        ));
+    } else {
+        out.put(format_args!(
+            " has {found} in the zero bits after the mark length, and they have to be {limit}\n",
+        ));
     }
-    say::facts(
-        out,
-        b" has # in the zero bits after the mark length, and they have to be #\n",
-        &[found, limit],
-    );
 }
 
 // Why the blocks are refused: they need more bits than the page has beside the mark.
-fn room(out: &mut [u8; 32768], fields: Fields, found: u64, limit: u64) {
-    if fields.mark.length == 0 {
-        say::facts(
-            out,
-            b" has # bits, and the blocks need #\n",
-            &[limit, found],
-        );
-        return;
-    }
-    say::facts(
-        out,
-        b" has # bits beside the mark, and the blocks need #\n",
-        &[limit, found],
-    );
+fn room(out: &mut Answer, fields: Fields, found: u64, limit: u64) {
+    let beside = if fields.mark.length == 0 {
+        ""
+    } else {
+        " beside the mark"
+    };
+    out.put(format_args!(" has {limit} bits{beside}, and the blocks need {found}\n",));
 }
 
 // Why a layout is refused, in a sentence with the two numbers that were compared.
-fn reason(out: &mut [u8; 32768], fields: Fields, reason: Reason) {
-    let rule = reason.rule;
+fn reason(out: &mut Answer, fields: Fields, reason: Reason) {
     let found = reason.found;
     let limit = reason.limit;
-    let kind = reason.kind;
-    say::one_of(out, b"block 0|each later block|the page", number(kind));
-    match rule {
-        Rule::Level => say::facts(
-            out,
-            b" has the level field #, and the largest is #\n",
-            &[found, limit],
-        ),
-        Rule::Message => say::put(out, b" has an empty message\n"),
-        Rule::Length => say::facts(
-            out,
-            b" has # bits, and its field allows at most #\n",
-            &[found, limit],
-        ),
+    out.put(name(reason.kind));
+    match reason.rule {
+        Rule::Level => out.put(format_args!(
+            " has the level field {found}, and the largest is {limit}\n",
+        )),
+        Rule::Message => out.put(" has an empty message\n"),
+        Rule::Length => out.put(format_args!(
+            " has {found} bits, and its field allows at most {limit}\n",
+        )),
         Rule::Outside => outside(out, fields, found, limit),
         Rule::Room => room(out, fields, found, limit),
     }
 }
 
 // A refusal of a layout, a page bit or a code bit.
-pub fn refused(
-    out: &mut [u8; 32768],
-    edition: u64,
-    record: &[u8; 12],
-    refusal: Refusal,
-    range: &[u8],
-) {
-    say::reply(out, layout::refusal_reply(refusal));
+pub fn refused(out: &mut Answer, edition: u64, record: &[u8; 12], refusal: Refusal, range: &str) {
+    out.reply(layout::refusal_reply(refusal));
     match refusal {
-        Refusal::Edition => say::put(out, b"there is no such edition, only 1 and 2\n"),
-        Refusal::RecordLength => say::put(
-            out,
-            b"the layout record has not eight or twelve bytes\n",
-        ),
+        Refusal::Edition => out.put("there is no such edition, only 1 and 2\n"),
+        Refusal::RecordLength => out.put("the layout record has not eight or twelve bytes\n"),
         Refusal::Rule(r) => reason(out, layout_record::fields_of(edition, record), r),
-        Refusal::Range => say::put(out, range),
+        Refusal::Range => out.put(range),
     }
 }
 
-// The words of a layout and the plan of a page under it, or none where an error or a refusal was printed.
+// The words of a layout and the plan of a page under it.
 #[derive(Clone, Copy)]
-pub enum Planned {
-    Under { words: LayoutWords, plan: Plan },
-    Not,
+pub struct Planned {
+    pub words: LayoutWords,
+    pub plan: Plan,
 }
 
-// The plan of a page under the layout words of the arguments.
-pub fn plan_of_words<R: System>(rt: &R, out: &mut [u8; 32768], options: Options) -> Planned {
-    let Words::Are(words) = arguments::layout_words(rt, out, options) else {
-        return Planned::Not;
-    };
-    let record = arguments::record_of(words);
+// The plan of a page under the layout words of the arguments: none where an error or a refusal was printed.
+pub fn plan_of_words<R: System>(rt: &R, out: &mut Answer, options: Options) -> Option<Planned> {
+    let words = options.layout_words(rt, out)?;
+    let record = words.record();
     match layout::check_layout(words.edition, &record) {
-        Acceptance::Accepted(l) => Planned::Under {
+        Ok(l) => Some(Planned {
             words: words,
             plan: layout_plan::plan_of(l),
-        },
-        Acceptance::Refused(refusal) => {
-            refused(out, words.edition, &record, refusal, b"\n");
-            Planned::Not
+        }),
+        Err(refusal) => {
+            refused(out, words.edition, &record, refusal, "\n");
+            None
         }
     }
 }

@@ -7,6 +7,7 @@
 //   text                            the text, to be written elsewhere
 //   status, fail                    the exit status; another one
 //   put                             what is shown: a text, a number, several of these by `format_args!`
+//   put_bytes                       bytes, as they were typed
 //   reply, meaning                  the start of an answer, and what a reply says
 //   length, page_refused, ruined    what is wrong with a page
 //   error, bad_argument, bad_file, bad_output   an error's line on standard error
@@ -106,6 +107,10 @@ impl Answer {
 
     pub fn put<D: Display + Drop>(&mut self, what: D) {
         self.text.put(what);
+    }
+
+    pub fn put_bytes(&mut self, bytes: &[u8]) {
+        self.text.put_bytes(bytes);
     }
 
     // The exit status is the first reply that is not 0.
