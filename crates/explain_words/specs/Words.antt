@@ -5,26 +5,23 @@
 -- about_number, part_number       the numbers of what a refusal is about, and of the parts of a page
 -- why_word y                     the word of a refusal
 -- layout_word a                  that of the answer to a layout record
--- block_word a                   that of the answer to one block: flips (0) or zeros (1) and t; of a ruined block 9, its number and t
+-- finding_word x                 that of what is found of one block: flips (0) or zeros (1) and t; of a ruined block 9, its number and t
+-- block_word a                   that of the answer to one block
 -- spot_word x                    that of a place: part in bits 8 to 15, block in bits 16 to 23, bit in bits 24 to 31, byte of the page in bits 32 to 47,
 --                               byte of metadata or data in bits 48 to 63
 -- place_word a                   that of the answer to a page position
 -- reply_in, about_in, found_in, limit_in           the numbers in the word of a refusal
 -- part_in, block_in, bit_in, byte_in, index_in      the numbers in the word of a place
-use Rattle.std.specs.Prelude.{cond, ℕ, ◌+◌, ◌*◌, ◌/◌, ◌%◌, ltb}
+use Rattle.std.specs.Prelude.{cond, ℕ, ◌+◌, ◌*◌, ◌/◌, ◌%◌, ltb, ⊤, Result, Ok, Err}
 use Rattle.replies.specs.Replies.{number}
 use Rattle.explain.specs.declared.About.{About}
 use Rattle.explain.specs.declared.About.TheVariants as about
 use Rattle.explain.specs.declared.Why.{Why}
-use Rattle.explain.specs.declared.LayoutAnswer.{LayoutAnswer}
-use Rattle.explain.specs.declared.LayoutAnswer.TheVariants as layout
 use Rattle.explain.specs.declared.Part.{Part}
 use Rattle.explain.specs.declared.Part.TheVariants as part
 use Rattle.explain.specs.declared.Place.{Place}
-use Rattle.explain.specs.declared.PlaceAnswer.{PlaceAnswer}
-use Rattle.explain.specs.declared.PlaceAnswer.TheVariants as place
-use Rattle.page_explain.specs.declared.BlockAnswer.{BlockAnswer}
-use Rattle.page_explain.specs.declared.BlockAnswer.TheVariants as block
+use Rattle.page_explain.specs.declared.BlockFinding.{BlockFinding}
+use Rattle.page_explain.specs.declared.BlockFinding.TheVariants as finding
 
 unfoldable pub shown_to : ℕ → ℕ → ℕ
 shown_to m n = cond (ltb n m) n m
@@ -53,24 +50,27 @@ part_number part.Mark = 5
 unfoldable pub why_word : Why → ℕ
 why_word y = explanation_word (number y.refusal) (about_number y.about) y.found y.limit
 
-unfoldable pub layout_word : LayoutAnswer → ℕ
-layout_word layout.Accepted = 0
-layout_word (layout.Refused y) = why_word y
+unfoldable pub layout_word : Result ⊤ Why → ℕ
+layout_word (Ok _) = 0
+layout_word (Err y) = why_word y
 
-unfoldable pub block_word : BlockAnswer → ℕ
-block_word (block.Flips n t) = explanation_word 0 0 n t
-block_word (block.Erased z t) = explanation_word 0 1 z t
-block_word (block.Ruined b t) = explanation_word 9 8 b t
-block_word (block.Refused y) = why_word y
+unfoldable pub finding_word : BlockFinding → ℕ
+finding_word (finding.Flips n t) = explanation_word 0 0 n t
+finding_word (finding.Erased z t) = explanation_word 0 1 z t
+finding_word (finding.Ruined b t) = explanation_word 9 8 b t
+
+unfoldable pub block_word : Result BlockFinding Why → ℕ
+block_word (Ok x) = finding_word x
+block_word (Err y) = why_word y
 
 unfoldable pub spot_word : Place → ℕ
 spot_word x =
     0x100 * part_number x.part + 0x10000 * shown_to 0xFF x.block + 0x1000000 * shown_to 0xFF x.bit
     + 0x100000000 * shown_to 0xFFFF x.byte + 0x1000000000000 * shown_to 0xFFFF x.index
 
-unfoldable pub place_word : PlaceAnswer → ℕ
-place_word (place.At x) = spot_word x
-place_word (place.Refused y) = why_word y
+unfoldable pub place_word : Result Place Why → ℕ
+place_word (Ok x) = spot_word x
+place_word (Err y) = why_word y
 
 unfoldable pub reply_in : ℕ → ℕ
 reply_in w = w % 0x100

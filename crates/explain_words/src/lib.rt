@@ -9,10 +9,10 @@
 #![tactic(auto)]
 
 ghost use Rattle.std.specs.Prelude.{◌≡◌, ◌≤◌};
-ghost use Rattle.explain_words.specs.Words.{shown_to, explanation_word, about_number, part_number, why_word, layout_word, block_word, spot_word, place_word};
+ghost use Rattle.explain_words.specs.Words.{shown_to, explanation_word, about_number, part_number, why_word, layout_word, finding_word, block_word, spot_word, place_word};
 
-use explain::{About, LayoutAnswer, Part, Place, PlaceAnswer, Why};
-use page_explain::BlockAnswer;
+use explain::{About, Part, Place, Why};
+use page_explain::BlockFinding;
 use replies::refusal_number;
 
 // A number where there is room for no larger one than `most`.
@@ -20,10 +20,7 @@ fn shown_to(most: u64, n: u64) -> u64
     ensures eq { result ≡ shown_to most n }
     ensures small { result ≤ most }
 {
-    if n < most {
-        return n;
-    }
-    most
+    n.min(most)
 }
 
 // Reply in bits 0 to 7, what it is about in bits 8 to 15, the first number in bits 16 to 39, the second in bits 40 to 63.
@@ -36,6 +33,7 @@ fn explanation_word(reply: u8, about: u8, found: u64, limit: u64) -> u64
 }
 
 // The number of what a refusal is about.
+// By hand: a number for each kind, which the C interface hands out in a word (rudderfig_explain_layout).
 fn about_number(about: About) -> u8
     ensures { result ≡ about_number about }
 {
@@ -53,6 +51,7 @@ fn about_number(about: About) -> u8
 }
 
 // The number of a part of a page.
+// By hand: a number for each kind, which the C interface hands out in a word (rudderfig_explain_bit).
 fn part_number(part: Part) -> u8
     ensures { result ≡ part_number part }
 {
@@ -77,24 +76,33 @@ fn why_word(why: Why) -> u64
 }
 
 // The word of the answer to a layout record: 0 where it is accepted.
-pub fn layout_word(answer: LayoutAnswer) -> u64
+pub fn layout_word(answer: Result<(), Why>) -> u64
     ensures { result ≡ layout_word answer }
 {
     match answer {
-        LayoutAnswer::Accepted => 0,
-        LayoutAnswer::Refused(why) => why_word(why),
+        Ok(()) => 0,
+        Err(why) => why_word(why),
     }
 }
 
-// The word of the answer to one block: its flips or its zeros, and t; of a ruined block reply 9, its number, and t.
-pub fn block_word(answer: BlockAnswer) -> u64
+// The word of what is found of one block: its flips or its zeros, and t; of a ruined block reply 9, its number, and t.
+fn finding_word(finding: BlockFinding) -> u64
+    ensures { result ≡ finding_word finding }
+{
+    match finding {
+        BlockFinding::Flips { count, level } => explanation_word(0, 0, count as u64, level as u64),
+        BlockFinding::Erased { zeros, level } => explanation_word(0, 1, zeros as u64, level as u64),
+        BlockFinding::Ruined { block, level } => explanation_word(9, 8, block as u64, level as u64),
+    }
+}
+
+// The word of the answer to one block.
+pub fn block_word(answer: Result<BlockFinding, Why>) -> u64
     ensures { result ≡ block_word answer }
 {
     match answer {
-        BlockAnswer::Flips { count, level } => explanation_word(0, 0, count as u64, level as u64),
-        BlockAnswer::Erased { zeros, level } => explanation_word(0, 1, zeros as u64, level as u64),
-        BlockAnswer::Ruined { block, level } => explanation_word(9, 8, block as u64, level as u64),
-        BlockAnswer::Refused(why) => why_word(why),
+        Ok(finding) => finding_word(finding),
+        Err(why) => why_word(why),
     }
 }
 
@@ -113,11 +121,11 @@ fn spot_word(place: Place) -> u64
 }
 
 // The word of the answer to a page position.
-pub fn place_word(answer: PlaceAnswer) -> u64
+pub fn place_word(answer: Result<Place, Why>) -> u64
     ensures { result ≡ place_word answer }
 {
     match answer {
-        PlaceAnswer::At(place) => spot_word(place),
-        PlaceAnswer::Refused(why) => why_word(why),
+        Ok(place) => spot_word(place),
+        Err(why) => why_word(why),
     }
 }

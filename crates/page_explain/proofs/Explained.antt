@@ -17,8 +17,8 @@ use borrow.Author.Tests.{le-leb, lt-leb, lt-ltb, le-ltb, eq-eqb, ne_eqb}
 use Rattle.layout_plan.specs.declared.Shape.{Shape}
 use Rattle.layout_plan.specs.declared.Plan.{Plan}
 use Rattle.layout.specs.declared.Refusal.{Refusal}
-use Rattle.layout.specs.declared.Acceptance.{Acceptance}
-use Rattle.layout.specs.declared.Acceptance.TheVariants as acceptance
+use Rattle.layout_plan.specs.declared.Layout.{Layout}
+use Rattle.std.specs.Prelude.{Result, Ok, Err}
 use Rattle.layout_plan.specs.Plan.{shape, bits, field, level, Valid}
 use Rattle.replies.specs.declared.Refusal.TheVariants as row
 use Rattle.code.specs.Word.{Word, zeros}
@@ -35,7 +35,7 @@ use Rattle.page_decide.proofs.Deciding.{clean-decided}
 use Rattle.explain.specs.declared.About.TheVariants as about
 use Rattle.explain.specs.declared.Why.{Why}
 use Rattle.explain.specs.Reasons.{why, why_of}
-use Rattle.page_explain.specs.declared.BlockAnswer.TheVariants as answer
+use Rattle.page_explain.specs.declared.BlockFinding.TheVariants as finding
 use Rattle.page_explain.specs.Explain.{differing, positions, flips, Explained, explained, listing, explain_by, explain_at, explain_asked, explain_in, explain_for}
 use Rattle.page_explain.proofs.Listing.{near-exponents, positions-length}
 
@@ -45,7 +45,7 @@ exponents-injective e = cc
 module _ (q : Plan) (page : List ℕ) (v : Valid q) (b : ℕ) (inside : b < q.blocks) (list : List ℕ) where
   module _ (ps : List ℕ) (located : LocatedAt q page b ps) where
     -- the flips, as locating lists them
-    pub explain-flips : explained (answer.Flips (length ps) (level q b)) (positions q b ps ++ drop (length ps) list) ≡ explain_at q page b list
+    pub explain-flips : explained (Ok (finding.Flips (length ps) (level q b))) (positions q b ps ++ drop (length ps) list) ≡ explain_at q page b list
     unfolding explain_at explain_by flips listing remainder_at
     explain-flips = go (nearest (field q b) (level q b) (block_word q page b))
       where
@@ -53,7 +53,7 @@ module _ (q : Plan) (page : List ℕ) (v : Valid q) (b : ℕ) (inside : b < q.bl
         w = block_word q page b
 
         go : (d : Dec ((c : Word) × Near (field q b) (level q b) w c))
-            → explained (answer.Flips (length ps) (level q b)) (positions q b ps ++ drop (length ps) list) ≡ explain_by q b list d (leb (zeros w) (level q b))
+            → explained (Ok (finding.Flips (length ps) (level q b))) (positions q b ps ++ drop (length ps) list) ≡ explain_by q b list d (leb (zeros w) (level q b))
         go (yes (c, near)) =
             let e : exponents ps ≡ exponents (listed (differing w c)) =
             sym located ∙ (rw (block_word-length q page b) at (near-exponents _ _ w c (block_word-fits q v page b inside) near)) in
@@ -73,11 +73,11 @@ module _ (q : Plan) (page : List ℕ) (v : Valid q) (b : ℕ) (inside : b < q.bl
         go (yes (c, near)) = absurd (none.none c near)
         go (no n) = h n
 
-    pub explain-erased : zeros (block_word q page b) ≤ level q b → explained (answer.Erased (zeros (block_word q page b)) (level q b)) list ≡ explain_at q page b list
+    pub explain-erased : zeros (block_word q page b) ≤ level q b → explained (Ok (finding.Erased (zeros (block_word q page b)) (level q b))) list ≡ explain_at q page b list
     unfolding explain_at explain_by
     explain-erased few = rw (le-leb (zeros (block_word q page b)) (level q b) few) (nowhere-explained true (λ n. refl))
 
-    pub explain-ruined : level q b < zeros (block_word q page b) → explained (answer.Ruined b (level q b)) list ≡ explain_at q page b list
+    pub explain-ruined : level q b < zeros (block_word q page b) → explained (Ok (finding.Ruined b (level q b))) list ≡ explain_at q page b list
     unfolding explain_at explain_by
     explain-ruined many = rw (lt-leb (zeros (block_word q page b)) (level q b) many) (nowhere-explained false (λ n. refl))
 
@@ -85,20 +85,20 @@ module _ (q : Plan) (page : List ℕ) (v : Valid q) (b : ℕ) (inside : b < q.bl
   module _ {s : Shape} (es : s ≡ shape q b) where
     module _ {ps : List ℕ} {n : ℕ} (d : DecidedAt q page b ps n) where
       pub decided-flips : n < 128 → {l : List ℕ} → l ≡ positions q b ps ++ drop n list
-          → explained (answer.Flips n s.level) l ≡ explain_at q page b list
+          → explained (Ok (finding.Flips n s.level)) l ≡ explain_at q page b list
       decided-flips low e = rw (es, e, ← d.flips low) (explain-flips ps (d.repaired low))
 
-      pub decided-erased : 128 ≤ n → ¬ (n ≡ 255) → explained (answer.Erased (n - 128) s.level) list ≡ explain_at q page b list
+      pub decided-erased : 128 ≤ n → ¬ (n ≡ 255) → explained (Ok (finding.Erased (n - 128) s.level)) list ≡ explain_at q page b list
       unfolding erased_count
       decided-erased low other =
           let g = count_zeros _ _ (bits q b) _ _ n (v.strong b inside) (d.erased low (omega (arith, d.small, other))) low in
           let z : n - 128 ≡ zeros (block_word q page b) = omega (arith, g.count) in
           rw (es, z) (explain-erased g.none g.few)
 
-      pub decided-ruined : n ≡ 255 → explained (answer.Ruined b s.level) list ≡ explain_at q page b list
+      pub decided-ruined : n ≡ 255 → explained (Ok (finding.Ruined b s.level)) list ≡ explain_at q page b list
       decided-ruined e = let h = d.ruined (omega arith) in rw es (explain-ruined h.none h.many)
 
-    pub clean-explained : remainder_at q page b ≡ 0 → explained (answer.Flips 0 s.level) list ≡ explain_at q page b list
+    pub clean-explained : remainder_at q page b ≡ 0 → explained (Ok (finding.Flips 0 s.level)) list ≡ explain_at q page b list
     unfolding positions
     clean-explained e = decided-flips (clean-decided q page v b inside e) (omega arith) refl
 
@@ -106,7 +106,7 @@ module _ (q : Plan) (page : List ℕ) (v : Valid q) (b : ℕ) (inside : b < q.bl
 module _ (q : Plan) (page : List ℕ) (b : ℕ) (list : List ℕ) where
   module _ {s : Shape} (es : s ≡ shape q b) where
     pub list-short : length list < s.level
-        → explained (answer.Refused (why row.BufferLength about.List (length list) s.level)) list ≡ explain_asked q page b list
+        → explained (Err (why row.BufferLength about.List (length list) s.level)) list ≡ explain_asked q page b list
     unfolding explain_asked
     list-short l = let k : length list < level q b = rw es at l in rw (es, lt-leb (level q b) (length list) k)
 
@@ -115,12 +115,12 @@ module _ (q : Plan) (page : List ℕ) (b : ℕ) (list : List ℕ) where
     list-long l h = let k : level q b ≤ length list = rw es at l in rw (le-leb (level q b) (length list) k) h
 
   -- the length of the page, and the block number
-  pub page-unequal : ¬ (length page ≡ q.size) → explained (answer.Refused (why row.PageLength about.Lent (length page) q.size)) list ≡ explain_in q page b list
+  pub page-unequal : ¬ (length page ≡ q.size) → explained (Err (why row.PageLength about.Lent (length page) q.size)) list ≡ explain_in q page b list
   unfolding explain_in
   page-unequal h = rw (ne_eqb (length page) q.size h)
 
   module _ (size : length page ≡ q.size) where
-    pub block-outside : q.blocks ≤ b → explained (answer.Refused (why row.OutOfRange about.Block b q.blocks)) list ≡ explain_in q page b list
+    pub block-outside : q.blocks ≤ b → explained (Err (why row.OutOfRange about.Block b q.blocks)) list ≡ explain_in q page b list
     unfolding explain_in
     block-outside l = rw (eq-eqb (length page) q.size size, le-ltb b q.blocks l)
 
@@ -129,7 +129,7 @@ module _ (q : Plan) (page : List ℕ) (b : ℕ) (list : List ℕ) where
     block_within l h = rw (eq-eqb (length page) q.size size, lt-ltb b q.blocks l) h
 
 -- the record is refused
-pub layout-refused : (e n : ℕ) (page : List ℕ) (b : ℕ) (list : List ℕ) {a : Acceptance} {x : Refusal} {y : Why} → y ≡ why_of e n x → a ≡ acceptance.Refused x
-    → explained (answer.Refused y) list ≡ explain_for e n a page b list
+pub layout-refused : (e n : ℕ) (page : List ℕ) (b : ℕ) (list : List ℕ) {a : Result Layout Refusal} {x : Refusal} {y : Why} → y ≡ why_of e n x → a ≡ Err x
+    → explained (Err y) list ≡ explain_for e n a page b list
 unfolding explain_for
 layout-refused e n page b list h k = rw (h, k)

@@ -7,14 +7,14 @@ use mathlib.Core.Path.{◌≡◌, ◌∙◌}
 use Prim.Native.Nat.{ℕ, ◌+◌, ◌-◌, ◌*◌, ◌<◌}
 use Rattle.mark.specs.Mark.{place}
 use Rattle.layout_plan.specs.declared.Plan.{Plan}
-use Rattle.layout.specs.declared.PositionAnswer.TheVariants as position
+use Rattle.std.specs.Prelude.{Ok}
 use Rattle.layout_plan.specs.Plan.{start, covered, Valid}
 use Rattle.layout.specs.Bits.{position_at, position_in}
 use Rattle.page_bits.proofs.Inverse.{Belongs, position_in_lem, position-belongs, belongs-page}
 use Rattle.page_explain.specs.Explain.{position_of}
 
 module _ (q : Plan) (b e : ℕ) (inside : b < q.blocks) (low : e < covered q b) where
-  position-is : position_in q b e ≡ position.Position (position_of q b e)
+  position-is : position_in q b e ≡ Ok (position_of q b e)
   unfolding position_of
   position-is = position_in_lem q b e inside low
 

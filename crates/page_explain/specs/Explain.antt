@@ -13,14 +13,14 @@
 -- explain_at q page b list       block b of a page of the right length
 -- explain_asked, explain_in, explain_for    the same with the replies 6, then 5 and 7, and then those of the layout before it
 -- explain_of words page b list   the call
-use Rattle.std.specs.Prelude.{Bool, true, false, cond, List, [], ◌∷◌, ◌++◌, ℕ, length, drop, eqb, ltb, leb}
+use Rattle.std.specs.Prelude.{Bool, true, false, cond, List, [], ◌∷◌, ◌++◌, ℕ, length, drop, eqb, ltb, leb, Result, Ok, Err}
 use Rattle.algebra.specs.Word.{differ}
 use Rattle.field.specs.declared.Field.{Field}
 use Rattle.mark.specs.Mark.{place}
 use Rattle.replies.specs.declared.Refusal.TheVariants as row
 use Rattle.layout_plan.specs.declared.Plan.{Plan}
-use Rattle.layout.specs.declared.Acceptance.{Acceptance}
-use Rattle.layout.specs.declared.Acceptance.TheVariants as acceptance
+use Rattle.layout_plan.specs.declared.Layout.{Layout}
+use Rattle.layout.specs.declared.Refusal.{Refusal}
 use Rattle.layout_plan.specs.Plan.{plan_of, field, level}
 use Rattle.layout_plan.specs.Record.{Words}
 use Rattle.layout.specs.Acceptance as layout
@@ -32,8 +32,9 @@ use Rattle.code.specs.Locations.{listed}
 use Rattle.page_theory.specs.Page.{block_word}
 use Rattle.explain.specs.declared.About.TheVariants as about
 use Rattle.explain.specs.Reasons.{why, why_of}
-use Rattle.page_explain.specs.declared.BlockAnswer.{BlockAnswer}
-use Rattle.page_explain.specs.declared.BlockAnswer.TheVariants as answer
+use Rattle.explain.specs.declared.Why.{Why}
+use Rattle.page_explain.specs.declared.BlockFinding.{BlockFinding}
+use Rattle.page_explain.specs.declared.BlockFinding.TheVariants as finding
 
 unfoldable pub differing : Word → Word → Word
 differing [] w = []
@@ -51,10 +52,10 @@ unfoldable pub flips : Plan → ℕ → Word → Word → List ℕ
 flips q b w c = positions q b (listed (differing w c))
 
 pub record Explained : Type 0 where
-  pub answer : BlockAnswer
+  pub answer : Result BlockFinding Why
   pub list : List ℕ
 
-abbrev pub explained : BlockAnswer → List ℕ → Explained
+abbrev pub explained : Result BlockFinding Why → List ℕ → Explained
 explained a l = record { answer = a; list = l }
 
 unfoldable pub listing : List ℕ → List ℕ → List ℕ
@@ -62,9 +63,9 @@ listing ps list = ps ++ drop (length ps) list
 
 -- Decoded first, as in judging: only a block with no codeword within t flips can be erased (document 02, E1).
 unfoldable pub explain_by : Plan → ℕ → List ℕ → {f : Field} {t : ℕ} {w : Word} → Dec ((c : Word) × Near f t w c) → Bool → Explained
-explain_by q b list {f} {t} {w} (yes (c, near)) few = explained (answer.Flips (length (flips q b w c)) t) (listing (flips q b w c) list)
-explain_by q b list {f} {t} {w} (no none) true = explained (answer.Erased (zeros w) t) list
-explain_by q b list {f} {t} {w} (no none) false = explained (answer.Ruined b t) list
+explain_by q b list {f} {t} {w} (yes (c, near)) few = explained (Ok (finding.Flips (length (flips q b w c)) t)) (listing (flips q b w c) list)
+explain_by q b list {f} {t} {w} (no none) true = explained (Ok (finding.Erased (zeros w) t)) list
+explain_by q b list {f} {t} {w} (no none) false = explained (Ok (finding.Ruined b t)) list
 
 unfoldable pub explain_at : Plan → List ℕ → ℕ → List ℕ → Explained
 explain_at q page b list =
@@ -75,7 +76,7 @@ unfoldable pub explain_asked : Plan → List ℕ → ℕ → List ℕ → Explai
 explain_asked q page b list =
     cond (leb (level q b) (length list))
     (explain_at q page b list)
-    (explained (answer.Refused (why row.BufferLength about.List (length list) (level q b))) list)
+    (explained (Err (why row.BufferLength about.List (length list) (level q b))) list)
 
 -- 5: a page of another length than PAGE_SIZE. 7: a block number outside its range, which has no t to ask a list for.
 unfoldable pub explain_in : Plan → List ℕ → ℕ → List ℕ → Explained
@@ -83,12 +84,12 @@ explain_in q page b list =
     cond (eqb (length page) q.size)
     (cond (ltb b q.blocks)
     (explain_asked q page b list)
-    (explained (answer.Refused (why row.OutOfRange about.Block b q.blocks)) list))
-    (explained (answer.Refused (why row.PageLength about.Lent (length page) q.size)) list)
+    (explained (Err (why row.OutOfRange about.Block b q.blocks)) list))
+    (explained (Err (why row.PageLength about.Lent (length page) q.size)) list)
 
-unfoldable pub explain_for : ℕ → ℕ → Acceptance → List ℕ → ℕ → List ℕ → Explained
-explain_for e n (acceptance.Accepted l) page b list = explain_in (plan_of l) page b list
-explain_for e n (acceptance.Refused r) page b list = explained (answer.Refused (why_of e n r)) list
+unfoldable pub explain_for : ℕ → ℕ → Result Layout Refusal → List ℕ → ℕ → List ℕ → Explained
+explain_for e n (Ok l) page b list = explain_in (plan_of l) page b list
+explain_for e n (Err r) page b list = explained (Err (why_of e n r)) list
 
 -- Beside a refusal, an erased block and a ruined one the list stays as lent.
 unfoldable pub explain_of : Words → List ℕ → ℕ → List ℕ → Explained

@@ -28,9 +28,7 @@ pub fn list_flips(plan: Plan, block: u16, found: Found, n: usize, list: &mut [u3
     ensures { list.new ≡ positions plan block (take n found.exponents) ++ drop n list.old }
 {
     let exponents = found.exponents;
-    let mut i = 0;
-    while i < n {
+    for i in 0..n {
         list[i] = flip_position(plan, block, exponents[i]);
-        i += 1;
     }
 }

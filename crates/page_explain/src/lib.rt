@@ -13,15 +13,13 @@
 mod flips;
 mod steps;
 
-use explain::Why;
 pub use steps::explain_block;
 
-// The answer to one block: how many of its covered bits are flipped, and t; the zeros of an erased block, and t; the number of a ruined block,
-// and t; or why there is no answer.
+// What is found of one block: how many of its covered bits are flipped, and t; the zeros of an erased block, and t; or the number of a ruined
+// block, and t.
 #[derive(Drop)]
-pub enum BlockAnswer {
+pub enum BlockFinding {
     Flips { count: u8, level: u16 },
     Erased { zeros: u8, level: u16 },
     Ruined { block: u16, level: u16 },
-    Refused(Why),
 }

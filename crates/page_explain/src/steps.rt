@@ -1,5 +1,5 @@
 // The steps of the call `explain_block`: the lengths and the block number, the remainder, the decided block, the list.
-ghost use Rattle.std.specs.Prelude.{◌≡◌, true, false, ◌≤◌, ◌<◌, length};
+ghost use Rattle.std.specs.Prelude.{◌≡◌, true, false, ◌≤◌, ◌<◌, length, Ok};
 ghost use Rattle.layout_plan.specs.Plan.{level};
 ghost use Rattle.layout_plan.specs.Record.{words_of};
 ghost use Rattle.page_plan.specs.Plans.{Planned, Ready};
@@ -7,10 +7,10 @@ ghost use Rattle.page_decide.specs.Scanning.{Left};
 ghost use Rattle.page_decide.specs.Deciding.{BlockDecided};
 ghost use Rattle.page_explain.specs.Explain.{explained, explain_at, explain_asked, explain_in, explain_of};
 
-use crate::BlockAnswer;
+use crate::BlockFinding;
 use crate::flips::list_flips;
 use explain::{About, Why, why_refused};
-use layout::{Acceptance, check_layout};
+use layout::check_layout;
 use layout_plan::{Plan, block_shape, plan_of};
 use page_decide::decide::decide_alone;
 use page_decide::{Decided, Scan};
@@ -39,38 +39,38 @@ fn explain_decided(
     block: u16,
     decided: Decided,
     list: &mut [u32],
-) -> BlockAnswer
+) -> BlockFinding
     requires ready { (Ready plan page.now) × (block < plan.blocks) × (BlockDecided plan page.now block decided) }
     requires block_in_bounds { level plan block ≤ length list.old }
-    ensures { explained result list.new ≡ explain_at plan page.now block list.old }
+    ensures { explained (Ok result) list.new ≡ explain_at plan page.now block list.old }
 {
     let shape = block_shape(plan, block);
     let t = shape.level;
     let count = decided.count;
     let found = decided.found;
     if is_ruined(count) {
-        return BlockAnswer::Ruined {
+        return BlockFinding::Ruined {
             block: block,
             level: t,
         };
     }
     if 128 <= count {
-        return BlockAnswer::Erased {
+        return BlockFinding::Erased {
             zeros: count - 128,
             level: t,
         };
     }
     list_flips(plan, block, found, wide(count), list);
-    BlockAnswer::Flips {
+    BlockFinding::Flips {
         count: count,
         level: t,
     }
 }
 
 // Explains a damaged block.
-fn explain_damaged(plan: Plan, page: &[u8], scan: Scan, list: &mut [u32]) -> BlockAnswer
+fn explain_damaged(plan: Plan, page: &[u8], scan: Scan, list: &mut [u32]) -> BlockFinding
     requires { (Ready plan page.now) × (Left plan page.now scan) × (level plan scan.block ≤ length list.old) }
-    ensures { explained result list.new ≡ explain_at plan page.now scan.block list.old }
+    ensures { explained (Ok result) list.new ≡ explain_at plan page.now scan.block list.old }
 {
     let block = scan.block;
     let decided = decide_alone(plan, page, scan);
@@ -78,15 +78,15 @@ fn explain_damaged(plan: Plan, page: &[u8], scan: Scan, list: &mut [u32]) -> Blo
 }
 
 // Explains a block of a page of the right length, with a list of enough places.
-fn explain_lent(plan: Plan, page: &[u8], block: u16, list: &mut [u32]) -> BlockAnswer
+fn explain_lent(plan: Plan, page: &[u8], block: u16, list: &mut [u32]) -> BlockFinding
     requires { (Ready plan page.now) × (block < plan.blocks) × (level plan block ≤ length list.old) }
-    ensures { explained result list.new ≡ explain_at plan page.now block list.old }
+    ensures { explained (Ok result) list.new ≡ explain_at plan page.now block list.old }
 {
     let remainder = own_remainder(plan, page, block);
     let clean = is_zero(remainder);
     if clean {
         let shape = block_shape(plan, block);
-        return BlockAnswer::Flips {
+        return BlockFinding::Flips {
             count: 0,
             level: shape.level,
         };
@@ -101,7 +101,7 @@ fn explain_lent(plan: Plan, page: &[u8], block: u16, list: &mut [u32]) -> BlockA
 }
 
 // Explains a block of a page of the right length. 6: a list with fewer than t places.
-fn explain_asked(plan: Plan, page: &[u8], block: u16, list: &mut [u32]) -> BlockAnswer
+fn explain_asked(plan: Plan, page: &[u8], block: u16, list: &mut [u32]) -> Result<BlockFinding, Why>
     requires { (Ready plan page.now) × (block < plan.blocks) }
     ensures { explained result list.new ≡ explain_asked plan page.now block list.old }
 {
@@ -109,25 +109,25 @@ fn explain_asked(plan: Plan, page: &[u8], block: u16, list: &mut [u32]) -> Block
     let t = shape.level as usize;
     let places = list.len();
     if places < t {
-        return BlockAnswer::Refused(Why {
+        return Err(Why {
             refusal: Refusal::BufferLength,
             about: About::List,
             found: places as u64,
             limit: t as u64,
         });
     }
-    explain_lent(plan, page, block, list)
+    Ok(explain_lent(plan, page, block, list))
 }
 
 // Explains a block under the plan of an accepted layout. 5: a page of another length. 7: a block that the page does not have.
-fn explain_in(plan: Plan, page: &[u8], block: u64, list: &mut [u32]) -> BlockAnswer
+fn explain_in(plan: Plan, page: &[u8], block: u64, list: &mut [u32]) -> Result<BlockFinding, Why>
     requires { Planned plan }
     ensures { explained result list.new ≡ explain_in plan page.now block list.old }
 {
     let size = plan.size as usize;
     let lent = page.len();
     if lent != size {
-        return BlockAnswer::Refused(Why {
+        return Err(Why {
             refusal: Refusal::PageLength,
             about: About::Lent,
             found: lent as u64,
@@ -136,7 +136,7 @@ fn explain_in(plan: Plan, page: &[u8], block: u64, list: &mut [u32]) -> BlockAns
     }
     let blocks = plan.blocks as u64;
     if blocks <= block {
-        return BlockAnswer::Refused(Why {
+        return Err(Why {
             refusal: Refusal::OutOfRange,
             about: About::Block,
             found: block,
@@ -154,14 +154,12 @@ pub fn explain_block(
     page: &[u8],
     block: u64,
     list: &mut [u32],
-) -> BlockAnswer
+) -> Result<BlockFinding, Why>
     ensures { explained result list.new
         ≡ explain_of (words_of edition words.now) page.now block list.old }
 {
     match check_layout(edition, words) {
-        Acceptance::Accepted(layout) => explain_in(plan_of(layout), page, block, list),
-        Acceptance::Refused(refusal) => {
-            BlockAnswer::Refused(why_refused(edition, words.len(), refusal))
-        }
+        Ok(layout) => explain_in(plan_of(layout), page, block, list),
+        Err(refusal) => Err(why_refused(edition, words.len(), refusal)),
     }
 }

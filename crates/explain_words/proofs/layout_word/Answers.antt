@@ -2,10 +2,10 @@ use mathlib.Core.Path.{sym, ap, ◌∙◌}
 use Rattle.explain_words.specs.Words.{layout_word}
 use Rattle.explain_words.proofs.layout_word.Goals as goal
 
-pub returns-in-Accepted : goal.returns-in-Accepted
+pub returns-in-Ok : goal.returns-in-Ok
 unfolding layout_word
-returns-in-Accepted c = sym (ap layout_word c.in-Accepted.is)
+returns-in-Ok c = sym (ap layout_word c.in-Ok.is)
 
-pub returns-in-Refused : goal.returns-in-Refused
+pub returns-in-Err : goal.returns-in-Err
 unfolding layout_word
-returns-in-Refused c = c.why_word.ensures ∙ sym (ap layout_word c.in-Refused.is)
+returns-in-Err c = c.why_word.ensures ∙ sym (ap layout_word c.in-Err.is)

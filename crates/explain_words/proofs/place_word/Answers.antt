@@ -2,10 +2,10 @@ use mathlib.Core.Path.{sym, ap, ◌∙◌}
 use Rattle.explain_words.specs.Words.{place_word}
 use Rattle.explain_words.proofs.place_word.Goals as goal
 
-pub returns-in-At : goal.returns-in-At
+pub returns-in-Ok : goal.returns-in-Ok
 unfolding place_word
-returns-in-At c = c.spot_word.ensures ∙ sym (ap place_word c.in-At.is)
+returns-in-Ok c = c.spot_word.ensures ∙ sym (ap place_word c.in-Ok.is)
 
-pub returns-in-Refused : goal.returns-in-Refused
+pub returns-in-Err : goal.returns-in-Err
 unfolding place_word
-returns-in-Refused c = c.why_word.ensures ∙ sym (ap place_word c.in-Refused.is)
+returns-in-Err c = c.why_word.ensures ∙ sym (ap place_word c.in-Err.is)

@@ -6,7 +6,4 @@ use Rattle.page_explain.specs.Explain.{positions}
 use Rattle.page_explain.proofs.flips.list_flips.Given as goal
 
 abbrev pub invariant-loop-i : goal.invariant-loop-i
-invariant-loop-i l = (l.i ≤ l.n) × (length l.list ≡ length l.initial.list) × (l.list ≡ positions l.plan l.block (take l.i l.exponents) ++ drop l.i l.initial.list)
-
-abbrev pub decreases-loop-i : goal.decreases-loop-i
-decreases-loop-i l = l.n - l.i
+invariant-loop-i l = (length l.list ≡ length l.initial.list) × (l.list ≡ positions l.plan l.block (take l.i l.exponents) ++ drop l.i l.initial.list)
