@@ -18,8 +18,8 @@ use Rattle.replies.specs.declared.Refusal.{Refusal}
 use Rattle.replies.specs.Replies.{number}
 use Rattle.layout_plan.specs.declared.Plan.{Plan}
 use Rattle.layout.specs.declared.Refusal as kinds
-use Rattle.layout.specs.declared.Acceptance.{Acceptance}
-use Rattle.layout.specs.declared.Acceptance.TheVariants.{Accepted, Refused}
+use Rattle.layout_plan.specs.declared.Layout.{Layout}
+use Rattle.std.specs.Prelude.{Option, None, Result, Ok, Err}
 use Rattle.layout_plan.specs.Record.{Words}
 use Rattle.layout_plan.specs.Plan.{plan_of}
 use Rattle.layout.specs.Acceptance.{acceptance, refusal_of, refusal_reply}
@@ -27,8 +27,6 @@ use Rattle.page_theory.specs.Reading.{Reading, done, refused, reading, counts}
 use Rattle.page_theory.specs.Calls.{Looked, look_by, look_in, look_for, look_of}
 use Rattle.page_theory.proofs.Calls.{look-right}
 use Rattle.page_plan.proofs.Asking.{number-some}
-use Rattle.differences.specs.declared.Difference.{Difference}
-use Rattle.differences.specs.declared.Difference.TheVariants.{Alike}
 use Rattle.differences.specs.Differences.{next}
 use Rattle.compare.specs.Calls.{pages_reply, counts_reply, compared, compare_lent, compare_in, compare_for, found, difference_in, difference_for}
 use Rattle.compare.specs.Steps.{Under}
@@ -87,24 +85,24 @@ module _ (q : Plan) (first second lent other : List ℕ) where
   counts-done e f g = rw (e, f, g)
 
 module _ (first second lent other : List ℕ) where
-  pub compare-layout : {a : Acceptance} {x : kinds.Refusal} {y : Refusal} → y ≡ refusal_of x → a ≡ Refused x
+  pub compare-layout : {a : Result Layout kinds.Refusal} {x : kinds.Refusal} {y : Refusal} → y ≡ refusal_of x → a ≡ Err x
       → compared (number y) lent other ≡ compare_for a first second lent other
   unfolding compare_for refusal_reply
   compare-layout e f = rw (e, f)
 
 module _ (q : Plan) (first second : List ℕ) (p : ℕ) where
   pub difference-refused : (r : Refusal) → number r ≡ pages_reply q (length first) (length second)
-      → found (number r) Alike ≡ difference_in q first second p
+      → found (number r) None ≡ difference_in q first second p
   unfolding difference_in
   difference-refused r e = rw (← e, ne_eqb (number r) 0 (number-some r))
 
-  pub difference-done : pages_reply q (length first) (length second) ≡ 0 → {d : Difference} → d ≡ next q.mark q.size first second p
+  pub difference-done : pages_reply q (length first) (length second) ≡ 0 → {d : Option ℕ} → d ≡ next q.mark q.size first second p
       → found 0 d ≡ difference_in q first second p
   unfolding difference_in
   difference-done e f = rw (e, f)
 
 module _ (first second : List ℕ) (p : ℕ) where
-  pub difference-layout : {a : Acceptance} {x : kinds.Refusal} {y : Refusal} → y ≡ refusal_of x → a ≡ Refused x
-      → found (number y) Alike ≡ difference_for a first second p
+  pub difference-layout : {a : Result Layout kinds.Refusal} {x : kinds.Refusal} {y : Refusal} → y ≡ refusal_of x → a ≡ Err x
+      → found (number y) None ≡ difference_for a first second p
   unfolding difference_for refusal_reply
   difference-layout e f = rw (e, f)

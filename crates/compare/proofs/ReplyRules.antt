@@ -21,15 +21,14 @@ use Rattle.layout.specs.declared.Rule.{Rule}
 use Rattle.layout.specs.declared.Rule.TheVariants as rule
 use Rattle.layout.specs.declared.Refusal.{Refusal}
 use Rattle.layout.specs.declared.Refusal.TheVariants as refusal
-use Rattle.layout.specs.declared.Acceptance.{Acceptance}
-use Rattle.layout.specs.declared.Acceptance.TheVariants.{Accepted, Refused}
+use Rattle.layout_plan.specs.declared.Layout.{Layout}
+use Rattle.std.specs.Prelude.{None, Result, Ok, Err}
 use Rattle.layout_plan.specs.Record.{Words}
 use Rattle.layout_plan.specs.Plan.{plan_of}
 use Rattle.layout.specs.Acceptance.{acceptance, rule_refusal, refusal_of, refusal_reply}
 use Rattle.layout_replies.specs.ReplyRules.{Ruled, accepts, refuses, field_rules, layout_rules}
 use Rattle.layout_replies.proofs.ReplyRules.{words-ruled, accepted-follows, refused-follows}
 use Rattle.page_theory.specs.Reading.{counts}
-use Rattle.differences.specs.declared.Difference.TheVariants.{Alike}
 use Rattle.differences.specs.Differences.{next}
 use Rattle.compare.specs.Calls as call
 use Rattle.compare.specs.Calls.{pages_reply, counts_reply, Compared, compared, compare_lent, compare_for, compare_of, Found, found, difference_for, difference_of}
@@ -92,7 +91,7 @@ module _ (first second lent other : List ℕ) where
       go true false c x y e = absurd (omega arith)
       go false b c x y e = absurd (omega arith)
 
-  compare-for : {before : List replies.Rule} {q : Plan} {a : Acceptance} → Ruled before q a
+  compare-for : {before : List replies.Rule} {q : Plan} {a : Result Layout Refusal} → Ruled before q a
       → Follows (before ++ rules.compare_in q first second lent other) (compare_for a first second lent other).reply 0
   unfolding compare_for
   compare-for (accepts l none) = accepted-follows none (compare-in (plan_of l))
@@ -114,15 +113,15 @@ module _ (first second lent other : List ℕ) where
     unfolding compare_of compare_for
     compare-other = go (acceptance rec)
       where
-        go : (a : Acceptance) → (compare_for a first second lent other).reply ≡ 9 → ⊥
-        go (Accepted l) e = in-other (plan_of l) e
-        go (Refused r) e = layout-other r e
+        go : (a : Result Layout Refusal) → (compare_for a first second lent other).reply ≡ 9 → ⊥
+        go (Ok l) e = in-other (plan_of l) e
+        go (Err r) e = layout-other r e
 
 module _ (first second : List ℕ) (p : ℕ) where
   -- how the call ends by what is right: both pages, PAGE_SIZE
   abbrev answers : Plan → (a b c : Bool) → Found
   answers q a b c =
-      cond (eqb (cond a (cond b (cond c 0 6) 5) 5) 0) (found 0 (next q.mark q.size first second p)) (found (cond a (cond b (cond c 0 6) 5) 5) Alike)
+      cond (eqb (cond a (cond b (cond c 0 6) 5) 5) 0) (found 0 (next q.mark q.size first second p)) (found (cond a (cond b (cond c 0 6) 5) 5) None)
 
   difference-in : (q : Plan) → Follows (rules.difference_in q first second) (call.difference_in q first second p).reply 0
   unfolding rules.difference_in too_large call.difference_in pages_reply unequal reply reply_block verdict verdict_number verdict_block number block
@@ -146,7 +145,7 @@ module _ (first second : List ℕ) (p : ℕ) where
       go true false c e = absurd (omega arith)
       go false b c e = absurd (omega arith)
 
-  difference-for : {before : List replies.Rule} {q : Plan} {a : Acceptance} → Ruled before q a
+  difference-for : {before : List replies.Rule} {q : Plan} {a : Result Layout Refusal} → Ruled before q a
       → Follows (before ++ rules.difference_in q first second) (difference_for a first second p).reply 0
   unfolding difference_for
   difference-for (accepts l none) = accepted-follows none (difference-in (plan_of l))
@@ -168,6 +167,6 @@ module _ (first second : List ℕ) (p : ℕ) where
     unfolding difference_of difference_for
     difference-other = go (acceptance rec)
       where
-        go : (a : Acceptance) → (difference_for a first second p).reply ≡ 9 → ⊥
-        go (Accepted l) e = found-other (plan_of l) e
-        go (Refused r) e = layout-other r e
+        go : (a : Result Layout Refusal) → (difference_for a first second p).reply ≡ 9 → ⊥
+        go (Ok l) e = found-other (plan_of l) e
+        go (Err r) e = layout-other r e

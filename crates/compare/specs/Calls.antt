@@ -7,26 +7,20 @@
 -- Compared, compared             what a comparison ends with: the reply, and what the lent counts hold
 -- compare_lent, compare_in, compare_for, compare_of     the comparison, with pages of right lengths, under a plan, with the answer to a record, with
 --                                the record itself and the edition beside it
--- compare_number r                the reply of an answer
 -- Found, found                   the reply to a position, and the next one; beside a refusal there is none
 -- difference_in, difference_for, difference_of         the next position, under a plan, with the answer to a record, with the record
 -- found_by r                      reply and position of an answer
-use Rattle.std.specs.Prelude.{cond, List, ℕ, length, eqb, leb}
+use Rattle.std.specs.Prelude.{cond, List, ℕ, length, eqb, leb, Option, None, Result, Ok, Err}
+use Rattle.replies.specs.declared.Refusal.{Refusal}
 use Rattle.replies.specs.Replies.{number, unless}
 use Rattle.layout_plan.specs.Record.{Words}
 use Rattle.layout_plan.specs.declared.Plan.{Plan}
-use Rattle.layout.specs.declared.Acceptance.{Acceptance}
-use Rattle.layout.specs.declared.Acceptance.TheVariants as acceptance
+use Rattle.layout_plan.specs.declared.Layout.{Layout}
+use Rattle.layout.specs.declared.Refusal as kinds
 use Rattle.layout_plan.specs.Plan.{plan_of}
 use Rattle.layout.specs.Acceptance.{acceptance, refusal_reply}
 use Rattle.page_theory.specs.Reading.{counts}
-use Rattle.differences.specs.declared.Difference.{Difference}
-use Rattle.differences.specs.declared.Difference.TheVariants as difference
-use Rattle.differences.specs.Differences.{next}
-use Rattle.compare.specs.declared.CompareAnswer.{CompareAnswer}
-use Rattle.compare.specs.declared.CompareAnswer.TheVariants as compare
-use Rattle.compare.specs.declared.DifferenceAnswer.{DifferenceAnswer}
-use Rattle.compare.specs.declared.DifferenceAnswer.TheVariants as answer
+use Rattle.differences.specs.Option ℕs.{next}
 
 -- Pages of up to 16,384 bytes.
 unfoldable pub pages_reply : Plan → ℕ → ℕ → ℕ
@@ -63,38 +57,33 @@ compare_in q first second lent other =
     (compare_lent q first second lent other)
     (compared (pages_reply q (length first) (length second)) lent other)
 
-unfoldable pub compare_for : Acceptance → List ℕ → List ℕ → List ℕ → List ℕ → Compared
-compare_for (acceptance.Accepted l) first second lent other = compare_in (plan_of l) first second lent other
-compare_for (acceptance.Refused r) first second lent other = compared (refusal_reply r) lent other
+unfoldable pub compare_for : Result Layout kinds.Refusal → List ℕ → List ℕ → List ℕ → List ℕ → Compared
+compare_for (Ok l) first second lent other = compare_in (plan_of l) first second lent other
+compare_for (Err r) first second lent other = compared (refusal_reply r) lent other
 
 unfoldable pub compare_of : Words → List ℕ → List ℕ → List ℕ → List ℕ → Compared
 compare_of rec first second lent other = compare_for (acceptance rec) first second lent other
 
-unfoldable pub compare_number : CompareAnswer → ℕ
-compare_number compare.Done = 0
-compare_number (compare.Refused r) = number r
-
 pub record Found : Type 0 where
   pub reply : ℕ
-  pub next : Difference
+  pub next : Option ℕ
 
-abbrev pub found : ℕ → Difference → Found
+abbrev pub found : ℕ → Option ℕ → Found
 found reply d = record { reply = reply; next = d }
 
 unfoldable pub difference_in : Plan → List ℕ → List ℕ → ℕ → Found
 difference_in q first second p =
     cond (eqb (pages_reply q (length first) (length second)) 0)
     (found 0 (next q.mark q.size first second p))
-    (found (pages_reply q (length first) (length second)) difference.Alike)
+    (found (pages_reply q (length first) (length second)) None)
 
-unfoldable pub difference_for : Acceptance → List ℕ → List ℕ → ℕ → Found
-difference_for (acceptance.Accepted l) first second p = difference_in (plan_of l) first second p
-difference_for (acceptance.Refused r) first second p = found (refusal_reply r) difference.Alike
+unfoldable pub difference_for : Result Layout kinds.Refusal → List ℕ → List ℕ → ℕ → Found
+difference_for (Ok l) first second p = difference_in (plan_of l) first second p
+difference_for (Err r) first second p = found (refusal_reply r) None
 
 unfoldable pub difference_of : Words → List ℕ → List ℕ → ℕ → Found
 difference_of rec first second p = difference_for (acceptance rec) first second p
 
-unfoldable pub found_by : DifferenceAnswer → Found
-found_by (answer.At p) = found 0 (difference.At p)
-found_by answer.Alike = found 0 difference.Alike
-found_by (answer.Refused r) = found (number r) difference.Alike
+unfoldable pub found_by : Result (Option ℕ) Refusal → Found
+found_by (Ok d) = found 0 d
+found_by (Err r) = found (number r) None

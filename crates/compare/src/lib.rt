@@ -13,19 +13,3 @@
 mod pages;
 
 pub use pages::{compare_pages, next_difference};
-use replies::Refusal;
-
-// The answer to two pages: their counts are written, or why not.
-#[derive(Drop)]
-pub enum CompareAnswer {
-    Done,
-    Refused(Refusal),
-}
-
-// The answer to a position: the next one at which the pages differ, that they are alike from there on, or why there is no answer.
-#[derive(Drop)]
-pub enum DifferenceAnswer {
-    At(usize),
-    Alike,
-    Refused(Refusal),
-}
