@@ -9,7 +9,10 @@ use borrow.Author.Tests.{eq-eqb, ne_eqb, le-leb, lt-leb, lt-ltb, le-ltb, eqb-tru
 use Rattle.field.specs.declared.Field.{Field}
 use Rattle.field.specs.declared.Field.TheVariants.{Thirteen, Fourteen}
 use Rattle.field.specs.Field.{degree, longest}
-use Rattle.replies.specs.Replies.{number}
+use Rattle.std.specs.Prelude.{⊤, Result, Ok, Err, is_err}
+use Rattle.replies.specs.declared.Refusal.{Refusal}
+use Rattle.replies.specs.Replies.{number, verdict_number}
+use Rattle.replies.proofs.Given.{number-positive}
 use Rattle.replies.specs.Edition.{highest}
 use Rattle.replies.proofs.Editions.{highest-small}
 use Rattle.layout_plan.specs.Plan.{shape_with}
@@ -19,6 +22,18 @@ use Rattle.remainder.specs.Remainder.{bytes_for}
 use Rattle.remainder.proofs.Fold.{parity-bits-below}
 use Rattle.piece_rules.specs.declared.State.{State}
 use Rattle.piece_rules.specs.Rules.{shape_for, finding_reply, start_reply, usable, finish_reply}
+
+-- ---- a verdict
+
+pub refused-some : (v : Result ⊤ Refusal) → is_err v ≡ true → verdict_number v ≡ 0 → ⊥
+unfolding verdict_number
+refused-some (Ok u) h e = true≢false (sym h)
+refused-some (Err r) h e = omega (arith, number-positive r)
+
+pub passed-none : (v : Result ⊤ Refusal) → is_err v ≡ false → verdict_number v ≡ 0
+unfolding verdict_number
+passed-none (Ok u) h = refl
+passed-none (Err r) h = absurd (true≢false h)
 
 -- ---- a block
 

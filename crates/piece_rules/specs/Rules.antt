@@ -4,14 +4,13 @@
 -- start_reply edition f level n      1, 2 or 3 where a block of a page would get it (layout/Acceptance), else 0
 -- usable f s                a start in the field f under some edition accepts the numbers of the state, no more is fed than the message has, and what is carried is below 2^(mt)
 -- finish_reply f s n         the reply about finishing into a buffer of n bytes
-use Rattle.std.specs.Prelude.{Bool, false, cond, ℕ, ◌*◌, ◌^◌, eqb, leb, ltb}
+use Rattle.std.specs.Prelude.{Bool, false, cond, ℕ, ◌*◌, ◌^◌, eqb, leb, ltb, ⊤, Result, Ok, Err}
 use Rattle.field.specs.declared.Field.{Field}
 use Rattle.field.specs.Field.{degree}
 use Rattle.replies.specs.declared.Refusal.TheVariants as refusal
 use Rattle.replies.specs.Replies.{number, unless}
 use Rattle.layout_plan.specs.declared.Shape.{Shape}
-use Rattle.layout.specs.declared.Finding.{Finding}
-use Rattle.layout.specs.declared.Finding.TheVariants.{Kept, Broken}
+use Rattle.layout.specs.declared.Reason.{Reason}
 use Rattle.layout.specs.declared.Kind.TheVariants.{First}
 use Rattle.layout_plan.specs.Plan.{shape_with}
 use Rattle.layout.specs.Acceptance.{either, level_rule, message_rule, length_rule, rule_number}
@@ -23,9 +22,9 @@ use Rattle.piece_rules.specs.declared.State.{State}
 unfoldable pub shape_for : Field → ℕ → ℕ → Shape
 shape_for f level n = shape_with (8 * n) f (2 * level)
 
-unfoldable pub finding_reply : Finding → ℕ
-finding_reply Kept = 0
-finding_reply (Broken reason) = rule_number reason.rule
+unfoldable pub finding_reply : Result ⊤ Reason → ℕ
+finding_reply (Ok _) = 0
+finding_reply (Err reason) = rule_number reason.rule
 
 -- The rules of one block, in their order.
 unfoldable pub start_reply : ℕ → Field → ℕ → ℕ → ℕ

@@ -8,12 +8,13 @@
 #![tactic(auto)]
 
 ghost use Rattle.std.specs.Prelude.{◌≡◌};
+ghost use Rattle.replies.specs.Replies.{verdict_number};
 ghost use Rattle.piece_rules.specs.Rules.{start_reply, usable, finish_reply};
 
 use field::Field;
 use remainder::Register;
 use remainder::coefficients::{bytes_for, is_below, parity_bits};
-use replies::highest;
+use replies::{Refusal, highest};
 
 // A block whose message is arriving: its level field, field choice and message bytes, the bytes fed so far, and the parity of
 // these in fourteen words of 64 bits, the lowest first.
@@ -27,29 +28,29 @@ pub struct State {
     pub words: [u64; 14],
 }
 
-// The reply about starting a block of this level field under an edition with a message of so many bytes: 1, 2 or 3 as a layout's rules give it, else 0.
-pub fn start_reply(edition: u64, f: Field, level_field: u64, size: u64) -> u8
-    ensures { result ≡ start_reply edition f level_field size }
+// What starting a block of this level field under an edition with a message of so many bytes is refused for, as a layout's rules give it.
+pub fn start_reply(edition: u64, f: Field, level_field: u64, size: u64) -> Result<(), Refusal>
+    ensures { verdict_number result ≡ start_reply edition f level_field size }
 {
     if highest(edition) < level_field {
-        return 1;
+        return Err(Refusal::LevelTooHigh);
     }
     if size == 0 {
-        return 2;
+        return Err(Refusal::EmptyMessage);
     }
     if level_field == 0 {
-        return 0;
+        return Ok(());
     }
     let longest = f.longest() as u64;
     if longest / 8 < size {
-        return 3;
+        return Err(Refusal::BlockTooLong);
     }
     let t = 2 * level_field as usize;
     let bits = parity_bits(f, t);
     if longest < 8 * size + bits as u64 {
-        return 3;
+        return Err(Refusal::BlockTooLong);
     }
-    0
+    Ok(())
 }
 
 // Whether a state can be gone on with in a field: a start under some edition would have accepted its numbers, which is one under
@@ -57,7 +58,7 @@ pub fn start_reply(edition: u64, f: Field, level_field: u64, size: u64) -> u8
 pub fn is_usable(f: Field, state: State) -> bool
     ensures { result ≡ usable f state }
 {
-    if start_reply(2, f, state.level, state.size) != 0 {
+    if start_reply(2, f, state.level, state.size).is_err() {
         return false;
     }
     if state.size < state.fed {
@@ -69,20 +70,20 @@ pub fn is_usable(f: Field, state: State) -> bool
     is_below(Register { words: words }, bits)
 }
 
-// The reply about finishing into a buffer of so many bytes.
-pub fn finish_reply(f: Field, state: State, len: usize) -> u8
-    ensures { result ≡ finish_reply f state len }
+// What finishing into a buffer of so many bytes is refused for.
+pub fn finish_reply(f: Field, state: State, len: usize) -> Result<(), Refusal>
+    ensures { verdict_number result ≡ finish_reply f state len }
 {
     if !is_usable(f, state) {
-        return 7;
+        return Err(Refusal::OutOfRange);
     }
     if state.fed != state.size {
-        return 6;
+        return Err(Refusal::BufferLength);
     }
     let t = 2 * state.level as usize;
     let bits = parity_bits(f, t);
     if len != bytes_for(bits) {
-        return 6;
+        return Err(Refusal::BufferLength);
     }
-    0
+    Ok(())
 }
