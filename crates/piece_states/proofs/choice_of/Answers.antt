@@ -1,6 +1,6 @@
 use mathlib.Core.Path.{sym, ap}
 use Rattle.piece_states.specs.State.{choice_of}
-use Rattle.piece_states.proofs.value.choice_of.Goals as goal
+use Rattle.piece_states.proofs.choice_of.Goals as goal
 
 pub returns-in-Thirteen : goal.returns-in-Thirteen
 unfolding choice_of

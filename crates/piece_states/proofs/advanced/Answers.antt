@@ -3,7 +3,7 @@ use Rattle.piece_states.proofs.Words.{words-number}
 use Rattle.piece_rules.proofs.Replies.{usable-going, usable-level, piece-short}
 use native.Mathlib.Omega.{arith}
 use borrow.Author.Rules.{rules}
-use Rattle.piece_states.proofs.value.advanced.Goals as goal
+use Rattle.piece_states.proofs.advanced.Goals as goal
 
 pub carried-next-requires : goal.carried-next-requires
 carried-next-requires c = let l = usable-level _ _ c.requires.0 in

@@ -1,7 +1,7 @@
 use Prim.Native.Nat.{◌-◌}
 use native.Mathlib.Omega.{arith}
 use borrow.Author.Tests.{ltb-true, ltb-false}
-use Rattle.piece_states.proofs.value.passes_length.Goals as goal
+use Rattle.piece_states.proofs.passes_length.Goals as goal
 
 pub returns : goal.returns
 returns c = let left = c.args.state.size - c.args.state.fed in
