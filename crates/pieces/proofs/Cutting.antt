@@ -28,8 +28,8 @@ use Rattle.bits.proofs.Runs.{run-append, run-cong, run-ext}
 use Rattle.bits.proofs.Pages.{bytes_run}
 use Rattle.field.specs.declared.Field.{Field}
 use Rattle.field.specs.declared.Field.TheVariants.{Thirteen, Fourteen}
-use Rattle.field.specs.declared.Choice.{Choice}
-use Rattle.field.specs.declared.Choice.TheVariants.{Offered, Unknown}
+use Rattle.std.specs.Prelude.{Option}
+use Rattle.std.specs.Prelude.{Some, None}
 use Rattle.field.specs.Field.{degree, chosen}
 use Rattle.code.specs.Generator.{remainder, parity}
 use Rattle.code.specs.Register.{register}
@@ -132,20 +132,20 @@ feed_in-append f s p q h =
     ∙ sym (taken f s (p ++ q) g fits.short)
 
 -- the field choice of a state is the same after a piece
-choice-kept : (c : Choice) (s : State) (p : List ℕ) → (feed_for c s p).state.choice ≡ s.choice
+choice-kept : (c : Option Field) (s : State) (p : List ℕ) → (feed_for c s p).state.choice ≡ s.choice
 unfolding feed_for feed_in after refusal-number
-choice-kept Unknown s p = refl
-choice-kept (Offered f) s p = go (usable f s) (leb (s.fed + length p) s.size) refl refl
+choice-kept None s p = refl
+choice-kept (Some f) s p = go (usable f s) (leb (s.fed + length p) s.size) refl refl
   where
-    go : (a b : Bool) → usable f s ≡ a → leb (s.fed + length p) s.size ≡ b → (feed_for (Offered f) s p).state.choice ≡ s.choice
+    go : (a b : Bool) → usable f s ≡ a → leb (s.fed + length p) s.size ≡ b → (feed_for (Some f) s p).state.choice ≡ s.choice
     go true true ea eb = rw (ea, eb)
     go true false ea eb = rw (ea, eb)
     go false b ea eb = rw ea
 
-feed_for-append : (c : Choice) (s : State) (p q : List ℕ) → (feed_for c s (p ++ q)).reply ≡ 0 → feed_for c (feed_for c s p).state q ≡ feed_for c s (p ++ q)
+feed_for-append : (c : Option Field) (s : State) (p q : List ℕ) → (feed_for c s (p ++ q)).reply ≡ 0 → feed_for c (feed_for c s p).state q ≡ feed_for c s (p ++ q)
 unfolding feed_for refusal-number
-feed_for-append (Offered f) s p q h = feed_in-append f s p q h
-feed_for-append Unknown s p q h = absurd (omega arith)
+feed_for-append (Some f) s p q h = feed_in-append f s p q h
+feed_for-append None s p q h = absurd (omega arith)
 
 pub feed-append : (s : State) (p q : List ℕ) → (feed_of s (p ++ q)).reply ≡ 0 → feed_of (feed_of s p).state q ≡ feed_of s (p ++ q)
 unfolding feed_of
@@ -153,7 +153,7 @@ feed-append s p q h = rw (choice-kept (chosen s.choice) s p) (feed_for-append (c
 
 -- ---- the state of a message
 
-chosen-choice : (f : Field) → chosen (choice_of f) ≡ Offered f
+chosen-choice : (f : Field) → chosen (choice_of f) ≡ Some f
 unfolding chosen choice_of
 chosen-choice Thirteen = refl
 chosen-choice Fourteen = refl

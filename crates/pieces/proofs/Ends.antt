@@ -12,14 +12,13 @@ use lib.Dec.{eqb, leb}
 use Rattle.replies.specs.Replies.{number}
 use Rattle.replies.specs.Edition.{offered, highest}
 use Rattle.field.specs.declared.Field.{Field}
-use Rattle.field.specs.declared.Choice.{Choice}
-use Rattle.field.specs.declared.Choice.TheVariants.{Offered, Unknown}
+use Rattle.std.specs.Prelude.{Option}
+use Rattle.std.specs.Prelude.{Some, None}
 use Rattle.field.specs.Field.{chosen, degree, longest}
 use Rattle.remainder.specs.Remainder.{bytes_for}
 use Rattle.piece_rules.specs.declared.State.{State}
-use Rattle.piece_states.specs.declared.Answered.{Answered}
 use Rattle.piece_rules.specs.Rules.{start_reply, usable, finish_reply}
-use Rattle.piece_states.specs.Calls.{answered, Finished, finished, start_in, start_for, start_of, feed_in, feed_for, feed_of, finish_in, finish_for, finish_of}
+use Rattle.piece_states.specs.Calls.{Answered, answered, Finished, finished, start_in, start_for, start_of, feed_in, feed_for, feed_of, finish_in, finish_for, finish_of}
 use Rattle.piece_rules.proofs.Replies.{reply-level, reply-empty, reply-plain, reply-long, reply-right}
 
 -- a reply of the table, by its number
@@ -92,9 +91,9 @@ pub start-ends : (s : State) (edition n c m : ℕ) → StartEnds s (start_of s e
 unfolding start_of start_for number
 start-ends s edition n c m = known (offered edition)
   where
-    go : (k : Choice) → StartEnds s (start_for edition k s n m)
-    go (Offered f) = start_in-ends edition f s n m
-    go Unknown = record { table = choice; kept = λ h. refl }
+    go : (k : Option Field) → StartEnds s (start_for edition k s n m)
+    go (Some f) = start_in-ends edition f s n m
+    go None = record { table = choice; kept = λ h. refl }
 
     known : (o : Bool) → StartEnds s (cond o (start_for edition (chosen c) s n m) (answered 7 s))
     known true = go (chosen c)
@@ -115,9 +114,9 @@ pub feed-ends : (s : State) (p : List ℕ) → FeedEnds s (feed_of s p)
 unfolding feed_of feed_for number
 feed-ends s p = go (chosen s.choice)
   where
-    go : (k : Choice) → FeedEnds s (feed_for k s p)
-    go (Offered f) = feed_in-ends f s p
-    go Unknown = record { table = state; kept = λ h. refl }
+    go : (k : Option Field) → FeedEnds s (feed_for k s p)
+    go (Some f) = feed_in-ends f s p
+    go None = record { table = state; kept = λ h. refl }
 
 -- ---- finishing
 
@@ -144,6 +143,6 @@ pub finish-ends : (s : State) (b : List ℕ) → FinishEnds s b (finish_of s b)
 unfolding finish_of finish_for finished number
 finish-ends s b = go (chosen s.choice)
   where
-    go : (k : Choice) → FinishEnds s b (finish_for k s b)
-    go (Offered f) = finish_in-ends f s b
-    go Unknown = record { table = state; state = refl; kept = λ h. refl }
+    go : (k : Option Field) → FinishEnds s b (finish_for k s b)
+    go (Some f) = finish_in-ends f s b
+    go None = record { table = state; state = refl; kept = λ h. refl }

@@ -16,7 +16,7 @@ use Rattle.replies.proofs.Tests.{ltb-not}
 use Rattle.replies.proofs.Given.{follows-done, follows_next, follows-here, exactly}
 use Rattle.field.specs.declared.Field.{Field}
 use Rattle.field.specs.declared.Field.TheVariants.{Thirteen, Fourteen}
-use Rattle.field.specs.declared.Choice.TheVariants.{Offered, Unknown}
+use Rattle.std.specs.Prelude.{Some, None}
 use Rattle.field.specs.Field.{degree, longest, chosen}
 use Rattle.layout_plan.specs.Record.{field_of}
 use Rattle.layout_plan.specs.Plan.{shape_with}
@@ -32,8 +32,8 @@ use Rattle.piece_rules.proofs.Replies.{reply-level, reply-empty, reply-plain, re
 
 -- what a number chooses
 data Chose (c : ℕ) : Type 0 where
-  known : (f : Field) → chosen c ≡ Offered f → ltb 1 c ≡ false → field_of c ≡ f → Chose c
-  unknown : chosen c ≡ Unknown → ltb 1 c ≡ true → Chose c
+  known : (f : Field) → chosen c ≡ Some f → ltb 1 c ≡ false → field_of c ≡ f → Chose c
+  unknown : chosen c ≡ None → ltb 1 c ≡ true → Chose c
 
 chose : (c : ℕ) → Chose c
 unfolding chosen field_of
