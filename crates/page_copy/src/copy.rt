@@ -35,11 +35,8 @@ pub fn copy_messages(plan: Plan, page: &[u8], metadata: &mut [u8], data: &mut [u
     ensures { Joined metadata.old «data».old metadata.new «data».new
         (placed (metadata.old ++ «data».old) 0 (texts plan page.now plan.blocks)) }
 {
-    let blocks = plan.blocks;
-    let mut b = 0;
-    while b < blocks {
+    for b in 0..plan.blocks {
         copy_message(plan, page, b, metadata, data);
-        b += 1;
     }
 }
 
@@ -74,12 +71,8 @@ fn flip_block(
         metadata.old «data».old metadata.new «data».new }
 {
     let at = 64 * block as usize;
-    let mut i = 0;
-    while i < n {
-        let k = at + i;
-        let p = places[k];
-        flip_place(plan, block, p, metadata, data);
-        i += 1;
+    for i in 0..n {
+        flip_place(plan, block, places[at + i], metadata, data);
     }
 }
 
@@ -137,11 +130,9 @@ pub fn restore_blocks(
         metadata.old «data».old metadata.new «data».new }
 {
     let blocks = plan.blocks;
-    let mut b: u16 = 0;
-    while b < blocks {
+    for b in 0..blocks {
         let i = b as usize;
         let n = wide(flips[i]);
         restore_block(plan, b, places, n, metadata, data);
-        b += 1;
     }
 }

@@ -1,4 +1,3 @@
-use Prim.Native.Nat.{◌-◌, ◌≤◌}
 use mathlib.Core.List.{◌++◌}
 use Rattle.bits.specs.Bits.{placed}
 use Rattle.payload.specs.Payload.{Joined}
@@ -6,7 +5,4 @@ use Rattle.page_copy.specs.Copying.{texts}
 use Rattle.page_copy.proofs.copy.copy_messages.Given as goal
 
 abbrev pub invariant-loop-b : goal.invariant-loop-b
-invariant-loop-b l = (l.b ≤ l.blocks) × Joined l.initial.metadata l.initial.data l.metadata l.data (placed (l.initial.metadata ++ l.initial.data) 0 (texts l.plan l.page l.b))
-
-abbrev pub decreases-loop-b : goal.decreases-loop-b
-decreases-loop-b l = l.blocks - l.b
+invariant-loop-b l = Joined l.initial.metadata l.initial.data l.metadata l.data (placed (l.initial.metadata ++ l.initial.data) 0 (texts l.plan l.page l.b))

@@ -1,10 +1,6 @@
-use Prim.Native.Nat.{◌-◌, ◌≤◌}
 use Rattle.page_keep.specs.Keeping.{kept}
 use Rattle.page_copy.specs.Copying.{FlippedIn}
 use Rattle.page_copy.proofs.copy.flip_block.Given as goal
 
 abbrev pub invariant-loop-i : goal.invariant-loop-i
-invariant-loop-i l = (l.i ≤ l.n) × FlippedIn l.plan l.block (kept l.places l.block l.i) l.initial.metadata l.initial.data l.metadata l.data
-
-abbrev pub decreases-loop-i : goal.decreases-loop-i
-decreases-loop-i l = l.n - l.i
+invariant-loop-i l = FlippedIn l.plan l.block (kept l.places l.block l.i) l.initial.metadata l.initial.data l.metadata l.data
