@@ -11,12 +11,12 @@ use native.Mathlib.Omega.{arith}
 use lib.ListN.{length}
 use lib.Dec.{eqb}
 use borrow.Author.Tests.{eqb-true, ne_eqb}
+use Rattle.std.specs.Prelude.{Result, Err}
 use Rattle.replies.specs.declared.Refusal.{Refusal}
 use Rattle.replies.specs.Replies.{number, block}
 use Rattle.layout_plan.specs.declared.Plan.{Plan}
+use Rattle.layout_plan.specs.declared.Layout.{Layout}
 use Rattle.layout.specs.declared.Refusal as kinds
-use Rattle.layout.specs.declared.Acceptance.{Acceptance}
-use Rattle.layout.specs.declared.Acceptance.TheVariants.{Refused}
 use Rattle.layout.specs.Acceptance.{refusal_of, refusal_reply}
 use Rattle.page_theory.specs.Reading.{Lowest}
 use Rattle.page_theory.specs.Calls.{take_ended, take_reply, take_in, take_for}
@@ -34,7 +34,7 @@ reply-bare q page m d = go (eqb page q.size) (eqb m q.metadata) (eqb d q.«data�
     go true false z = omega arith
     go false y z = omega arith
 
-pub take-layout : (page m d : List ℕ) {a : Acceptance} {x : kinds.Refusal} {y : Refusal} → y ≡ refusal_of x → a ≡ Refused x
+pub take-layout : (page m d : List ℕ) {a : Result Layout kinds.Refusal} {x : kinds.Refusal} {y : Refusal} → y ≡ refusal_of x → a ≡ Err x
     → take_ended (number y) (block y) m d ≡ take_for a page m d
 unfolding take_for refusal_reply
 take-layout page m d {x = x} e f = rw (e, f, layout-bare x)

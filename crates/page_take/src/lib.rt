@@ -8,19 +8,12 @@
 //    copies the messages out, and nothing more is needed.
 // 2. Otherwise `page_keep` decides the damaged blocks, and the first ruined block ends the call; nothing has been written then.
 // 3. `page_copy` copies the messages out, repaired.
-// take.rt puts the steps together: every block is decided before any byte is written.
+// take.rt puts the steps together: every block is decided before any byte is written. A refusal leaves what was lent as it was; that of a
+// page with a ruined block names its lowest one.
 //
-// specs/Answers.antt has the answer; proofs/Ends.antt the laws.
+// proofs/Ends.antt has the laws.
 #![tactic(auto)]
 
 mod take;
 
-use replies::Refusal;
 pub use take::{take_for, take_in, take_page};
-
-// The answer to a page: it is taken, or what was lent is as it was and this is why. A page with a ruined block names its lowest one.
-#[derive(Drop)]
-pub enum TakeAnswer {
-    Done,
-    Refused(Refusal),
-}

@@ -1,10 +1,9 @@
 use Prim.Native.Nat.{ℕ}
 use borrow.Author.Rules.{rules}
 use lib.ListN.{length-replicate}
-use Rattle.replies.specs.Replies.{number, block}
+use Rattle.replies.specs.Replies.{number, block, verdict_number, verdict_block}
 use Rattle.page_keep.specs.Keeping.{PageDecided}
 use Rattle.page_keep.proofs.Keeping.{underway-start, zeros-at}
-use Rattle.page_take.specs.Answers.{take_number, take_block}
 use Rattle.page_take.proofs.Ends.{take-ruined}
 use Rattle.page_take.proofs.take.take_placed.Goals as goal
 
@@ -22,13 +21,13 @@ keep_damaged-requires c = let p = c.requires in
 pub copy_decided-requires : goal.copy_decided-requires
 unfolding PageDecided
 copy_decided-requires c = let p = c.requires in
-    record { ready = p.ready; all_decided = (rw c.in-Sound.is at c.keep_damaged.ensures, search rules) }
+    record { ready = p.ready; all_decided = (rw c.in-None.is at c.keep_damaged.ensures, search rules) }
 
-pub returns-in-Ruined : goal.returns-in-Ruined
-unfolding PageDecided take_number take_block number block
-returns-in-Ruined c = let p = c.requires in
-    take-ruined _ _ p.ready.0 _ _ p.ready.1 p.ready.2 _ (rw c.in-Ruined.is at c.keep_damaged.ensures)
+pub returns-in-Some : goal.returns-in-Some
+unfolding PageDecided verdict_number verdict_block number block
+returns-in-Some c = let p = c.requires in
+    take-ruined _ _ p.ready.0 _ _ p.ready.1 p.ready.2 _ (rw c.in-Some.is at c.keep_damaged.ensures)
 
-pub returns-in-Sound : goal.returns-in-Sound
-unfolding take_number take_block
-returns-in-Sound c = c.copy_decided.ensures
+pub returns-in-None : goal.returns-in-None
+unfolding verdict_number verdict_block
+returns-in-None c = c.copy_decided.ensures

@@ -1,2 +1,0 @@
--- The answer to a take.
-pub mod Answers
