@@ -12,12 +12,12 @@ use native.Mathlib.Omega.{arith}
 use lib.ListN.{length}
 use lib.Dec.{eqb}
 use borrow.Author.Tests.{eqb-true, ne_eqb}
+use Rattle.std.specs.Prelude.{Result, Err}
 use Rattle.replies.specs.declared.Refusal.{Refusal}
 use Rattle.replies.specs.Replies.{number, block}
 use Rattle.layout_plan.specs.declared.Plan.{Plan}
+use Rattle.layout_plan.specs.declared.Layout.{Layout}
 use Rattle.layout.specs.declared.Refusal as kinds
-use Rattle.layout.specs.declared.Acceptance.{Acceptance}
-use Rattle.layout.specs.declared.Acceptance.TheVariants.{Refused}
 use Rattle.layout.specs.Acceptance.{refusal_of, refusal_reply}
 use Rattle.page_theory.specs.Reading.{RefusedAt, Lowest, counts}
 use Rattle.page_theory.specs.Calls.{look_ended, look_reply, look_in, look_for}
@@ -34,7 +34,7 @@ reply-bare q page lent = go (eqb page q.size) (eqb lent q.blocks)
     go true false = omega arith
     go false y = omega arith
 
-pub look-layout : (page lent : List ℕ) {a : Acceptance} {x : kinds.Refusal} {y : Refusal} → y ≡ refusal_of x → a ≡ Refused x
+pub look-layout : (page lent : List ℕ) {a : Result Layout kinds.Refusal} {x : kinds.Refusal} {y : Refusal} → y ≡ refusal_of x → a ≡ Err x
     → look_ended (number y) (block y) lent ≡ look_for a page lent
 unfolding look_for refusal_reply
 look-layout page lent {x = x} e f = rw (e, f, layout-bare x)

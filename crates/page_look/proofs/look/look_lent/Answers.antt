@@ -1,12 +1,12 @@
 use mathlib.Core.Path.{◌∙◌}
 use native.Mathlib.Omega.{arith}
-use Rattle.page_look.specs.Answers.{look_number, look_block}
+use Rattle.replies.specs.Replies.{verdict_number, verdict_block}
 use Rattle.page_counts.proofs.Looking.{underway-start, underway-end, clean-sound}
 use Rattle.page_look.proofs.Ends.{look-lent, look-done}
 use Rattle.page_look.proofs.look.look_lent.Goals as goal
 
 pub returns-then-block-plan : goal.returns-then-block-plan
-unfolding look_number look_block
+unfolding verdict_number verdict_block
 returns-then-block-plan c = let p = c.requires in
     let plan = p.0.plan in
     let u = underway-start _ _ plan c.scan_page-scan.ensures.scan c.clear.ensures p.1 in

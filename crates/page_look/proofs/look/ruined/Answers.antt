@@ -1,8 +1,7 @@
 use mathlib.Core.Path.{refl}
-use Rattle.replies.specs.Replies.{number, block}
-use Rattle.page_look.specs.Answers.{look_number, look_block}
+use Rattle.replies.specs.Replies.{number, block, verdict_number, verdict_block}
 use Rattle.page_look.proofs.look.ruined.Goals as goal
 
 pub returns : goal.returns
-unfolding look_number look_block number block
+unfolding verdict_number verdict_block number block
 returns c = (refl, refl)

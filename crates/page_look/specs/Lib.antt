@@ -1,2 +1,0 @@
--- The answer to a look.
-pub mod Answers
