@@ -1,7 +1,6 @@
 // Writing a page from metadata and data (document 01, "The job" and "Layout words").
 //
 //   write_page      writes a page
-//   write_number    document 01's reply of its answer
 //
 // The call takes the layout record and buffers of any length, and asks nothing of its caller. What it answers and leaves is one
 // definition, `write_of` of the crate `page_theory`, specs/Calls.antt. The steps:
@@ -11,9 +10,7 @@
 //    table of a generator is made after the other in the same place: that of block 0, then that of the later blocks.
 #![tactic(auto)]
 
-mod answers;
 mod lengths;
 mod write;
 
-pub use answers::write_number;
 pub use write::{write_for, write_in, write_page};
