@@ -66,7 +66,7 @@ impl Word {
 }
 
 // The word of the arguments after the options: none where an error was printed.
-fn word<R: System>(rt: &R, out: &mut Answer, options: Options) -> Option<Word> {
+fn word_of<R: System>(rt: &R, out: &mut Answer, options: Options) -> Option<Word> {
     Some(Word {
         edition: options.edition(),
         level: arguments::number(rt, out, options.at, "LEVEL")?,
@@ -76,7 +76,7 @@ fn word<R: System>(rt: &R, out: &mut Answer, options: Options) -> Option<Word> {
 }
 
 fn locate_at<R: System>(rt: &R, out: &mut Answer, options: Options) -> Option<()> {
-    let word = word(rt, out, options)?;
+    let word = word_of(rt, out, options)?;
     let mut buffer = [0u8; 128];
     let remainder = remainder_at(rt, out, options.place(3), &mut buffer)?;
     word.locate(out, remainder);
