@@ -1,11 +1,9 @@
 // What a run of the commands read, look and salvage has to do, and what it came to so far.
 //
-//   sums.rt                                          what the counts of a page come to
-//   Run, wants, has_list                             what it has to do
-//   Totals, start                                    what it came to
-//   was_read, was_not_read, was_salvaged, carrying   one page more; a byte of the next one
-//   ended, broken, dropped, some                     its end
-//   progress, summary                                how far a dump is read, on standard error; the last line of a dump
+//   sums.rt     what the counts of a page come to
+//   Run         what it has to do
+//   Failed      why it ended before its time
+//   Totals      what it came to
 #![tactic(auto)]
 
 mod sums;
@@ -39,7 +37,6 @@ pub struct Run<'a> {
     pub raw: bool,
 }
 
-// Whether an output is wanted.
 fn is_wanted(sink: Sink<'_>) -> bool {
     !matches!(sink, Sink::Nothing)
 }
@@ -50,24 +47,25 @@ impl Run<'_> {
         is_wanted(self.metadata) || is_wanted(self.data)
     }
 
-    // Whether the list of ruined blocks is wanted.
+    // Whether the list of ruined blocks is wanted, and with it what can be saved of a page that has some.
     pub fn has_list(&self) -> bool {
         is_wanted(self.list)
     }
 }
 
-// Which file failed, and why.
+// Why a run ends before its time: its one page is refused, which was printed; a dump has no such page; or a file failed.
 #[derive(Clone, Copy)]
 pub enum Failed {
+    Refused,
+    NoSuchPage,
     Page(Error),
     Metadata(Error),
     Data(Error),
     List(Error),
 }
 
-// Pages so far, of them those that were read, are erased and were salvaged, corrected bits, the most in a block, ruined blocks; bytes of the
-// next page that are in the buffer already; when progress was last shown; whether to go on, whether the outputs are to take their place,
-// and which file failed, if any.
+// Pages so far, of them those that were read, are erased and were salvaged, corrected bits, the most in a block, ruined blocks; when progress
+// was last shown.
 #[derive(Clone, Copy)]
 pub struct Totals {
     pub pages: u64,
@@ -77,11 +75,7 @@ pub struct Totals {
     pub corrected: u64,
     pub most: u8,
     pub ruined: u64,
-    pub carried: usize,
     pub shown: u64,
-    pub more: bool,
-    pub good: bool,
-    pub failed: Option<Failed>,
 }
 
 impl Totals {
@@ -94,111 +88,55 @@ impl Totals {
             corrected: 0,
             most: 0,
             ruined: 0,
-            carried: 0,
             shown: began,
-            more: true,
-            good: true,
-            failed: None,
         }
     }
 
     // One page more that was not refused, with these sums.
-    pub fn was_read(self, sums: Sums, erased: bool) -> Self {
-        let mut t = self.was_not_read(0);
-        if erased {
-            t.erased = text::plus(t.erased, 1);
+    pub fn was_read(&mut self, sums: Sums, erased: bool) {
+        self.pages = text::plus(self.pages, 1);
+        let kind = if erased {
+            &mut self.erased
         } else {
-            t.read = text::plus(t.read, 1);
-        }
-        t.corrected = text::plus(t.corrected, sums.flips);
-        t.most = t.most.max(sums.most);
-        t
+            &mut self.read
+        };
+        *kind = text::plus(*kind, 1);
+        self.corrected = text::plus(self.corrected, sums.flips);
+        self.most = self.most.max(sums.most);
     }
 
     // One page more that was refused, with so many ruined blocks.
-    pub fn was_not_read(mut self, ruined: u64) -> Self {
+    pub fn was_not_read(&mut self, ruined: u64) {
         self.pages = text::plus(self.pages, 1);
         self.ruined = text::plus(self.ruined, ruined);
-        self.carried = 0;
-        self
     }
 
     // One page more that was refused and salvaged.
-    pub fn was_salvaged(self, ruined: u64) -> Self {
-        let mut t = self.was_not_read(ruined);
-        t.salvaged = text::plus(t.salvaged, 1);
-        t
+    pub fn was_salvaged(&mut self, ruined: u64) {
+        self.was_not_read(ruined);
+        self.salvaged = text::plus(self.salvaged, 1);
     }
 
-    // The first byte of the next page is in the buffer.
-    pub fn carrying(mut self) -> Self {
-        self.carried = 1;
-        self
-    }
-
-    // The end of the dump.
-    pub fn ended(mut self) -> Self {
-        self.more = false;
-        self
-    }
-
-    // The end of a run of which nothing is kept.
-    pub fn dropped(mut self) -> Self {
-        self.more = false;
-        self.good = false;
-        self
-    }
-
-    // The end of the run, because a file failed.
-    pub fn broken(self, failed: Failed) -> Self {
-        let mut t = self.dropped();
-        t.carried = 0;
-        t.failed = Some(failed);
-        t
-    }
-
-    // The totals of a range, of which nothing is kept where it has no page.
-    pub fn some(mut self) -> Self {
-        if self.pages == 0 {
-            self.good = false;
-        }
-        self
-    }
-
-    // Shows how far a dump is read where it is time for that.
-    pub fn progress<R: System>(mut self, rt: &R, run: Run<'_>) -> Self {
+    // Shows how far a dump is read, on standard error.
+    pub fn progress<R: System>(&mut self, rt: &R, run: Run<'_>) {
         if !run.quiet {
+            let size = run.plan.size;
             self.shown = dump_progress::tell(
-                rt,
-                self.pages,
-                run.known,
-                run.plan.size,
-                run.began,
-                self.shown,
+                rt, self.pages, run.known, size, run.began, self.shown,
             );
         }
-        self
-    }
-
-    // The pages that were refused.
-    fn refused(&self) -> u64 {
-        self.pages
-            .saturating_sub(text::plus(self.read, self.erased))
     }
 
     // The last line of a dump.
     pub fn summary(&self, out: &mut Answer, run: Run<'_>) {
-        out.put(format_args!(
-            "pages {}, read {}, erased {}, refused {}; ",
-            self.pages,
-            self.read,
-            self.erased,
-            self.refused(),
-        ));
-        out.put(format_args!(
-            "corrected bits {}, at most {} in a block; ruined blocks {}",
-            self.corrected, self.most, self.ruined,
-        ));
+        let refused = self
+            .pages
+            .saturating_sub(text::plus(self.read, self.erased));
+        out.put(format_args!("pages {}, read {}, ", self.pages, self.read));
+        out.put(format_args!("erased {}, refused {refused}; ", self.erased));
+        out.put(format_args!("corrected bits {}, ", self.corrected));
+        out.put(format_args!("at most {} in a block; ", self.most));
+        out.put(format_args!("ruined blocks {}", self.ruined));
         if run.has_list() {
             out.put(format_args!("; salvaged pages {}", self.salvaged));
         }
