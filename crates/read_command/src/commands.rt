@@ -1,15 +1,15 @@
 // The commands: a page, or a dump of many.
 use crate::running;
-use arguments::{LayoutWords, Options};
+use arguments::{Choice, Options};
 use files::Writing;
-use layout_plan::Plan;
 use plans::Planned;
-use read_totals::Run;
-use streams::{Sink, Source, System};
-use text::Number;
+use read_outputs::Paths;
+use read_totals::{Run, Totals};
+use say::Answer;
+use streams::{Source, System};
 
 // What is asked for.
-#[derive(Clone, Copy)]
+#[derive(Clone, Copy, PartialEq, Eq)]
 enum Command {
     Read,
     Look,
@@ -21,297 +21,222 @@ enum Command {
 struct Asked {
     command: Command,
     options: Options,
-    words: LayoutWords,
-    plan: Plan,
+    planned: Planned,
+}
+
+// The outputs of a run, each nothing where it is not wanted.
+#[derive(Drop)]
+struct Outputs {
+    metadata: Writing,
+    data: Writing,
+    list: Writing,
 }
 
 // An output, which is nothing where it is not wanted: none where an error was printed.
-fn output<R: System>(rt: &R, out: &mut [u8; 32768], path: &[u8], stdout: bool) -> Option<Writing> {
+fn output<R: System>(rt: &R, out: &mut Answer, path: &[u8]) -> Option<Writing> {
     if files::is_dash(path) {
-        if stdout {
-            return Some(Writing::Standard(rt.output()));
-        }
         return Some(Writing::Nothing);
     }
     files::begin(rt, out, path, arguments::run_number(rt))
 }
 
-fn is_look(command: Command) -> bool {
-    match command {
-        Command::Read => false,
-        Command::Look => true,
-        Command::Salvage => false,
-    }
-}
-
-fn is_dump(command: Command, options: Options) -> bool {
-    match command {
-        Command::Read => options.ranged,
-        Command::Look => options.ranged,
-        Command::Salvage => true,
-    }
-}
-
-fn run_of<'a, R: System>(
+// Begins the outputs: none where an error was printed. The data goes to standard output where that is asked for.
+fn begin<R: System>(
     rt: &R,
-    asked: Asked,
-    input: Source<'a>,
-    metadata: Sink<'a>,
-    data: Sink<'a>,
-    list: Sink<'a>,
-) -> Run<'a> {
-    let command = asked.command;
-    let options = asked.options;
-    let words = asked.words;
-    let plan = asked.plan;
+    out: &mut Answer,
+    options: &Options,
+    paths: Paths<'_>,
+) -> Option<Outputs> {
+    Some(Outputs {
+        metadata: output(rt, out, paths.metadata)?,
+        data: if options.stdout && files::is_dash(paths.data) {
+            Writing::Standard(rt.output())
+        } else {
+            output(rt, out, paths.data)?
+        },
+        list: output(rt, out, paths.list)?,
+    })
+}
+
+fn run_of<'a, R: System>(rt: &R, asked: Asked, input: Source<'a>, outputs: &'a Outputs) -> Run<'a> {
+    let Asked {
+        command,
+        options,
+        planned,
+    } = asked;
+    let Planned { words, plan } = planned;
     Run {
         edition: words.edition,
-        record: arguments::record_of(words),
-        plan: plan,
-        input: input,
-        metadata: metadata,
-        data: data,
-        list: list,
-        dump: is_dump(command, options),
-        first: options.from,
-        most: options.pages,
+        record: words.record(),
+        plan,
+        input,
+        metadata: files::sink(&outputs.metadata),
+        data: files::sink(&outputs.data),
+        list: files::sink(&outputs.list),
+        dump: command == Command::Salvage || options.is_ranged(),
+        first: options.from(),
+        most: options.pages(),
         known: dump_progress::known(
             files::pages_left(rt, input, plan.size),
-            options.from,
-            options.pages,
+            options.from(),
+            options.pages(),
         ),
         began: dump_progress::seconds(rt),
         quiet: options.quiet,
-        look: is_look(command),
+        look: command == Command::Look,
         raw: options.raw,
     }
 }
 
-fn run_outputs<R: System>(
-    rt: &R,
-    out: &mut [u8; 32768],
-    asked: Asked,
-    input: Source<'_>,
-    page: &[u8],
-    metadata: &[u8],
-    data: &[u8],
-    list: &[u8],
-) {
-    let Some(m) = output(rt, out, metadata, false) else {
-        read_outputs::drop_all(rt, metadata, data, list);
-        return;
+// Runs a command on files, of which those that are not wanted are dashes: none where an error of a file that is opened was printed.
+fn run_paths<R: System>(rt: &R, out: &mut Answer, asked: Asked, paths: Paths<'_>) -> Option<()> {
+    let input = files::input(rt, out, paths.page)?;
+    let Some(outputs) = begin(rt, out, &asked.options, paths) else {
+        paths.drop_all(rt);
+        return None;
     };
-    let Some(d) = output(rt, out, data, asked.options.stdout) else {
-        read_outputs::drop_all(rt, metadata, data, list);
-        return;
-    };
-    let Some(l) = output(rt, out, list, false) else {
-        read_outputs::drop_all(rt, metadata, data, list);
-        return;
-    };
-    let run = run_of(
-        rt,
-        asked,
-        input,
-        files::sink(&m),
-        files::sink(&d),
-        files::sink(&l),
-    );
-    let totals = running::read_file(rt, out, run);
-    read_outputs::finish(rt, out, run, totals, page, metadata, data, list);
+    let run = run_of(rt, asked, files::source(&input), &outputs);
+    let mut totals = Totals::start(run.began);
+    let ended = running::read_file(rt, out, run, &mut totals);
+    paths.finish(rt, out, run, &totals, ended);
+    Some(())
 }
 
-// Runs a command on files, of which those of the last three that are not wanted are dashes.
-fn run_paths<R: System>(
-    rt: &R,
-    out: &mut [u8; 32768],
-    asked: Asked,
-    page: &[u8],
-    metadata: &[u8],
-    data: &[u8],
-    list: &[u8],
-) {
-    let Some(input) = files::input(rt, out, page) else {
-        return;
-    };
-    let source = files::source(&input);
-    run_outputs(rt, out, asked, source, page, metadata, data, list);
-    files::close_input(input);
-}
-
-// Whether the options and the name for the data go together; an error is printed where not. Where the data goes to standard output, the
+// Whether the outputs are what the command and the options want; an error is printed where not. Where the data goes to standard output, the
 // answer goes to standard error.
-fn is_data<R: System>(rt: &R, out: &mut [u8; 32768], options: Options, data: &[u8]) -> bool {
-    if options.stdout {
-        if !files::is_dash(data) {
-            say::error(rt, out, b"with --stdout DATA is a dash");
+fn fit<R: System>(rt: &R, out: &mut Answer, asked: &Asked, paths: Paths<'_>) -> bool {
+    if asked.command == Command::Salvage && files::is_dash(paths.list) {
+        out.error(rt, "LIST is a file, and no dash");
+        return false;
+    }
+    if asked.options.stdout {
+        if !files::is_dash(paths.data) {
+            out.error(rt, "with --stdout DATA is a dash");
             return false;
         }
-        say::to_stderr(out);
+        out.to_stderr();
     }
     true
 }
 
-// Puts argument `k` places after the options into a buffer: its length, or none where an error was printed.
-fn path<R: System>(
-    rt: &R,
-    out: &mut [u8; 32768],
-    options: Options,
-    k: usize,
-    name: &[u8],
-    to: &mut [u8],
-) -> Number {
-    let given = rt.arg(arguments::place(options.at, k), to);
-    if !arguments::whole(rt, out, given, name) {
-        return Number::Bad;
-    }
-    Number::Is(given.unwrap_or(0) as u64)
-}
-
-// The list that salvaging has.
-fn salvage_paths<R: System>(
-    rt: &R,
-    out: &mut [u8; 32768],
-    asked: Asked,
-    page: &[u8],
-    metadata: &[u8],
-    data: &[u8],
-) {
-    let mut buffer = text::buffer();
-    let Number::Is(l) = path(rt, out, asked.options, 5, b"LIST", &mut buffer) else {
-        return;
-    };
-    let list = text::front(&buffer, l as usize);
-    if files::is_dash(list) {
-        say::error(rt, out, b"LIST is a file, and no dash");
-        return;
-    }
-    run_paths(rt, out, asked, page, metadata, data, list);
-}
-
-fn output_paths<R: System>(
-    rt: &R,
-    out: &mut [u8; 32768],
-    asked: Asked,
-    page: &[u8],
-    metadata: &[u8],
-    data: &[u8],
-) {
+// Runs a command on the files that the arguments name, a dash for those that it does not have: none where an error was printed.
+fn run_asked<R: System>(rt: &R, out: &mut Answer, asked: Asked) -> Option<()> {
+    let options = asked.options;
     let command = asked.command;
-    if let Command::Salvage = command {
-        salvage_paths(rt, out, asked, page, metadata, data);
-        return;
-    }
-    if is_data(rt, out, asked.options, data) {
-        run_paths(rt, out, asked, page, metadata, data, b"-");
-    }
-}
-
-// The outputs that reading and salvaging have.
-fn outputs<R: System>(rt: &R, out: &mut [u8; 32768], asked: Asked, page: &[u8]) {
-    let mut metadata = text::buffer();
-    let mut data = text::buffer();
-    let Number::Is(m) = path(rt, out, asked.options, 3, b"METADATA", &mut metadata) else {
-        return;
+    let mut page = text::buffer::<4096>();
+    let mut metadata = text::buffer::<4096>();
+    let mut data = text::buffer::<4096>();
+    let mut list = text::buffer::<4096>();
+    let mut paths = Paths {
+        page: arguments::given(rt, out, options.place(2), "PAGE", &mut page)?,
+        metadata: b"-",
+        data: b"-",
+        list: b"-",
     };
-    let Number::Is(d) = path(rt, out, asked.options, 4, b"DATA", &mut data) else {
-        return;
-    };
-    output_paths(
-        rt,
-        out,
-        asked,
-        page,
-        text::front(&metadata, m as usize),
-        text::front(&data, d as usize),
-    );
+    if command != Command::Look {
+        paths.metadata = arguments::given(rt, out, options.place(3), "METADATA", &mut metadata)?;
+        paths.data = arguments::given(rt, out, options.place(4), "DATA", &mut data)?;
+    }
+    if command == Command::Salvage {
+        paths.list = arguments::given(rt, out, options.place(5), "LIST", &mut list)?;
+    }
+    if !fit(rt, out, &asked, paths) {
+        return None;
+    }
+    run_paths(rt, out, asked, paths)
 }
 
-fn paths<R: System>(rt: &R, out: &mut [u8; 32768], asked: Asked) {
-    let mut buffer = text::buffer();
-    let Number::Is(p) = path(rt, out, asked.options, 2, b"PAGE", &mut buffer) else {
-        return;
-    };
-    let page = text::front(&buffer, p as usize);
-    let command = asked.command;
-    if is_look(command) {
-        run_paths(rt, out, asked, page, b"-", b"-", b"-");
-        return;
+impl Command {
+    // The options that the command is given, of those that it may have: none where an error was printed.
+    fn options<R: System>(self, rt: &R, out: &mut Answer) -> Option<Options> {
+        match self {
+            Command::Read => arguments::find_options(
+                rt,
+                out,
+                &[
+                    Choice::Mark,
+                    Choice::Edition,
+                    Choice::From,
+                    Choice::Pages,
+                    Choice::Quiet,
+                    Choice::Stdout,
+                ],
+            ),
+            Command::Look => arguments::find_options(
+                rt,
+                out,
+                &[
+                    Choice::Mark,
+                    Choice::Edition,
+                    Choice::From,
+                    Choice::Pages,
+                    Choice::Quiet,
+                ],
+            ),
+            Command::Salvage => arguments::find_options(
+                rt,
+                out,
+                &[
+                    Choice::Mark,
+                    Choice::Edition,
+                    Choice::From,
+                    Choice::Pages,
+                    Choice::Quiet,
+                    Choice::Raw,
+                ],
+            ),
+        }
     }
-    outputs(rt, out, asked, page);
-}
 
-// The options that a command may have.
-fn allowed(command: Command) -> u16 {
-    let all = arguments::MARK + arguments::EDITION + arguments::RANGE + arguments::QUIET;
-    match command {
-        Command::Read => all + arguments::STDOUT,
-        Command::Look => all,
-        Command::Salvage => all + arguments::RAW,
+    // How many arguments the command takes.
+    fn arguments(self) -> usize {
+        match self {
+            Command::Read => 5,
+            Command::Look => 3,
+            Command::Salvage => 6,
+        }
     }
-}
 
-// Whether a command has as many arguments as it takes; an error is printed where not.
-fn are_enough<R: System>(rt: &R, out: &mut [u8; 32768], command: Command, at: usize) -> bool {
-    match command {
-        Command::Read => arguments::are(
-            rt,
-            out,
-            at,
-            5,
-            b"usage: nandpage read [--edition N] [--mark WORD2] [--from N] [--pages M] [--quiet] [--stdout] WORD0 WORD1 PAGE METADATA DATA",
-        ),
-        Command::Look => arguments::are(
-            rt,
-            out,
-            at,
-            3,
-            b"usage: nandpage look [--edition N] [--mark WORD2] [--from N] [--pages M] [--quiet] WORD0 WORD1 PAGE",
-        ),
-        Command::Salvage => arguments::are(
-            rt,
-            out,
-            at,
-            6,
-            b"usage: nandpage salvage [--edition N] [--mark WORD2] [--raw] [--from N] [--pages M] [--quiet] WORD0 WORD1 PAGE METADATA DATA LIST",
-        ),
+    fn usage(self) -> &'static str {
+        match self {
+            Command::Read => {
+                "usage: nandpage read [--edition N] [--mark WORD2] [--from N] [--pages M] [--quiet] [--stdout] WORD0 WORD1 PAGE METADATA DATA"
+            }
+            Command::Look => {
+                "usage: nandpage look [--edition N] [--mark WORD2] [--from N] [--pages M] [--quiet] WORD0 WORD1 PAGE"
+            }
+            Command::Salvage => {
+                "usage: nandpage salvage [--edition N] [--mark WORD2] [--raw] [--from N] [--pages M] [--quiet] WORD0 WORD1 PAGE METADATA DATA LIST"
+            }
+        }
     }
-}
 
-fn run<R: System>(rt: &R, out: &mut [u8; 32768], command: Command) {
-    let options = arguments::find_options(rt, out, allowed(command));
-    if !options.good {
-        return;
+    // Runs the command: none where an error was printed.
+    fn run<R: System>(self, rt: &R, out: &mut Answer) -> Option<()> {
+        let options = self.options(rt, out)?;
+        if !arguments::are(rt, out, options.at, self.arguments(), self.usage()) {
+            return None;
+        }
+        let asked = Asked {
+            command: self,
+            options,
+            planned: plans::plan_of_words(rt, out, options)?,
+        };
+        run_asked(rt, out, asked)
     }
-    if !are_enough(rt, out, command, options.at) {
-        return;
-    }
-    let Planned::Under { words, plan } = plans::plan_of_words(rt, out, options) else {
-        return;
-    };
-    paths(
-        rt,
-        out,
-        Asked {
-            command: command,
-            options: options,
-            words: words,
-            plan: plan,
-        },
-    );
 }
 
 // nandpage read [--edition N] [--mark WORD2] [--from N] [--pages M] [--quiet] [--stdout] WORD0 WORD1 PAGE METADATA DATA
-pub fn read<R: System>(rt: &R, out: &mut [u8; 32768]) {
-    run(rt, out, Command::Read);
+pub fn read<R: System>(rt: &R, out: &mut Answer) {
+    let _ = Command::Read.run(rt, out);
 }
 
 // nandpage look [--edition N] [--mark WORD2] [--from N] [--pages M] [--quiet] WORD0 WORD1 PAGE
-pub fn look<R: System>(rt: &R, out: &mut [u8; 32768]) {
-    run(rt, out, Command::Look);
+pub fn look<R: System>(rt: &R, out: &mut Answer) {
+    let _ = Command::Look.run(rt, out);
 }
 
 // nandpage salvage [--edition N] [--mark WORD2] [--raw] [--from N] [--pages M] [--quiet] WORD0 WORD1 PAGE METADATA DATA LIST
-pub fn salvage<R: System>(rt: &R, out: &mut [u8; 32768]) {
-    run(rt, out, Command::Salvage);
+pub fn salvage<R: System>(rt: &R, out: &mut Answer) {
+    let _ = Command::Salvage.run(rt, out);
 }

@@ -5,36 +5,25 @@
 // in place of every ruined block, and then the messages of these are put. That the counts of the other blocks are as they were is looked
 // at once more.
 use crate::reading;
-use crate::reading::Answer;
 use read_totals::Run;
+use replies::Refusal;
 
-// Reads the page with ones in place of the ruined blocks: whether that gave the same counts of the others.
-fn read_others(
-    run: Run<'_>,
-    page: &[u8],
-    metadata: &mut [u8],
-    data: &mut [u8],
-    counts: &[u8; 256],
-) -> bool {
-    let mut again = [0u8; 256];
-    match reading::read_into(run, true, page, metadata, data, &mut again) {
-        Answer::Done => salvage::are_same(counts, &again),
-        Answer::Refused(_) => false,
-    }
-}
-
-// Puts the messages of the blocks that are not ruined to the front of metadata and data, and says whether that is done.
+// Puts the messages of the blocks that are not ruined to the front of metadata and data, and says whether they have the same counts as before.
 fn put_others(
     run: Run<'_>,
     page: &[u8],
     metadata: &mut [u8],
     data: &mut [u8],
-    counts: &[u8; 256],
-) -> bool {
-    let n = page.len();
-    let mut work = text::large_buffer();
-    salvage::covered(run.plan, page, text::front_mut(&mut work, n), counts);
-    read_others(run, text::front(&work, n), metadata, data, counts)
+    counts: &[u8],
+) -> Result<bool, Refusal> {
+    let mut work = text::buffer::<65536>();
+    let work = text::front_mut(&mut work, page.len());
+    salvage::covered(run.plan, page, work, counts);
+    let mut again = [0u8; 256];
+    let again = text::front_mut(&mut again, counts.len());
+    reading::look(run, work, again)?;
+    reading::take(run, work, metadata, data)?;
+    Ok(salvage::are_same(counts, again))
 }
 
 // Puts what can be saved of a page with these counts to the front of metadata and data, and says whether that is done.
@@ -43,18 +32,17 @@ pub fn salvage(
     page: &[u8],
     metadata: &mut [u8],
     data: &mut [u8],
-    counts: &[u8; 256],
+    counts: &[u8],
 ) -> bool {
-    if !put_others(run, page, metadata, data, counts) {
-        return false;
+    let done = put_others(run, page, metadata, data, counts).unwrap_or(false);
+    if done {
+        salvage::put_all(
+            run.plan,
+            run.raw.then_some(page),
+            text::front_mut(metadata, run.plan.metadata as usize),
+            text::front_mut(data, run.plan.data as usize),
+            counts,
+        );
     }
-    salvage::put_all(
-        run.plan,
-        run.raw,
-        page,
-        text::front_mut(metadata, run.plan.metadata as usize),
-        text::front_mut(data, run.plan.data as usize),
-        counts,
-    );
-    true
+    done
 }
