@@ -1,28 +1,28 @@
 // The command.
+use crate::lines::Format;
 use crate::{lines, running};
-use arguments::{Options, Words};
+use arguments::{Choice, Options};
 use compare_totals::{Failed, Run};
-use layout::Acceptance;
 use layout_plan::Plan;
+use say::Answer;
 use streams::{Source, System};
 
 fn run_of<'a, R: System>(
     rt: &R,
-    options: Options,
+    options: &Options,
     plan: Plan,
     first: Source<'a>,
     second: Source<'a>,
 ) -> Run<'a> {
     Run {
-        first: first,
-        second: second,
-        edition: options.edition,
-        from: options.from,
-        most: options.pages,
+        first,
+        second,
+        from: options.from(),
+        most: options.pages(),
         known: dump_progress::known(
             files::pages_left(rt, first, plan.size),
-            options.from,
-            options.pages,
+            options.from(),
+            options.pages(),
         ),
         began: dump_progress::seconds(rt),
         quiet: options.quiet,
@@ -30,180 +30,88 @@ fn run_of<'a, R: System>(
     }
 }
 
-// Whether files are taken as dumps however long they are.
-fn is_dump(options: Options) -> bool {
-    if options.map {
-        return true;
-    }
-    options.ranged
-}
-
-fn failed<R: System>(rt: &R, out: &mut [u8; 32768], failed: Failed, first: &[u8], second: &[u8]) {
-    match failed {
-        Failed::Nothing => (),
-        Failed::First(error) => say::bad_file(rt, out, first, error),
-        Failed::Second(error) => say::bad_file(rt, out, second, error),
-    }
-}
-
-fn compare_opened<R: System>(
-    rt: &R,
-    out: &mut [u8; 32768],
-    options: Options,
-    record: &[u8],
-    plan: Plan,
-    first: &[u8],
-    second: &[u8],
-    a: Source<'_>,
-    b: Source<'_>,
-) {
-    let run = run_of(rt, options, plan, a, b);
-    let totals = running::compare_files(rt, out, run, record, plan, is_dump(options));
-    let what = totals.failed;
-    failed(rt, out, what, first, second);
-}
-
+// Compares two files, or maps the first where there is no second: none where an error of a file that is opened was printed. With a map and with
+// a range they are taken as dumps however long they are.
 fn compare_paths<R: System>(
     rt: &R,
-    out: &mut [u8; 32768],
-    options: Options,
-    record: &[u8],
-    plan: Plan,
+    out: &mut Answer,
+    options: &Options,
+    format: Format<'_>,
     first: &[u8],
-    second: &[u8],
-) {
-    let Some(a) = files::input(rt, out, first) else {
-        return;
+    second: Option<&[u8]>,
+) -> Option<()> {
+    let a = files::input(rt, out, first)?;
+    let b = match second {
+        Some(path) => files::input(rt, out, path)?,
+        None => files::Reading::Nothing,
     };
-    let Some(b) = files::input(rt, out, second) else {
-        return;
-    };
-    let (x, y) = (files::source(&a), files::source(&b));
-    compare_opened(rt, out, options, record, plan, first, second, x, y);
-    files::close_input(a);
-    files::close_input(b);
-}
-
-fn compare_two<R: System>(
-    rt: &R,
-    out: &mut [u8; 32768],
-    options: Options,
-    record: &[u8],
-    plan: Plan,
-    first: &[u8],
-) {
-    let mut buffer = text::buffer();
-    let given = rt.arg(arguments::place(options.at, 3), &mut buffer);
-    if !arguments::whole(rt, out, given, b"SECOND") {
-        return;
-    }
-    let second = text::front(&buffer, given.unwrap_or(0));
-    if files::is_dash(first) {
-        if files::is_dash(second) {
-            say::error(rt, out, b"only one of FIRST and SECOND is a dash");
-            return;
-        }
-    }
-    compare_paths(rt, out, options, record, plan, first, second);
-}
-
-// The map of one dump.
-fn map_one<R: System>(
-    rt: &R,
-    out: &mut [u8; 32768],
-    options: Options,
-    record: &[u8],
-    plan: Plan,
-    first: &[u8],
-) {
-    let Some(a) = files::input(rt, out, first) else {
-        return;
-    };
-    let x = files::source(&a);
-    compare_opened(
+    let run = run_of(
         rt,
-        out,
         options,
-        record,
-        plan,
-        first,
-        b"",
-        x,
-        Source::Nothing,
+        format.plan,
+        files::source(&a),
+        files::source(&b),
     );
-    files::close_input(a);
+    let dump = options.map || options.is_ranged();
+    match running::compare_files(rt, out, run, format, dump) {
+        Ok(()) => (),
+        Err(Failed::First(error)) => out.bad_file(rt, first, error),
+        Err(Failed::Second(error)) => out.bad_file(rt, second.unwrap_or(b""), error),
+    }
+    Some(())
 }
 
+// Compares the files that the arguments name, `one` of them where the map of one dump is asked for: none where an error was printed.
 fn compare_under<R: System>(
     rt: &R,
-    out: &mut [u8; 32768],
-    options: Options,
-    record: &[u8],
-    plan: Plan,
+    out: &mut Answer,
+    options: &Options,
+    format: Format<'_>,
     one: bool,
-) {
-    let mut buffer = text::buffer();
-    let given = rt.arg(arguments::place(options.at, 2), &mut buffer);
-    if !arguments::whole(rt, out, given, b"FIRST") {
-        return;
-    }
-    let first = text::front(&buffer, given.unwrap_or(0));
+) -> Option<()> {
+    let mut buffer = text::buffer::<4096>();
+    let first = arguments::given(rt, out, options.place(2), "FIRST", &mut buffer)?;
     if one {
-        map_one(rt, out, options, record, plan, first);
-    } else {
-        compare_two(rt, out, options, record, plan, first);
+        return compare_paths(rt, out, options, format, first, None);
     }
+    let mut buffer = text::buffer::<4096>();
+    let second = arguments::given(rt, out, options.place(3), "SECOND", &mut buffer)?;
+    if files::is_dash(first) && files::is_dash(second) {
+        out.error(rt, "only one of FIRST and SECOND is a dash");
+        return None;
+    }
+    compare_paths(rt, out, options, format, first, Some(second))
 }
 
-// Whether the map of one dump is asked for.
-fn is_one<R: System>(rt: &R, options: Options) -> bool {
-    if !options.map {
-        return false;
+// Runs the command by its arguments: none where an error was printed.
+fn try_compare<R: System>(rt: &R, out: &mut Answer) -> Option<()> {
+    let allowed = [
+        Choice::Mark,
+        Choice::Edition,
+        Choice::From,
+        Choice::Pages,
+        Choice::Quiet,
+        Choice::Map,
+    ];
+    let options = arguments::find_options(rt, out, &allowed)?;
+    let one = options.map && arguments::count(rt) == options.place(3);
+    let usage =
+        "usage: nandpage compare [--edition N] [--mark WORD2] [--from N] [--pages M] [--quiet] [--map] WORD0 WORD1 FIRST SECOND";
+    if !one && !arguments::are(rt, out, options.at, 4, usage) {
+        return None;
     }
-    arguments::count(rt) == arguments::place(options.at, 3)
-}
-
-// Compares under the layout words of the arguments.
-fn compare_by_words<R: System>(rt: &R, out: &mut [u8; 32768], options: Options, one: bool) {
-    let Words::Are(words) = arguments::layout_words(rt, out, options) else {
-        return;
-    };
-    let record = arguments::record_of(words);
-    match layout::check_layout(words.edition, &record) {
-        Acceptance::Accepted(l) => compare_under(
-            rt,
-            out,
-            options,
-            &record,
-            layout_plan::plan_of(l),
-            one,
-        ),
-        Acceptance::Refused(refusal) => { lines::refused(out, layout::refusal_reply(refusal)) }
+    let words = options.layout_words(rt, out)?;
+    match Format::new(words.edition, &words.record()) {
+        Ok(format) => compare_under(rt, out, &options, format, one),
+        Err(refusal) => {
+            lines::refused(out, refusal);
+            None
+        }
     }
 }
 
 // nandpage compare [--edition N] [--mark WORD2] [--from N] [--pages M] [--quiet] WORD0 WORD1 FIRST SECOND
 // nandpage compare --map [--edition N] [--mark WORD2] [--from N] [--pages M] WORD0 WORD1 FIRST [SECOND]
-pub fn compare<R: System>(rt: &R, out: &mut [u8; 32768]) {
-    let options = arguments::find_options(
-        rt,
-        out,
-        arguments::MARK + arguments::EDITION + arguments::RANGE + arguments::QUIET + arguments::MAP,
-    );
-    if !options.good {
-        return;
-    }
-    let one = is_one(rt, options);
-    if !one {
-        if !arguments::are(
-            rt,
-            out,
-            options.at,
-            4,
-            b"usage: nandpage compare [--edition N] [--mark WORD2] [--from N] [--pages M] [--quiet] [--map] WORD0 WORD1 FIRST SECOND",
-        ) {
-            return;
-        }
-    }
-    compare_by_words(rt, out, options, one);
+pub fn compare<R: System>(rt: &R, out: &mut Answer) {
+    let _ = try_compare(rt, out);
 }

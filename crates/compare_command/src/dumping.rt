@@ -1,102 +1,78 @@
 // The pages of two dumps, one after the other.
+use crate::lines::{Format, Pair};
 use crate::paging;
 use compare_totals::{Failed, Run, Totals};
 use layout_plan::Plan;
-use streams::{Filled, Source, System};
+use say::Answer;
+use std::io;
+use streams::{Source, System};
 
 // Fills the first bytes of a buffer; none where there is no file.
-pub fn fill(source: Source<'_>, buffer: &mut [u8], size: usize) -> Filled {
+fn fill(source: Source<'_>, buffer: &mut [u8], size: usize) -> io::Result<usize> {
     streams::fill(source, text::front_mut(buffer, size), 0)
 }
 
-fn progress<R: System>(rt: &R, plan: Plan, run: Run<'_>, totals: Totals) -> Totals {
-    if run.quiet {
-        return totals;
-    }
-    let mut t = totals;
-    t.shown = dump_progress::tell(
-        rt,
-        totals.pages,
-        run.known,
-        plan.size,
-        run.began,
-        totals.shown,
-    );
-    t
-}
-
-// The next page of both, of which so many bytes are there.
-fn filled<R: System>(
-    rt: &R,
-    out: &mut [u8; 32768],
+// Fills the first bytes of two buffers from the files: the bytes that are there.
+pub fn fill_both<'a>(
     run: Run<'_>,
-    record: &[u8],
-    plan: Plan,
-    totals: Totals,
-    first: &[u8; 65536],
-    second: &[u8; 65536],
-    n: usize,
-    m: usize,
-) -> Totals {
-    if n == 0 {
-        if m == 0 {
-            return compare_totals::ended(totals);
-        }
-    }
-    paging::page(
-        rt,
-        out,
-        run,
-        record,
-        plan,
-        totals,
-        text::front(first, n),
-        text::front(second, m),
-    )
+    first: &'a mut [u8],
+    second: &'a mut [u8],
+    size: usize,
+) -> Result<Pair<'a>, Failed> {
+    let n = fill(run.first, first, size).map_err(Failed::First)?;
+    let m = fill(run.second, second, size).map_err(Failed::Second)?;
+    Ok(Pair {
+        first: text::front(first, n),
+        second: text::front(second, m),
+    })
 }
 
+fn progress<R: System>(rt: &R, plan: Plan, run: Run<'_>, totals: &mut Totals) {
+    if !run.quiet {
+        totals.shown = dump_progress::tell(
+            rt,
+            totals.pages,
+            run.known,
+            plan.size,
+            run.began,
+            totals.shown,
+        );
+    }
+}
+
+// The next page of both: whether to go on.
 fn next<R: System>(
     rt: &R,
-    out: &mut [u8; 32768],
+    out: &mut Answer,
     run: Run<'_>,
-    record: &[u8],
-    plan: Plan,
-    totals: Totals,
-    first: &mut [u8; 65536],
-    second: &mut [u8; 65536],
-) -> Totals {
+    format: Format<'_>,
+    totals: &mut Totals,
+    first: &mut [u8],
+    second: &mut [u8],
+) -> Result<bool, Failed> {
     if run.most <= totals.pages {
-        return compare_totals::ended(totals);
+        return Ok(false);
     }
-    let n = match fill(run.first, first, plan.size as usize) {
-        Filled::Bytes(n) => n,
-        Filled::Failed(error) => return compare_totals::broken(totals, Failed::First(error)),
-    };
-    let m = match fill(run.second, second, plan.size as usize) {
-        Filled::Bytes(m) => m,
-        Filled::Failed(error) => return compare_totals::broken(totals, Failed::Second(error)),
-    };
-    filled(rt, out, run, record, plan, totals, first, second, n, m)
+    let pages = fill_both(run, first, second, format.plan.size as usize)?;
+    let ended = pages.first.is_empty() && pages.second.is_empty();
+    Ok(!ended && paging::page(rt, out, run, format, totals, pages))
 }
 
 // The pages of the dumps that are left.
 pub fn pages<R: System>(
     rt: &R,
-    out: &mut [u8; 32768],
+    out: &mut Answer,
     run: Run<'_>,
-    record: &[u8],
-    plan: Plan,
-    begun: Totals,
-    first: &mut [u8; 65536],
-    second: &mut [u8; 65536],
-) -> Totals {
-    let mut totals = begun;
+    format: Format<'_>,
+    totals: &mut Totals,
+    first: &mut [u8],
+    second: &mut [u8],
+) -> Result<(), Failed> {
     for _ in 0..u64::MAX {
-        if !totals.more {
+        progress(rt, format.plan, run, totals);
+        if !next(rt, out, run, format, totals, first, second)? {
             break;
         }
-        totals = progress(rt, plan, run, totals);
-        totals = next(rt, out, run, record, plan, totals, first, second);
     }
-    totals
+    Ok(())
 }

@@ -1,6 +1,6 @@
 // The command compare of the tool (document 02, E10).
 //
-//   lines.rt       two pages: the counts of both, their report, or a refusal
+//   lines.rt       what pages are compared under, the counts of two pages, their report, or a refusal
 //   reporting.rt   the report: a line a block, and the positions at which the pages differ
 //   mapping.rt     a character a block: how much of its level is used up
 //   paging.rt      one page of each dump
@@ -20,4 +20,4 @@ mod reporting;
 mod running;
 
 pub use commands::compare;
-pub use lines::{pages, refused};
+pub use lines::{Format, Pair, refused, show};

@@ -1,182 +1,117 @@
 // One page of each dump.
+use crate::lines::{Format, Pair};
 use crate::{lines, mapping, reporting};
-use compare::{CompareAnswer, DifferenceAnswer};
 use compare_totals::{Run, Totals};
-use layout_plan::Plan;
-use page_look::LookAnswer;
-use replies::{Refusal, refusal_number};
+use replies::Refusal;
+use say::Answer;
 use streams::{Source, System};
 
-// A page that is refused ends the run.
-fn refused(out: &mut [u8; 32768], totals: Totals, refusal: Refusal) -> Totals {
-    lines::refused(out, refusal_number(refusal));
-    compare_totals::ended(totals)
-}
-
 // The number of a page in the dumps.
-fn page_number(out: &mut [u8; 32768], run: Run<'_>, totals: Totals) {
-    say::fact(out, b"page ", text::plus(run.from, totals.pages), b"\n");
-}
-
-// A page of two dumps that differs, with the counts of its blocks.
-fn reported<R: System>(
-    rt: &R,
-    out: &mut [u8; 32768],
-    run: Run<'_>,
-    record: &[u8],
-    plan: Plan,
-    totals: Totals,
-    first: &[u8],
-    second: &[u8],
-    a: &[u8; 256],
-    b: &[u8; 256],
-) -> Totals {
-    if !run.quiet {
-        page_number(out, run, totals);
-        reporting::report(rt, out, run.edition, record, plan, first, second, a, b);
-    }
-    compare_totals::differing(totals, plan.blocks, a, b)
+fn page_number(out: &mut Answer, run: Run<'_>, totals: &Totals) {
+    out.put(format_args!("page {}\n", text::plus(run.from, totals.pages)));
 }
 
 // A page of two dumps that differs.
 fn differs<R: System>(
     rt: &R,
-    out: &mut [u8; 32768],
+    out: &mut Answer,
     run: Run<'_>,
-    record: &[u8],
-    plan: Plan,
-    totals: Totals,
-    first: &[u8],
-    second: &[u8],
-) -> Totals {
-    let mut a = [0u8; 256];
-    let mut b = [0u8; 256];
-    match lines::counts_of(run.edition, record, plan, first, second, &mut a, &mut b) {
-        CompareAnswer::Done => {
-            reported(rt, out, run, record, plan, totals, first, second, &a, &b)
-        }
-        CompareAnswer::Refused(refusal) => refused(out, totals, refusal),
+    format: Format<'_>,
+    totals: &mut Totals,
+    pages: Pair<'_>,
+) -> Result<(), Refusal> {
+    let counts = format.compare(pages)?;
+    if !run.quiet {
+        page_number(out, run, totals);
+        reporting::report(rt, out, format, pages, &counts);
     }
+    totals.differed(format.blocks(&counts.first), format.blocks(&counts.second));
+    Ok(())
 }
 
 // A page of two dumps. Only one that differs has its blocks decided.
 fn compared<R: System>(
     rt: &R,
-    out: &mut [u8; 32768],
+    out: &mut Answer,
     run: Run<'_>,
-    record: &[u8],
-    plan: Plan,
-    totals: Totals,
-    first: &[u8],
-    second: &[u8],
-) -> Totals {
-    match compare::next_difference(run.edition, record, first, second, 0) {
-        DifferenceAnswer::At(_) => differs(rt, out, run, record, plan, totals, first, second),
-        DifferenceAnswer::Alike => compare_totals::passed(totals),
-        DifferenceAnswer::Refused(refusal) => {
-            page_number(out, run, totals);
-            refused(out, totals, refusal)
+    format: Format<'_>,
+    totals: &mut Totals,
+    pages: Pair<'_>,
+) -> Result<(), Refusal> {
+    match format.next_difference(pages, 0) {
+        Ok(Some(_)) => differs(rt, out, run, format, totals, pages),
+        Ok(None) => {
+            totals.passed();
+            Ok(())
         }
-    }
-}
-
-fn mapped<R: System>(
-    rt: &R,
-    out: &mut [u8; 32768],
-    plan: Plan,
-    totals: Totals,
-    counts: &[u8; 256],
-) -> Totals {
-    mapping::map(out, plan, counts);
-    say::put(out, b"\n");
-    say::flush(rt, out);
-    compare_totals::passed(totals)
-}
-
-// The map of a page of one dump, which is not too large.
-fn map_page<R: System>(
-    rt: &R,
-    out: &mut [u8; 32768],
-    run: Run<'_>,
-    record: &[u8],
-    plan: Plan,
-    totals: Totals,
-    page: &[u8],
-) -> Totals {
-    let mut counts = [0u8; 256];
-    match page_look::look_page(
-        run.edition,
-        record,
-        page,
-        text::front_mut(&mut counts, plan.blocks as usize),
-    ) {
-        LookAnswer::Done => mapped(rt, out, plan, totals, &counts),
-        LookAnswer::Refused(refusal) => {
-            let Refusal::Uncorrectable(_) = refusal else {
-                return refused(out, totals, refusal);
-            };
-            mapped(rt, out, plan, totals, &counts)
+        Err(refusal) => {
+            page_number(out, run, totals);
+            Err(refusal)
         }
     }
 }
 
 // The map of a page of one dump, with the replies of a comparison.
-fn map_one<R: System>(
-    rt: &R,
-    out: &mut [u8; 32768],
-    run: Run<'_>,
-    record: &[u8],
-    plan: Plan,
-    totals: Totals,
-    page: &[u8],
-) -> Totals {
-    if page.len() == plan.size as usize {
-        if 16384 < plan.size {
-            return refused(out, totals, Refusal::BufferLength);
-        }
+fn map_one(out: &mut Answer, format: Format<'_>, page: &[u8]) -> Result<(), Refusal> {
+    let plan = format.plan;
+    if page.len() == plan.size as usize && 16384 < plan.size {
+        return Err(Refusal::BufferLength);
     }
-    map_page(rt, out, run, record, plan, totals, page)
+    let mut counts = [0u8; 256];
+    match format.look(page, &mut counts) {
+        Ok(()) | Err(Refusal::Uncorrectable(_)) => {
+            mapping::map(out, plan, &counts);
+            Ok(())
+        }
+        Err(refusal) => Err(refusal),
+    }
 }
 
 // The maps of a page of two dumps, beside each other.
-fn map_two<R: System>(
-    rt: &R,
-    out: &mut [u8; 32768],
-    run: Run<'_>,
-    record: &[u8],
-    plan: Plan,
-    totals: Totals,
-    first: &[u8],
-    second: &[u8],
-) -> Totals {
-    let mut a = [0u8; 256];
-    let mut b = [0u8; 256];
-    match lines::counts_of(run.edition, record, plan, first, second, &mut a, &mut b) {
-        CompareAnswer::Done => {
-            mapping::map(out, plan, &a);
-            say::put(out, b" ");
-            mapped(rt, out, plan, totals, &b)
-        }
-        CompareAnswer::Refused(refusal) => refused(out, totals, refusal),
-    }
+fn map_two(out: &mut Answer, format: Format<'_>, pages: Pair<'_>) -> Result<(), Refusal> {
+    let counts = format.compare(pages)?;
+    mapping::map(out, format.plan, &counts.first);
+    out.put(" ");
+    mapping::map(out, format.plan, &counts.second);
+    Ok(())
 }
 
-// The next page of the dumps.
+// The map of the next page of a dump, or of two dumps.
+fn mapped<R: System>(
+    rt: &R,
+    out: &mut Answer,
+    run: Run<'_>,
+    format: Format<'_>,
+    totals: &mut Totals,
+    pages: Pair<'_>,
+) -> Result<(), Refusal> {
+    if let Source::Nothing = run.second {
+        map_one(out, format, pages.first)?;
+    } else {
+        map_two(out, format, pages)?;
+    }
+    out.put("\n");
+    out.flush(rt);
+    totals.passed();
+    Ok(())
+}
+
+// The next page of the dumps: whether to go on. A page that is refused ends the run.
 pub fn page<R: System>(
     rt: &R,
-    out: &mut [u8; 32768],
+    out: &mut Answer,
     run: Run<'_>,
-    record: &[u8],
-    plan: Plan,
-    totals: Totals,
-    first: &[u8],
-    second: &[u8],
-) -> Totals {
-    if !run.map {
-        return compared(rt, out, run, record, plan, totals, first, second);
+    format: Format<'_>,
+    totals: &mut Totals,
+    pages: Pair<'_>,
+) -> bool {
+    let done = if run.map {
+        mapped(rt, out, run, format, totals, pages)
+    } else {
+        compared(rt, out, run, format, totals, pages)
+    };
+    if let Err(refusal) = done {
+        lines::refused(out, refusal);
     }
-    if let Source::Nothing = run.second {
-        return map_one(rt, out, run, record, plan, totals, first);
-    }
-    map_two(rt, out, run, record, plan, totals, first, second)
+    done.is_ok()
 }

@@ -1,9 +1,10 @@
 // Two files: of one page each, or two dumps of many.
+use crate::lines::{Format, Pair};
 use crate::{dumping, lines, paging};
 use compare_totals::{Failed, Run, Totals};
-use files::Passed;
-use layout_plan::Plan;
-use streams::{Filled, Source, System};
+use say::Answer;
+use std::io;
+use streams::{Source, System};
 
 // How much of a file is read before it is known whether it is a dump, which has at least two pages. One whose pages are too large to be compared
 // is none.
@@ -15,190 +16,140 @@ fn probe(size: u16) -> usize {
 }
 
 fn is_dump(size: u16, n: usize) -> bool {
-    if 16384 < size {
-        return false;
-    }
-    n == 2 * size as usize
+    size <= 16384 && n == 2 * size as usize
 }
 
-// What stands after the first n bytes.
-fn behind(bytes: &[u8], n: usize) -> &[u8] {
-    if bytes.len() < n {
-        return bytes;
-    }
-    &bytes[n..]
-}
-
-// The first two pages of two dumps.
+// The first two pages of two dumps: whether to go on.
 fn first_two<R: System>(
     rt: &R,
-    out: &mut [u8; 32768],
+    out: &mut Answer,
     run: Run<'_>,
-    record: &[u8],
-    plan: Plan,
-    first: &[u8; 65536],
-    second: &[u8; 65536],
-) -> Totals {
-    let size = plan.size as usize;
-    let begun = paging::page(
-        rt,
-        out,
-        run,
-        record,
-        plan,
-        compare_totals::start(run.began),
-        text::front(first, size),
-        text::front(second, size),
-    );
-    if !begun.more {
-        return begun;
-    }
+    format: Format<'_>,
+    totals: &mut Totals,
+    read: Pair<'_>,
+) -> bool {
+    let size = format.plan.size as usize;
+    let (a, c) = halves(read.first, size);
+    let (b, d) = halves(read.second, size);
     paging::page(
         rt,
         out,
         run,
-        record,
-        plan,
-        begun,
-        text::front(behind(first, size), size),
-        text::front(behind(second, size), size),
+        format,
+        totals,
+        Pair {
+            first: a,
+            second: b,
+        },
+    ) && paging::page(
+        rt,
+        out,
+        run,
+        format,
+        totals,
+        Pair {
+            first: c,
+            second: d,
+        },
     )
 }
 
-// Two files of which so many bytes are there.
-fn probed<R: System>(
-    rt: &R,
-    out: &mut [u8; 32768],
-    run: Run<'_>,
-    record: &[u8],
-    plan: Plan,
-    first: &mut [u8; 65536],
-    second: &mut [u8; 65536],
-    n: usize,
-    m: usize,
-) -> Totals {
-    if is_dump(plan.size, n) {
-        if is_dump(plan.size, m) {
-            let begun = first_two(rt, out, run, record, plan, first, second);
-            let all = dumping::pages(rt, out, run, record, plan, begun, first, second);
-            compare_totals::summary(out, all);
-            return all;
-        }
-    }
-    lines::pages(
-        rt,
-        out,
-        run.edition,
-        record,
-        plan,
-        text::front(first, n),
-        text::front(second, m),
-    );
-    compare_totals::start(run.began)
+// The first n bytes, and what stands after them.
+fn halves(bytes: &[u8], n: usize) -> (&[u8], &[u8]) {
+    bytes.split_at(bytes.len().min(n))
 }
 
+// Two files: dumps, or as many bytes of pages as there are.
 fn whole<R: System>(
     rt: &R,
-    out: &mut [u8; 32768],
+    out: &mut Answer,
     run: Run<'_>,
-    record: &[u8],
-    plan: Plan,
-    first: &mut [u8; 65536],
-    second: &mut [u8; 65536],
-) -> Totals {
-    let start = compare_totals::start(run.began);
-    let most = probe(plan.size);
-    let n = match dumping::fill(run.first, first, most) {
-        Filled::Bytes(n) => n,
-        Filled::Failed(error) => return compare_totals::broken(start, Failed::First(error)),
-    };
-    let m = match dumping::fill(run.second, second, most) {
-        Filled::Bytes(m) => m,
-        Filled::Failed(error) => return compare_totals::broken(start, Failed::Second(error)),
-    };
-    probed(rt, out, run, record, plan, first, second, n, m)
+    format: Format<'_>,
+    first: &mut [u8],
+    second: &mut [u8],
+) -> Result<(), Failed> {
+    let size = format.plan.size;
+    let read = dumping::fill_both(run, first, second, probe(size))?;
+    if !is_dump(size, read.first.len()) || !is_dump(size, read.second.len()) {
+        lines::show(rt, out, format, read);
+        return Ok(());
+    }
+    let mut totals = Totals::start(run.began);
+    let mut ended = Ok(());
+    if first_two(rt, out, run, format, &mut totals, read) {
+        ended = dumping::pages(rt, out, run, format, &mut totals, first, second);
+    }
+    totals.summary(out);
+    ended
 }
 
-// Passes over the pages before the first that is asked for.
+// Passes over the pages before the first that is asked for: whether there are so many and more.
 fn pass<R: System>(
     rt: &R,
     run: Run<'_>,
-    plan: Plan,
+    size: u16,
     source: Source<'_>,
     page: &mut [u8],
-) -> Passed {
+) -> io::Result<bool> {
     if let Source::Nothing = source {
-        return Passed::All;
+        return Ok(true);
     }
     files::pass(
         rt,
         source,
-        text::front_mut(page, plan.size as usize),
-        plan.size,
+        text::front_mut(page, size as usize),
+        size,
         run.from,
     )
 }
 
-fn no_page<R: System>(rt: &R, out: &mut [u8; 32768], totals: Totals) -> Totals {
-    say::error(rt, out, b"a dump has no such page");
-    compare_totals::ended(totals)
-}
-
-// The pages of the second dump before the first that is asked for, where those of the first were passed over.
-fn range_second<R: System>(
+// Passes over the pages of both dumps before the first that is asked for: whether there are so many and more.
+fn pass_both<R: System>(
     rt: &R,
-    out: &mut [u8; 32768],
     run: Run<'_>,
-    record: &[u8],
-    plan: Plan,
-    first: &mut [u8; 65536],
-    second: &mut [u8; 65536],
-) -> Totals {
-    let start = compare_totals::start(run.began);
-    match pass(rt, run, plan, run.second, second) {
-        Passed::All => {
-            let all = dumping::pages(rt, out, run, record, plan, start, first, second);
-            if !run.map {
-                compare_totals::summary(out, all);
-            }
-            all
-        }
-        Passed::Short => no_page(rt, out, start),
-        Passed::Failed(error) => compare_totals::broken(start, Failed::Second(error)),
-    }
+    size: u16,
+    first: &mut [u8],
+    second: &mut [u8],
+) -> Result<bool, Failed> {
+    Ok(
+        pass(rt, run, size, run.first, first).map_err(Failed::First)?
+            && pass(rt, run, size, run.second, second).map_err(Failed::Second)?,
+    )
 }
 
 // The pages of dumps that the options ask for, and the maps of all.
 fn range<R: System>(
     rt: &R,
-    out: &mut [u8; 32768],
+    out: &mut Answer,
     run: Run<'_>,
-    record: &[u8],
-    plan: Plan,
-    first: &mut [u8; 65536],
-    second: &mut [u8; 65536],
-) -> Totals {
-    let start = compare_totals::start(run.began);
-    match pass(rt, run, plan, run.first, first) {
-        Passed::All => range_second(rt, out, run, record, plan, first, second),
-        Passed::Short => no_page(rt, out, start),
-        Passed::Failed(error) => compare_totals::broken(start, Failed::First(error)),
+    format: Format<'_>,
+    first: &mut [u8],
+    second: &mut [u8],
+) -> Result<(), Failed> {
+    if !pass_both(rt, run, format.plan.size, first, second)? {
+        out.error(rt, "a dump has no such page");
+        return Ok(());
     }
+    let mut totals = Totals::start(run.began);
+    let ended = dumping::pages(rt, out, run, format, &mut totals, first, second);
+    if !run.map {
+        totals.summary(out);
+    }
+    ended
 }
 
 // Compares the files of a run: as dumps where `dump` says so, else as they turn out to be.
 pub fn compare_files<R: System>(
     rt: &R,
-    out: &mut [u8; 32768],
+    out: &mut Answer,
     run: Run<'_>,
-    record: &[u8],
-    plan: Plan,
+    format: Format<'_>,
     dump: bool,
-) -> Totals {
-    let mut first = text::large_buffer();
-    let mut second = text::large_buffer();
+) -> Result<(), Failed> {
+    let mut first = text::buffer::<65536>();
+    let mut second = text::buffer::<65536>();
     if dump {
-        return range(rt, out, run, record, plan, &mut first, &mut second);
+        return range(rt, out, run, format, &mut first, &mut second);
     }
-    whole(rt, out, run, record, plan, &mut first, &mut second)
+    whole(rt, out, run, format, &mut first, &mut second)
 }
