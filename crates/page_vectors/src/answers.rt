@@ -1,94 +1,46 @@
-// The reply of an answer, and a line that shows it.
-ghost use Rattle.std.specs.Prelude.{◌≡◌, length};
-
-use crate::buffers::put_buffer;
-use page_claim::ClaimAnswer;
-use page_judge::JudgeAnswer;
-use page_look::LookAnswer;
-use page_take::TakeAnswer;
-use page_write::WriteAnswer;
+// The lines that show the answers of calls: a reply and its block, and what the call gives.
+use crate::buffers::{filled, put_buffer};
 use replies::{Refusal, refusal_block, refusal_number};
 use streams::System;
 
-// A reply and its block.
-#[derive(Drop)]
-pub struct Reply {
-    pub number: u8,
-    pub block: u64,
+// The reply of a refusal, and its block.
+fn numbers(refusal: Refusal) -> [u64; 2] {
+    [
+        refusal_number(refusal) as u64,
+        refusal_block(refusal) as u64,
+    ]
 }
 
-fn plain(number: u8) -> Reply {
-    Reply {
-        number: number,
-        block: 0,
-    }
-}
-
-fn refused(refusal: Refusal) -> Reply {
-    let block = refusal_block(refusal);
-    Reply {
-        number: refusal_number(refusal),
-        block: block as u64,
-    }
-}
-
-// The reply of a write.
-pub fn of_write(answer: WriteAnswer) -> Reply {
-    plain(page_write::write_number(answer))
-}
-
-// The reply of a look.
-pub fn of_look(answer: LookAnswer) -> Reply {
+fn reply(answer: Result<(), Refusal>) -> [u64; 2] {
     match answer {
-        LookAnswer::Done => plain(0),
-        LookAnswer::Refused(refusal) => refused(refusal),
+        Ok(()) => [0, 0],
+        Err(refusal) => numbers(refusal),
     }
-}
-
-// The reply of a take.
-pub fn of_take(answer: TakeAnswer) -> Reply {
-    match answer {
-        TakeAnswer::Done => plain(0),
-        TakeAnswer::Refused(refusal) => refused(refusal),
-    }
-}
-
-fn show_reply<R: System + Input + Print>(rt: &R, reply: Reply) {
-    vector_io::show(rt, &[reply.number as u64, reply.block]);
 }
 
 // The line of a judgement: the reply, and the flip count where there is one.
-pub fn show_judge<R: System + Input + Print>(rt: &R, answer: JudgeAnswer) {
+pub fn show_judge<R: System + Input + Print>(rt: &R, answer: Result<u8, Refusal>) {
     match answer {
-        JudgeAnswer::Flips(flips) => vector_io::show(rt, &[0, 0, flips as u64]),
-        JudgeAnswer::Refused(refusal) => show_reply(rt, refused(refusal)),
+        Ok(flips) => vector_io::show(rt, &[0, 0, flips as u64]),
+        Err(refusal) => vector_io::show(rt, &numbers(refusal)),
     }
 }
 
 // The line of a claim.
-pub fn show_claim<R: System + Input + Print>(rt: &R, answer: ClaimAnswer) {
-    show_reply(rt, plain(page_claim::claim_number(answer)));
+pub fn show_claim<R: System + Input + Print>(rt: &R, answer: Result<(), Refusal>) {
+    vector_io::show(rt, &reply(answer));
 }
 
-fn empty() -> [u8; 131200]
-    ensures { 131200 ≡ length result }
-{
-    [0u8; 131200]
-}
-
-// A line of a reply and a buffer.
-pub fn show_buffer<R: System + Input + Print>(rt: &R, reply: Reply, bytes: &[u8]) {
-    let mut line = empty();
-    let at = vector_io::put_numbers(&mut line, 0, &[reply.number as u64, reply.block]);
-    let end = put_buffer(&mut line, at, bytes);
-    vector_io::write_line(rt, &line, end);
-}
-
-// A line of a reply and two buffers.
-pub fn show_buffers<R: System + Input + Print>(rt: &R, reply: Reply, first: &[u8], second: &[u8]) {
-    let mut line = empty();
-    let at = vector_io::put_numbers(&mut line, 0, &[reply.number as u64, reply.block]);
-    let middle = put_buffer(&mut line, at, first);
-    let end = put_buffer(&mut line, middle, second);
-    vector_io::write_line(rt, &line, end);
+// A line of a reply and of the buffers that the call may write.
+pub fn show_buffers<R: System + Input + Print>(
+    rt: &R,
+    answer: Result<(), Refusal>,
+    buffers: &[&[u8]],
+) {
+    let mut line = filled::<131200>(0);
+    let mut at = vector_io::put_numbers(&mut line, 0, &reply(answer));
+    for bytes in buffers {
+        at = put_buffer(&mut line, at, bytes);
+    }
+    vector_io::write_line(rt, &line, at);
 }

@@ -1,16 +1,18 @@
 // Buffers out of a vector and onto a line.
 ghost use Rattle.std.specs.Prelude.{◌≡◌, length};
 
-fn exponent(bytes: &[u8], i: usize) -> u16 {
-    let n = vector_io::number(bytes, i, 2) % 65536;
-    n as u16
+// As many bytes as are wanted, all alike.
+pub fn filled<const N: usize>(byte: u8) -> [u8; N]
+    ensures { N ≡ length result }
+{
+    [byte; N]
 }
 
-// The exponents of two bytes each.
+// The exponents of two bytes each; zeros after the last.
 pub fn exponents(bytes: &[u8]) -> [u16; 256] {
     let mut claims = [0u16; 256];
-    for i in 0..256 {
-        claims[i] = exponent(bytes, 2 * i);
+    for (claim, pair) in claims.iter_mut().zip(bytes.as_chunks::<2>().0) {
+        *claim = u16::from_be_bytes(*pair);
     }
     claims
 }
@@ -18,37 +20,18 @@ pub fn exponents(bytes: &[u8]) -> [u16; 256] {
 // A hexadecimal digit.
 fn digit(x: u8) -> u8 {
     let n = x % 16;
-    if n < 10 {
-        return n + 48;
-    }
-    n + 87
-}
-
-fn put_byte(line: &mut [u8], at: usize, byte: u8) -> usize {
-    let low_at = vector_io::put(line, at, digit(byte / 16));
-    vector_io::put(line, low_at, digit(byte))
-}
-
-fn put_digits(line: &mut [u8], at: usize, bytes: &[u8]) -> usize {
-    let mut p = at;
-    for x in bytes {
-        p = put_byte(line, p, *x);
-    }
-    p
+    if n < 10 { b'0' + n } else { b'a' + n - 10 }
 }
 
 // A buffer in hexadecimal after a space; a dash where it is empty.
 pub fn put_buffer(line: &mut [u8], at: usize, bytes: &[u8]) -> usize {
-    let p = vector_io::put(line, at, b' ');
-    if bytes.len() == 0 {
+    let mut p = vector_io::put(line, at, b' ');
+    if bytes.is_empty() {
         return vector_io::put(line, p, b'-');
     }
-    put_digits(line, p, bytes)
-}
-
-// A buffer that a call may write.
-pub fn large() -> [u8; 65536]
-    ensures { 65536 ≡ length result }
-{
-    [165u8; 65536]
+    for byte in bytes {
+        p = vector_io::put(line, p, digit(byte / 16));
+        p = vector_io::put(line, p, digit(*byte));
+    }
+    p
 }

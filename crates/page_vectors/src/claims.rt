@@ -1,32 +1,23 @@
 // Vectors that check claimed error locations.
-use crate::{answers, heads};
+use crate::heads::Head;
+use crate::{answers, buffers};
 use streams::System;
 
-fn claim_of<R: System + Input + Print>(rt: &R, head: &[u8], page: &[u8], claims: &[u16]) {
-    let block = vector_io::number(head, 32, 8);
-    let answer = page_claim::check_claim(
-        heads::edition(head),
-        heads::record(head),
-        page,
-        block,
-        claims,
-    );
-    answers::show_claim(rt, answer);
-}
-
 // Checks a claim, whose exponents follow the page: false where the input ends before them.
-pub fn claim<R: System + Input + Print>(rt: &R, head: &[u8], page: &[u8]) -> bool {
+pub fn claim<R: System + Input + Print>(rt: &R, head: Head<'_>, page: &[u8]) -> bool {
     let mut bytes = [0u8; 512];
-    let count = heads::length(head, 28) % 65536;
-    if !vector_io::fill(rt, text::front_mut(&mut bytes, 2 * count)) {
+    let count = head.length(28);
+    if !vector_io::fill(rt, text::front_mut(&mut bytes, count % 65536 * 2)) {
         return false;
     }
-    let claims = crate::buffers::exponents(&bytes);
-    claim_of(
-        rt,
-        head,
+    let exponents = buffers::exponents(&bytes);
+    let answer = page_claim::check_claim(
+        head.edition(),
+        head.record(),
         page,
-        text::front_exponents(&claims, heads::length(head, 28)),
+        head.block(),
+        text::front(&exponents, count),
     );
+    answers::show_claim(rt, answer);
     true
 }

@@ -1,19 +1,34 @@
 // What a head says.
 
-// The edition.
-pub fn edition(head: &[u8]) -> u64 {
-    vector_io::number(head, 2, 8)
+// The 40 bytes before the body of a vector.
+#[derive(Clone, Copy)]
+pub struct Head<'a> {
+    pub bytes: &'a [u8; 40],
 }
 
-// The length in four bytes.
-pub fn length(head: &[u8], at: usize) -> usize {
-    vector_io::number(head, at, 4) as usize
-}
-
-// The layout record.
-pub fn record(head: &[u8]) -> &[u8] {
-    if head.len() < 22 {
-        return head;
+impl<'a> Head<'a> {
+    // The kind of call.
+    pub fn kind(self) -> u8 {
+        self.bytes[0]
     }
-    text::front(&head[10..22], vector_io::byte(head, 1, 0) as usize % 13)
+
+    // The edition.
+    pub fn edition(self) -> u64 {
+        vector_io::number(self.bytes, 2, 8)
+    }
+
+    // The layout record.
+    pub fn record(self) -> &'a [u8] {
+        text::front(&self.bytes[10..22], self.bytes[1] as usize % 13)
+    }
+
+    // The length in four bytes.
+    pub fn length(self, at: usize) -> usize {
+        vector_io::number(self.bytes, at, 4) as usize
+    }
+
+    // The block of a judgement or of a claim.
+    pub fn block(self) -> u64 {
+        vector_io::number(self.bytes, 32, 8)
+    }
 }

@@ -30,11 +30,12 @@ mod takes;
 mod versions;
 mod writes;
 
-// Makes a call on the page of a vector: false where the input ends before the body does.
+use crate::heads::Head;
 use streams::System;
 
-fn call<R: System + Input + Print>(rt: &R, head: &[u8], page: &[u8]) -> bool {
-    match vector_io::byte(head, 0, 0) {
+// Makes a call on the page of a vector: false where the input ends before the body does.
+fn call<R: System + Input + Print>(rt: &R, head: Head<'_>, page: &[u8]) -> bool {
+    match head.kind() {
         b'L' => looks::look(rt, head, page),
         b'T' => takes::take(rt, head, page),
         b'J' => judges::judge(rt, head, page),
@@ -43,22 +44,22 @@ fn call<R: System + Input + Print>(rt: &R, head: &[u8], page: &[u8]) -> bool {
 }
 
 // Reads the page of a vector, and makes the call.
-fn call_on_page<R: System + Input + Print>(rt: &R, head: &[u8]) -> bool {
-    let mut page = text::large_buffer();
-    let size = heads::length(head, 24);
-    if !vector_io::fill(rt, text::front_mut(&mut page, size)) {
-        return false;
-    }
-    call(rt, head, text::front(&page, size))
+fn call_on_page<R: System + Input + Print>(rt: &R, head: Head<'_>) -> bool {
+    let mut page = text::buffer::<65536>();
+    let page = text::front_mut(&mut page, head.length(24));
+    vector_io::fill(rt, page) && call(rt, head, page)
 }
 
 // Answers the vector of a head: false where the input ends before it, and where it has the other vectors.
-fn answer<R: System + Input + Print>(rt: &R, head: &[u8]) -> bool {
-    match vector_io::byte(head, 0, 0) {
+fn answer<R: System + Input + Print>(rt: &R, head: Head<'_>) -> bool {
+    match head.kind() {
         b'W' => writes::write(rt, head),
         b'R' => compares::answer(rt, head),
         b'V' => versions::run(rt),
-        b'K' => sector_lines::run(rt),
+        b'K' => {
+            sector_lines::run(rt);
+            false
+        }
         _ => call_on_page(rt, head),
     }
 }
@@ -66,10 +67,7 @@ fn answer<R: System + Input + Print>(rt: &R, head: &[u8]) -> bool {
 // Answers the next vector: false where there is none.
 fn next_vector<R: System + Input + Print>(rt: &R) -> bool {
     let mut head = [0u8; 40];
-    if !vector_io::fill(rt, &mut head) {
-        return false;
-    }
-    answer(rt, &head)
+    vector_io::fill(rt, &mut head) && answer(rt, Head { bytes: &head })
 }
 
 fn main(rt: HostRuntime) {

@@ -36,61 +36,62 @@ use streams::System;
 
 // Answers a line of the input.
 fn answer_line<R: System + Input + Print>(rt: &R, words: &[u8]) {
-    if !calls::answer(rt, words) {
+    if calls::answer(rt, words).is_none() {
         vector_io::write_line(rt, b"?", 1);
     }
 }
 
-// Answers the line whose first `at` characters are in the buffer; one that fills it may be cut short, and is no call.
-fn end_line<R: System + Input + Print>(rt: &R, input: &[u8], at: usize) {
-    if at < input.len() {
-        return answer_line(rt, text::front(input, at));
-    }
-    answer_line(rt, b"");
+// What there is of a line so far: the first bytes of a buffer.
+#[derive(Drop)]
+struct Line {
+    buffer: [u8; 262400],
+    end: usize,
 }
 
-// One character of the input: how much of the line there is then.
-fn feed<R: System + Input + Print>(rt: &R, input: &mut [u8], at: usize, c: u8) -> usize {
-    if c == b'\n' {
-        end_line(rt, input, at);
-        return 0;
+impl Line {
+    // Answers the line; one that fills the buffer may be cut short, and is no call.
+    fn answer<R: System + Input + Print>(&mut self, rt: &R) {
+        if self.end < self.buffer.len() {
+            answer_line(rt, text::front(&self.buffer, self.end));
+        } else {
+            answer_line(rt, b"");
+        }
+        self.end = 0;
     }
-    vector_io::put(input, at, c)
-}
 
-fn feed_all<R: System + Input + Print>(rt: &R, input: &mut [u8], at: usize, chunk: &[u8]) -> usize {
-    let mut p = at;
-    for x in chunk {
-        p = feed(rt, input, p, *x);
+    // One character of the input.
+    fn feed<R: System + Input + Print>(&mut self, rt: &R, c: u8) {
+        if c == b'\n' {
+            self.answer(rt);
+        } else {
+            self.end = vector_io::put(&mut self.buffer, self.end, c);
+        }
     }
-    p
-}
-
-// Reads some of standard input: how many bytes, 0 at its end.
-fn read_some<R: System + Input + Print>(rt: &R, chunk: &mut [u8]) -> usize {
-    let mut input = rt.reader();
-    input.read(chunk).unwrap_or(0)
 }
 
 // Answers every line; the last need not be ended.
-fn run_lines<R: System + Input + Print>(rt: &R, chunk: &mut [u8], input: &mut [u8]) {
-    let mut at = 0;
+fn run_lines<R: System + Input + Print>(rt: &R, chunk: &mut [u8], line: &mut Line) {
+    let mut input = rt.reader();
     for _ in 0..u64::MAX {
-        let n = read_some(rt, chunk);
-        at = feed_all(rt, input, at, text::front(chunk, n));
+        let n = input.read(chunk).unwrap_or(0);
         if n == 0 {
             break;
         }
+        for c in text::front(chunk, n) {
+            line.feed(rt, *c);
+        }
     }
-    if 0 < at {
-        end_line(rt, input, at);
+    if 0 < line.end {
+        line.answer(rt);
     }
 }
 
 // Answers the lines up to the end of the input.
-pub fn run<R: System + Input + Print>(rt: &R) -> bool {
-    let mut chunk = text::large_buffer();
-    let mut input = [0u8; 262400];
-    run_lines(rt, &mut chunk, &mut input);
-    false
+pub fn run<R: System + Input + Print>(rt: &R) {
+    let mut chunk = text::buffer::<65536>();
+    let mut line = Line {
+        buffer: [0; 262400],
+        end: 0,
+    };
+    run_lines(rt, &mut chunk, &mut line);
 }

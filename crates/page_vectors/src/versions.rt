@@ -24,63 +24,76 @@
 // last. Buffers are printed in hexadecimal as they are after the call, refused or not, and as `-` where they are empty.
 //
 //   lines.rt        numbers and bytes out of a line, and lines of answers
-//   calls.rt        the calls of a store
-//   buffers.rt      the buffers of a page call
-//   page_calls.rt   the page calls
-//   pages.rt        a page call by its kind
-mod buffers;
-mod calls;
+//   page_calls.rt   the page calls, with the buffers that they are lent
 mod lines;
 mod page_calls;
-mod pages;
 
-use crate::versions::lines::{bytes_in, number};
+use crate::versions::lines::{bytes_in, number, show_buffer, show_verdict, show_version};
+use crate::versions::page_calls::PageCall;
 use store::Store;
 use streams::System;
 
-// Makes a page call, which leaves the store as it is.
-fn page_call<R: System + Input + Print>(
+// Stores a layout and removes its version, as many times as it is told. The last answer to storing is printed.
+fn cycles<R: System + Input + Print>(
     rt: &R,
-    kept: Store,
-    line: &[u8],
-    version: u64,
-    block: u64,
-    lengths: &[u8],
-) -> Store {
-    let kind = vector_io::byte(line, 0, 0);
-    pages::call(rt, kept, kind, version, block, lengths);
-    kept
+    kept: &mut Store,
+    edition: u64,
+    times: u64,
+    record: &[u8],
+) {
+    let mut answer = Ok(0);
+    for _ in 0..times {
+        answer = kept.store_layout(edition, record);
+        if let Ok(version) = answer {
+            let _ = kept.remove_version(version as u64);
+        }
+    }
+    show_version(rt, answer);
 }
 
-// The call of a line, with the bytes that it hands in.
-fn call<R: System + Input + Print>(rt: &R, before: Store, line: &[u8], bytes: &mut [u8]) -> Store {
+// The call of a line, with the bytes that it hands in. Its answer is printed.
+fn call<R: System + Input + Print>(rt: &R, kept: &mut Store, line: &[u8; 112], bytes: &mut [u8]) {
     let first = number(line, 2, 16);
     let second = number(line, 19, 16);
-    match vector_io::byte(line, 0, 0) {
-        b'S' => calls::stored(rt, before, first, bytes),
-        b'R' => calls::removed(rt, before, first),
-        b'U' => calls::used(rt, before, first, second),
-        b'V' => calls::told(rt, before, first),
-        b'W' => calls::saved(rt, before, bytes),
-        b'L' => calls::loaded(rt, before, bytes),
-        b'C' => calls::cycles(rt, before, first, second, bytes),
-        b'E' => calls::emptied(rt),
-        _ => page_call(rt, before, line, first, second, bytes),
+    match line[0] {
+        b'S' => show_version(rt, kept.store_layout(first, bytes)),
+        b'R' => show_verdict(rt, kept.remove_version(first)),
+        b'U' => show_verdict(rt, kept.use_version(first, second)),
+        b'V' => show_version(rt, kept.version_in_use(first)),
+        b'W' => {
+            let verdict = kept.save_versions(bytes);
+            show_buffer(rt, verdict, bytes);
+        }
+        b'L' => show_verdict(rt, kept.load_versions(bytes)),
+        b'C' => cycles(rt, kept, first, second, bytes),
+        b'E' => {
+            *kept = Store::empty();
+            show_verdict(rt, Ok(()));
+        }
+        letter => {
+            let call = PageCall {
+                letter,
+                store: kept,
+                version: first,
+                block: second,
+            };
+            call.answer(rt, bytes);
+        }
     }
 }
 
-fn answered<R: System + Input + Print>(rt: &R, before: Store, line: &[u8]) -> Store {
+// Answers the call of a line; none where it hands in more bytes than it has places.
+fn answer<R: System + Input + Print>(rt: &R, kept: &mut Store, line: &[u8; 112]) {
     let mut bytes = bytes_in(line);
     let length = number(line, 36, 2) as usize;
-    if 36 < length {
-        return before;
+    if length <= 36 {
+        call(rt, kept, line, &mut bytes[..length]);
     }
-    call(rt, before, line, &mut bytes[..length])
 }
 
 // Answers the calls of the sequence: false where the input ends before the sequence does.
 pub fn run<R: System + Input + Print>(rt: &R) -> bool {
-    let mut kept = store::empty();
+    let mut kept = Store::empty();
     for _ in 0..1000000 {
         let mut line = [0u8; 112];
         if !vector_io::fill(rt, &mut line) {
@@ -89,7 +102,7 @@ pub fn run<R: System + Input + Print>(rt: &R) -> bool {
         if line[0] == b'X' {
             return true;
         }
-        kept = answered(rt, kept, &line);
+        answer(rt, &mut kept, &line);
     }
     false
 }

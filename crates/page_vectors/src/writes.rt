@@ -1,49 +1,32 @@
 // Vectors that write a page.
-use crate::{answers, heads};
+use crate::answers;
+use crate::buffers::filled;
+use crate::heads::Head;
 use streams::System;
-
-fn write_into<R: System + Input + Print>(
-    rt: &R,
-    head: &[u8],
-    metadata: &[u8],
-    data: &[u8],
-    page: &mut [u8],
-) {
-    let answer = page_write::write_page(
-        heads::edition(head),
-        heads::record(head),
-        metadata,
-        data,
-        page,
-    );
-    answers::show_buffer(rt, answers::of_write(answer), page);
-}
 
 // Reads metadata and data into buffers of their lengths, and writes the page.
 fn write_from<R: System + Input + Print>(
     rt: &R,
-    head: &[u8],
+    head: Head<'_>,
     metadata: &mut [u8],
     data: &mut [u8],
 ) -> bool {
-    if !vector_io::fill(rt, metadata) {
+    if !vector_io::fill(rt, metadata) || !vector_io::fill(rt, data) {
         return false;
     }
-    if !vector_io::fill(rt, data) {
-        return false;
-    }
-    let mut page = crate::buffers::large();
-    let size = heads::length(head, 24);
-    write_into(rt, head, metadata, data, text::front_mut(&mut page, size));
+    let mut page = filled::<65536>(165);
+    let page = text::front_mut(&mut page, head.length(24));
+    let answer = page_write::write_page(head.edition(), head.record(), metadata, data, page);
+    answers::show_buffers(rt, answer, &[page]);
     true
 }
 
 // Writes a page: false where the input ends before its metadata and data do.
-pub fn write<R: System + Input + Print>(rt: &R, head: &[u8]) -> bool {
+pub fn write<R: System + Input + Print>(rt: &R, head: Head<'_>) -> bool {
     let mut metadata = [0u8; 512];
-    let mut data = text::large_buffer();
-    let m = heads::length(head, 28);
-    let d = heads::length(head, 32);
+    let mut data = text::buffer::<65536>();
+    let m = head.length(28);
+    let d = head.length(32);
     write_from(
         rt,
         head,

@@ -1,59 +1,22 @@
 // Calls about a whole page: each reads one buffer and may write another.
-use crate::answers::Reply;
-use layout_plan::Sectors;
+use crate::answers;
+use replies::Refusal;
 use streams::System;
-use text::Number;
 
-// Makes the call with this number.
-fn page_call(sectors: Sectors, call: u64, read: &[u8], written: &mut [u8]) -> Reply {
-    match call {
-        5 => crate::answers::of_write(sector_pages::write_page(sectors, read, written)),
-        6 => crate::answers::of_look(sector_pages::look_page(sectors, read, written)),
-        _ => crate::answers::of_take(sector_pages::take_page(sectors, read, written)),
-    }
-}
-
-fn page_answer<R: System + Input + Print>(
+// A write, a look or a take, with the buffer that is written as long as it is in the line. Its answer is printed.
+pub fn page<R: System + Input + Print, F: FnOnce(&[u8], &mut [u8]) -> Result<(), Refusal>>(
     rt: &R,
-    sectors: Sectors,
-    call: u64,
-    read: &[u8],
-    written: &mut [u8],
-) {
-    let reply = page_call(sectors, call, read, written);
-    crate::answers::show_buffer(rt, reply, written);
-}
-
-// The buffer that is written, with the length it has in the line.
-fn page_body<R: System + Input + Print>(
-    rt: &R,
-    sectors: Sectors,
     words: &[u8],
-    call: u64,
-    read: &[u8],
-) -> bool {
-    let mut written = text::large_buffer();
-    let Number::Is(n) = vector_words::buffer(words, 9, &mut written) else {
-        return false;
-    };
-    page_answer(
-        rt,
-        sectors,
-        call,
-        read,
-        text::front_mut(&mut written, n as usize),
-    );
-    true
-}
-
-// A write, a look or a take, which are the calls 5, 6 and 7. It prints its answer, and says whether the words are such a call.
-pub fn page<R: System + Input + Print>(rt: &R, sectors: Sectors, words: &[u8], call: u64) -> bool {
-    if 7 < call {
-        return false;
-    }
-    let mut read = text::large_buffer();
-    let Number::Is(n) = vector_words::buffer(words, 8, &mut read) else {
-        return false;
-    };
-    page_body(rt, sectors, words, call, text::front(&read, n as usize))
+    call: F,
+) -> Option<()>
+    requires { F.IsAlwaysCallable call }
+{
+    let mut read = text::buffer::<65536>();
+    let n = vector_words::buffer(words, 8, &mut read)?;
+    let mut written = text::buffer::<65536>();
+    let m = vector_words::buffer(words, 9, &mut written)?;
+    let written = text::front_mut(&mut written, m as usize);
+    let answer = call(text::front(&read, n as usize), written);
+    answers::show_buffers(rt, answer, &[written]);
+    Some(())
 }
