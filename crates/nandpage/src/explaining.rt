@@ -3,140 +3,82 @@
 // What is said comes from the proved calls explain_layout, explain_block and explain_bit; the crate `explain_lines` puts
 // it into words.
 use crate::loading;
-use crate::loading::Loaded;
-use arguments::{LayoutWords, Options, Words};
-use explain::LayoutAnswer;
-use layout::Acceptance;
-use layout_plan::Plan;
-use page_explain::BlockAnswer;
+use arguments::{Choice, LayoutWords, Options};
+use page_explain::BlockFinding;
+use say::Answer;
 use streams::System;
-use text::Number;
 
 // Explains a layout.
-fn of_layout(out: &mut [u8; 32768], edition: u64, record: &[u8; 12]) {
-    match explain::explain_layout(edition, record) {
-        LayoutAnswer::Accepted => explain_lines::accepted(out),
-        LayoutAnswer::Refused(why) => {
-            explain_lines::refused(out, layout_record::fields_of(edition, record), why)
+fn of_layout(out: &mut Answer, words: &LayoutWords) {
+    let record = words.record();
+    match explain::explain_layout(words.edition, &record) {
+        Ok(()) => explain_lines::accepted(out),
+        Err(why) => {
+            explain_lines::refused(out, layout_record::fields_of(words.edition, &record), why)
         }
     }
 }
 
 // Explains a block of a page.
-fn of_block(out: &mut [u8; 32768], edition: u64, record: &[u8; 12], page: &[u8], block: u64) {
+fn of_block(out: &mut Answer, words: &LayoutWords, page: &[u8], block: u64) {
+    let edition = words.edition;
+    let record = words.record();
     let mut list = [0u32; 64];
-    match page_explain::explain_block(edition, record, page, block, &mut list) {
-        BlockAnswer::Flips { count, level } => {
+    match page_explain::explain_block(edition, &record, page, block, &mut list) {
+        Ok(BlockFinding::Flips { count, level }) => {
             explain_lines::flipped(out, block, count, level);
-            explain_lines::flips(
-                out,
-                edition,
-                record,
-                text::front_words(&list, count as usize),
-            );
+            explain_lines::flips(out, edition, &record, text::front(&list, count as usize));
             explain_lines::advice(out, count, level);
         }
-        BlockAnswer::Erased { zeros, level } => explain_lines::erased(out, block, zeros, level),
-        BlockAnswer::Ruined { block: b, level } => explain_lines::ruined(out, b as u64, level),
-        BlockAnswer::Refused(why) => {
-            explain_lines::refused(out, layout_record::fields_of(edition, record), why)
+        Ok(BlockFinding::Erased { zeros, level }) => {
+            explain_lines::erased(out, block, zeros, level)
         }
+        Ok(BlockFinding::Ruined { block, level }) => {
+            explain_lines::ruined(out, block as u64, level)
+        }
+        Err(why) => explain_lines::refused(out, layout_record::fields_of(edition, &record), why),
     }
 }
 
-// A block of the page that the argument after the words names.
-fn of_file<R: System>(
-    rt: &R,
-    out: &mut [u8; 32768],
-    options: Options,
-    record: &[u8; 12],
-    plan: Plan,
-    block: u64,
-) {
-    let mut page = text::large_buffer();
-    match loading::load(
-        rt,
-        out,
-        options,
-        plan,
-        arguments::place(options.at, 2),
-        &mut page,
-    ) {
-        Loaded::Bytes(n) => of_block(out, options.edition, record, text::front(&page, n), block),
-        Loaded::Failed => (),
-    }
-}
-
-// A page is read where the layout is accepted: it says how many bytes a page has.
-fn of_page<R: System>(
-    rt: &R,
-    out: &mut [u8; 32768],
-    options: Options,
-    words: LayoutWords,
-    block: u64,
-) {
-    let record = arguments::record_of(words);
-    match layout::check_layout(options.edition, &record) {
-        Acceptance::Accepted(l) => of_file(
-            rt,
-            out,
-            options,
-            &record,
-            layout_plan::plan_of(l),
-            block,
-        ),
-        Acceptance::Refused(_) => of_layout(out, options.edition, &record),
-    }
-}
-
-fn asked_block<R: System>(rt: &R, out: &mut [u8; 32768], options: Options) {
-    let Number::Is(block) = arguments::number(rt, out, arguments::place(options.at, 3), b"BLOCK")
-    else {
-        return;
+// Explains a block of the page that the arguments name: none where an error was printed. A page is read where the layout is accepted: it says
+// how many bytes a page has.
+fn of_page<R: System>(rt: &R, out: &mut Answer, options: &Options) -> Option<()> {
+    let block = arguments::number(rt, out, options.place(3), "BLOCK")?;
+    let words = options.layout_words(rt, out)?;
+    let Ok(l) = layout::check_layout(words.edition, &words.record()) else {
+        of_layout(out, &words);
+        return Some(());
     };
-    let Words::Are(words) = arguments::layout_words(rt, out, options) else {
-        return;
-    };
-    of_page(rt, out, options, words, block);
+    let mut buffer = text::buffer::<65536>();
+    let page = loading::load(rt, out, options, layout_plan::plan_of(l), &mut buffer)?;
+    of_block(out, &words, page, block);
+    Some(())
 }
 
-fn asked_layout<R: System>(rt: &R, out: &mut [u8; 32768], options: Options) {
-    if options.paged {
-        say::error(
+// Runs the command by its arguments: none where an error was printed.
+fn try_explain<R: System>(rt: &R, out: &mut Answer) -> Option<()> {
+    let allowed = [Choice::Mark, Choice::Edition, Choice::Page];
+    let options = arguments::find_options(rt, out, &allowed)?;
+    let count = arguments::count(rt);
+    if count == options.place(4) {
+        return of_page(rt, out, &options);
+    }
+    if count != options.place(2) {
+        out.error(
             rt,
-            out,
-            b"--page asks about a block: PAGE and BLOCK are missing",
+            "usage: nandpage explain [--edition N] [--mark WORD2] [--page K] WORD0 WORD1 [PAGE BLOCK]",
         );
-        return;
+        return None;
     }
-    let Words::Are(words) = arguments::layout_words(rt, out, options) else {
-        return;
-    };
-    of_layout(out, options.edition, &arguments::record_of(words));
+    if options.page.is_some() {
+        out.error(rt, "--page asks about a block: PAGE and BLOCK are missing");
+        return None;
+    }
+    of_layout(out, &options.layout_words(rt, out)?);
+    Some(())
 }
 
 // nandpage explain [--edition N] [--mark WORD2] [--page K] WORD0 WORD1 [PAGE BLOCK]
-pub fn explain<R: System>(rt: &R, out: &mut [u8; 32768]) {
-    let options = arguments::find_options(
-        rt,
-        out,
-        arguments::MARK + arguments::EDITION + arguments::PAGE,
-    );
-    if !options.good {
-        return;
-    }
-    let count = arguments::count(rt);
-    if count == arguments::place(options.at, 4) {
-        asked_block(rt, out, options);
-        return;
-    }
-    if count == arguments::place(options.at, 2) {
-        asked_layout(rt, out, options);
-        return;
-    }
-    say::error(
-        rt,
-        out,
-        b"usage: nandpage explain [--edition N] [--mark WORD2] [--page K] WORD0 WORD1 [PAGE BLOCK]",
-    );
+pub fn explain<R: System>(rt: &R, out: &mut Answer) {
+    let _ = try_explain(rt, out);
 }

@@ -22,45 +22,33 @@ mod loading;
 mod writing;
 
 use commands::{Command, help};
+use say::Answer;
 use streams::System;
 
-// The commands on a page or a dump of many.
-fn run_on_dumps<R: System>(rt: &R, out: &mut [u8; 32768], command: Command) {
+// Runs a command, which prints an answer or an error.
+fn run<R: System>(rt: &R, out: &mut Answer, command: Command) {
     match command {
+        Command::Layout => layout_commands::layout(rt, out),
+        Command::Bits => layout_commands::bits(rt, out),
         Command::Write => writing::write(rt, out),
         Command::Read => read_command::read(rt, out),
         Command::Look => read_command::look(rt, out),
         Command::Salvage => read_command::salvage(rt, out),
-        _ => compare_command::compare(rt, out),
-    }
-}
-
-// The commands on one page, and what is said of a command that there is not.
-fn run_on_pages<R: System>(rt: &R, out: &mut [u8; 32768], command: Command) {
-    match command {
+        Command::Compare => compare_command::compare(rt, out),
         Command::Judge => judging::judge(rt, out),
         Command::Explain => explaining::explain(rt, out),
-        Command::Claim => claiming::claim(rt, out),
-        Command::Unknown => help::unknown(rt, out),
-        _ => run_on_dumps(rt, out, command),
-    }
-}
-
-fn run<R: System>(rt: &R, out: &mut [u8; 32768], command: Command) {
-    match command {
-        Command::Layout => layout_commands::layout(rt, out),
-        Command::Bits => layout_commands::bits(rt, out),
         Command::Locate => locator_commands::locate(rt, out),
         Command::Fragments => locator_commands::fragments(rt, out),
+        Command::Claim => claiming::claim(rt, out),
         Command::Help => help::all(out),
-        _ => run_on_pages(rt, out, command),
+        Command::Unknown => help::unknown(rt, out),
     }
 }
 
 fn main(rt: HostRuntime) {
-    let mut out = say::new();
+    let mut out = Answer::new();
     run(&rt, &mut out, commands::asked(&rt, arguments::command(&rt)));
-    say::flush(&rt, &mut out);
-    say::close(&rt, &mut out);
-    commands::tell(&rt, say::status(&out));
+    out.flush(&rt);
+    out.close(&rt);
+    commands::tell(&rt, out.status());
 }

@@ -1,14 +1,14 @@
 // The command write of the tool: a page, or an image of many, from files that hold the metadata and the data of all pages, one after
 // the other.
-use arguments::{LayoutWords, Options};
+use arguments::{Choice, Options};
 use files::Reading;
 use layout_plan::Plan;
-use page_write::WriteAnswer;
 use plans::Planned;
 use replies::refusal_number;
+use say::Answer;
 use std::io;
 use std::io::{Error, ErrorKind};
-use streams::{Filled, Sink, Source, System};
+use streams::{Sink, Source, System};
 
 // The edition, the layout record and its plan; metadata, data, the page that is written and the file that stands in its place.
 #[derive(Clone, Copy)]
@@ -22,239 +22,130 @@ struct Run<'a> {
     before: Source<'a>,
 }
 
-// What an image came to so far: its pages, whether to go on, whether all is right, and the file that failed.
+// What the metadata, the data and the page are called.
 #[derive(Clone, Copy)]
-struct Image {
-    pages: u64,
-    more: bool,
-    good: bool,
-    failed: Failed,
+struct Paths<'a> {
+    metadata: &'a [u8],
+    data: &'a [u8],
+    page: &'a [u8],
 }
 
+// Why an image is not written: a page or the length of a file is refused, which was printed, or a file failed.
 #[derive(Clone, Copy)]
 enum Failed {
-    Nothing,
+    Refused,
     Metadata(Error),
     Data(Error),
     Page(Error),
 }
 
-fn stopped(image: Image, failed: Failed) -> Image {
-    Image {
-        pages: image.pages,
-        more: false,
-        good: false,
-        failed: failed,
-    }
-}
-
-fn ended(image: Image, good: bool) -> Image {
-    Image {
-        pages: image.pages,
-        more: false,
-        good: good,
-        failed: Failed::Nothing,
-    }
-}
-
-fn next(image: Image) -> Image {
-    Image {
-        pages: text::plus(image.pages, 1),
-        more: true,
-        good: true,
-        failed: Failed::Nothing,
-    }
-}
-
-// A page of an image has its number shown; a file of one page has none.
-fn number(out: &mut [u8; 32768], image: Image) {
-    if 0 < image.pages {
-        say::page_number(out, image.pages);
-    }
-}
-
-// Files of other lengths than those of whole pages.
+// Files of other lengths than those of whole pages, after so many pages. A page of an image has its number shown; a file of one page has none.
 fn refused(
-    out: &mut [u8; 32768],
-    image: Image,
-    reply: u8,
+    out: &mut Answer,
     plan: Plan,
+    pages: u64,
+    reply: u8,
     metadata: usize,
     data: usize,
-) -> Image {
-    number(out, image);
-    say::reply(out, reply);
-    say::meaning(out, reply);
+) -> Failed {
+    if 0 < pages {
+        out.page_number(pages);
+    }
+    out.reply(reply);
+    out.put(say::meaning(reply));
     if reply == 6 {
-        say::length(out, b": metadata ", metadata, plan.metadata as usize);
-        say::length(out, b", data ", data, plan.data as usize);
+        out.length(": metadata ", metadata, plan.metadata as usize);
+        out.length(", data ", data, plan.data as usize);
     }
-    say::put(out, b"\n");
-    ended(image, false)
-}
-
-fn put(run: Run<'_>, image: Image, page: &[u8]) -> Image {
-    match streams::put(run.page, page) {
-        Ok(()) => next(image),
-        Err(error) => stopped(image, Failed::Page(error)),
-    }
-}
-
-fn erase(page: &mut [u8]) {
-    let ones = [255u8; 65536];
-    text::put_all(page, 0, text::front(&ones, page.len()));
+    out.put("\n");
+    Failed::Refused
 }
 
 // Puts to the buffer what the next page is written over, since it keeps the mark of that: the page that stands in its place or, where none
 // does, ones, as erased flash has.
 fn lay(run: Run<'_>, page: &mut [u8]) -> io::Result<()> {
-    let plan = run.plan;
-    if plan.mark.length == 0 {
-        return Ok(());
+    if run.plan.mark.length != 0 && streams::fill(run.before, page, 0)? < page.len() {
+        page.fill(255);
     }
-    match streams::fill(run.before, page, 0) {
-        Filled::Bytes(n) => {
-            if n < page.len() {
-                erase(page);
-            }
-            Ok(())
-        }
-        Filled::Failed(error) => Err(error),
-    }
+    Ok(())
 }
 
+// Writes the next page after so many.
 fn write_from(
-    out: &mut [u8; 32768],
+    out: &mut Answer,
     run: Run<'_>,
-    image: Image,
+    pages: u64,
     metadata: &[u8],
     data: &[u8],
     page: &mut [u8],
-) -> Image {
-    if let Err(error) = lay(run, page) {
-        return stopped(image, Failed::Page(error));
+) -> Result<(), Failed> {
+    lay(run, page).map_err(Failed::Page)?;
+    match page_write::write_page(run.edition, &run.record, metadata, data, page) {
+        Ok(()) => streams::put(run.page, page).map_err(Failed::Page),
+        Err(refusal) => {
+            let reply = refusal_number(refusal);
+            Err(refused(out, run.plan, pages, reply, metadata.len(), data.len()))
+        }
     }
-    let record = run.record;
-    match page_write::write_page(run.edition, &record, metadata, data, page) {
-        WriteAnswer::Done => put(run, image, page),
-        WriteAnswer::Refused(refusal) => refused(
+}
+
+// How many bytes of both files there are, up to those that the buffers hold.
+fn read(run: Run<'_>, metadata: &mut [u8], data: &mut [u8]) -> Result<(usize, usize), Failed> {
+    let m = streams::fill(run.metadata, metadata, 0).map_err(Failed::Metadata)?;
+    let d = streams::fill(run.data, data, 0).map_err(Failed::Data)?;
+    Ok((m, d))
+}
+
+// Writes the next page after so many: whether there was one. An image ends where both files do, after its first page. A file of which a page
+// takes nothing has to be empty.
+fn next(
+    out: &mut Answer,
+    run: Run<'_>,
+    pages: u64,
+    metadata: &mut [u8],
+    data: &mut [u8],
+    page: &mut [u8],
+) -> Result<bool, Failed> {
+    let (m, d) = read(run, metadata, data)?;
+    if pages == 0 || m != 0 || d != 0 {
+        write_from(
             out,
-            image,
-            refusal_number(refusal),
-            run.plan,
-            metadata.len(),
-            data.len(),
-        ),
+            run,
+            pages,
+            text::front(metadata, m),
+            text::front(data, d),
+            page,
+        )?;
+        return Ok(true);
     }
-}
-
-// Whether a file goes on: it has a byte more.
-fn one_more(source: Source<'_>) -> Filled {
-    let mut byte = [0u8; 1];
-    streams::fill(source, &mut byte, 0)
-}
-
-// The end of both files, which is that of the image. A file of which a page takes nothing has to be empty.
-fn last(out: &mut [u8; 32768], run: Run<'_>, image: Image) -> Image {
-    let m = match one_more(run.metadata) {
-        Filled::Bytes(m) => m,
-        Filled::Failed(error) => return stopped(image, Failed::Metadata(error)),
-    };
-    let d = match one_more(run.data) {
-        Filled::Bytes(d) => d,
-        Filled::Failed(error) => return stopped(image, Failed::Data(error)),
-    };
-    if m == 0 {
-        if d == 0 {
-            return ended(image, true);
-        }
+    let (m, d) = read(run, &mut [0u8; 1], &mut [0u8; 1])?;
+    if m != 0 || d != 0 {
+        return Err(refused(out, run.plan, pages, 6, m, d));
     }
-    refused(out, image, 6, run.plan, m, d)
+    Ok(false)
 }
 
-// Whether an image ends before a page for which so many bytes were read: after its first page, where there are none.
-fn is_end(image: Image, m: usize, d: usize) -> bool {
-    if image.pages == 0 {
-        return false;
-    }
-    if m == 0 {
-        return d == 0;
-    }
-    false
-}
-
-// The next page, of which m bytes of metadata and d of data were read, or the end.
-fn write_read(
-    out: &mut [u8; 32768],
-    run: Run<'_>,
-    image: Image,
-    metadata: &[u8],
-    m: usize,
-    data: &[u8],
-    d: usize,
-    page: &mut [u8],
-) -> Image {
-    if is_end(image, m, d) {
-        return last(out, run, image);
-    }
-    write_from(
-        out,
-        run,
-        image,
-        text::front(metadata, m),
-        text::front(data, d),
-        page,
-    )
-}
-
-// The next page, from buffers that are as long as the metadata and the data of a page.
-fn one(
-    out: &mut [u8; 32768],
-    run: Run<'_>,
-    image: Image,
-    metadata: &mut [u8],
-    data: &mut [u8],
-    page: &mut [u8],
-) -> Image {
-    let m = match streams::fill(run.metadata, metadata, 0) {
-        Filled::Bytes(m) => m,
-        Filled::Failed(error) => return stopped(image, Failed::Metadata(error)),
-    };
-    let d = match streams::fill(run.data, data, 0) {
-        Filled::Bytes(d) => d,
-        Filled::Failed(error) => return stopped(image, Failed::Data(error)),
-    };
-    write_read(out, run, image, metadata, m, data, d, page)
-}
-
-// Writes page after page, as far as the files go.
+// Writes page after page, as far as the files go: how many. The buffers are as long as the metadata and the data of a page, and as a page.
 fn pages(
-    out: &mut [u8; 32768],
+    out: &mut Answer,
     run: Run<'_>,
     metadata: &mut [u8],
     data: &mut [u8],
     page: &mut [u8],
-) -> Image {
-    let mut image = Image {
-        pages: 0,
-        more: true,
-        good: true,
-        failed: Failed::Nothing,
-    };
-    for _ in 0..u64::MAX {
-        image = one(out, run, image, metadata, data, page);
-        if !image.more {
-            break;
+) -> Result<u64, Failed> {
+    for pages in 0..u64::MAX {
+        if !next(out, run, pages, metadata, data, page)? {
+            return Ok(pages);
         }
     }
-    image
+    Ok(u64::MAX)
 }
 
-fn all(out: &mut [u8; 32768], run: Run) -> Image {
+fn all(out: &mut Answer, run: Run<'_>) -> Result<u64, Failed> {
     let plan = run.plan;
     let mut metadata = [0u8; 256];
-    let mut data = text::large_buffer();
-    let mut page = text::large_buffer();
+    let mut data = text::buffer::<65536>();
+    let mut page = text::buffer::<65536>();
     pages(
         out,
         run,
@@ -265,52 +156,46 @@ fn all(out: &mut [u8; 32768], run: Run) -> Image {
 }
 
 // The line of a file that failed, and why.
-fn complain<R: System>(
-    rt: &R,
-    out: &mut [u8; 32768],
-    failed: Failed,
-    metadata: &[u8],
-    data: &[u8],
-    page: &[u8],
-) {
+fn complain<R: System>(rt: &R, out: &mut Answer, failed: Failed, paths: Paths<'_>) {
     match failed {
-        Failed::Nothing => (),
-        Failed::Metadata(error) => say::bad_file(rt, out, metadata, error),
-        Failed::Data(error) => say::bad_file(rt, out, data, error),
-        Failed::Page(error) => say::bad_output(rt, out, page, error),
+        Failed::Refused => (),
+        Failed::Metadata(error) => out.bad_file(rt, paths.metadata, error),
+        Failed::Data(error) => out.bad_file(rt, paths.data, error),
+        Failed::Page(error) => out.bad_output(rt, paths.page, error),
     }
 }
 
 // What was written, where it has taken its place.
-fn written(out: &mut [u8; 32768], plan: Plan, image: Image) {
-    say::reply(out, 0);
-    if image.pages == 1 {
-        say::fact(out, b"page written, ", plan.size as u64, b" bytes\n");
-        return;
+fn written(out: &mut Answer, plan: Plan, pages: u64) {
+    out.reply(0);
+    if pages == 1 {
+        out.put(format_args!("page written, {} bytes\n", plan.size));
+    } else {
+        let bytes = text::times(pages, plan.size as u32);
+        out.put(format_args!("pages written {pages}, {bytes} bytes\n"));
     }
-    say::facts(
-        out,
-        b"pages written #, # bytes\n",
-        &[image.pages, text::times(image.pages, plan.size as u32)],
-    );
 }
 
-// Puts a page or an image that is whole in its place.
-fn finish<R: System>(rt: &R, out: &mut [u8; 32768], run: Run<'_>, image: Image, page: &[u8]) {
+// Writes an image, and puts one that is whole in its place.
+fn write_run<R: System>(rt: &R, out: &mut Answer, run: Run<'_>, paths: Paths<'_>) {
+    if files::is_dash(paths.page) {
+        out.to_stderr();
+    }
     let n = arguments::run_number(rt);
-    if image.good {
-        if files::end(rt, out, run.page, page) {
-            if files::place(rt, out, page, n) {
-                written(out, run.plan, image);
+    match all(out, run) {
+        Ok(pages) => {
+            if files::end(rt, out, run.page, paths.page) && files::place(rt, out, paths.page, n) {
+                written(out, run.plan, pages);
                 return;
             }
         }
+        Err(failed) => complain(rt, out, failed, paths),
     }
-    files::drop_new(rt, page, n);
+    files::drop_new(rt, paths.page, n);
 }
 
 // A file that is read, where a dash is an empty one: none where an error was printed.
-fn input<R: System>(rt: &R, out: &mut [u8; 32768], path: &[u8]) -> Option<Reading> {
+fn input<R: System>(rt: &R, out: &mut Answer, path: &[u8]) -> Option<Reading> {
     if files::is_dash(path) {
         return Some(Reading::Nothing);
     }
@@ -318,14 +203,8 @@ fn input<R: System>(rt: &R, out: &mut [u8; 32768], path: &[u8]) -> Option<Readin
 }
 
 // The file that stands in the place of a page with a mark, where there is one: none where an error was printed.
-fn standing<R: System>(rt: &R, out: &mut [u8; 32768], plan: Plan, path: &[u8]) -> Option<Reading> {
-    if plan.mark.length == 0 {
-        return Some(Reading::Nothing);
-    }
-    if files::is_dash(path) {
-        return Some(Reading::Nothing);
-    }
-    if files::is_direct(path) {
+fn standing<R: System>(rt: &R, out: &mut Answer, plan: Plan, path: &[u8]) -> Option<Reading> {
+    if plan.mark.length == 0 || files::is_dash(path) || files::is_direct(path) {
         return Some(Reading::Nothing);
     }
     match files::open_read(rt, path) {
@@ -334,129 +213,62 @@ fn standing<R: System>(rt: &R, out: &mut [u8; 32768], plan: Plan, path: &[u8]) -
             if error.kind() == ErrorKind::NotFound {
                 return Some(Reading::Nothing);
             }
-            say::bad_output(rt, out, path, error);
+            out.bad_output(rt, path, error);
             None
         }
     }
 }
 
-fn write_run<R: System>(
-    rt: &R,
-    out: &mut [u8; 32768],
-    run: Run<'_>,
-    metadata: &[u8],
-    data: &[u8],
-    page: &[u8],
-) {
-    if files::is_dash(page) {
-        say::to_stderr(out);
-    }
-    let image = all(out, run);
-    let failed = image.failed;
-    complain(rt, out, failed, metadata, data, page);
-    finish(rt, out, run, image, page);
-}
-
+// Writes an image from files to a file: none where an error of a file that is opened was printed.
 fn write_paths<R: System>(
     rt: &R,
-    out: &mut [u8; 32768],
-    words: LayoutWords,
-    plan: Plan,
-    metadata: &[u8],
-    data: &[u8],
-    page: &[u8],
-) {
-    let Some(m) = input(rt, out, metadata) else {
-        return;
-    };
-    let Some(d) = input(rt, out, data) else {
-        return;
-    };
-    let Some(b) = standing(rt, out, plan, page) else {
-        return;
-    };
-    let Some(p) = files::begin(rt, out, page, arguments::run_number(rt)) else {
-        return;
-    };
+    out: &mut Answer,
+    planned: Planned,
+    paths: Paths<'_>,
+) -> Option<()> {
+    let Planned { words, plan } = planned;
+    let metadata = input(rt, out, paths.metadata)?;
+    let data = input(rt, out, paths.data)?;
+    let before = standing(rt, out, plan, paths.page)?;
+    let page = files::begin(rt, out, paths.page, arguments::run_number(rt))?;
     let run = Run {
         edition: words.edition,
-        record: arguments::record_of(words),
-        plan: plan,
-        metadata: files::source(&m),
-        data: files::source(&d),
-        page: files::sink(&p),
-        before: files::source(&b),
-    };
-    write_run(rt, out, run, metadata, data, page);
-    files::close_input(m);
-    files::close_input(d);
-    files::close_input(b);
-}
-
-// The page that the argument after those of metadata and data names.
-fn write_to<R: System>(
-    rt: &R,
-    out: &mut [u8; 32768],
-    options: Options,
-    words: LayoutWords,
-    plan: Plan,
-    metadata: &[u8],
-    data: &[u8],
-) {
-    let mut buffer = text::buffer();
-    let given = rt.arg(arguments::place(options.at, 4), &mut buffer);
-    if !arguments::whole(rt, out, given, b"PAGE") {
-        return;
-    }
-    let page = text::front(&buffer, given.unwrap_or(0));
-    write_paths(rt, out, words, plan, metadata, data, page);
-}
-
-fn write_under<R: System>(
-    rt: &R,
-    out: &mut [u8; 32768],
-    options: Options,
-    words: LayoutWords,
-    plan: Plan,
-) {
-    let mut metadata = text::buffer();
-    let m = rt.arg(arguments::place(options.at, 2), &mut metadata);
-    if !arguments::whole(rt, out, m, b"METADATA") {
-        return;
-    }
-    let mut data = text::buffer();
-    let d = rt.arg(arguments::place(options.at, 3), &mut data);
-    if !arguments::whole(rt, out, d, b"DATA") {
-        return;
-    }
-    write_to(
-        rt,
-        out,
-        options,
-        words,
+        record: words.record(),
         plan,
-        text::front(&metadata, m.unwrap_or(0)),
-        text::front(&data, d.unwrap_or(0)),
-    );
+        metadata: files::source(&metadata),
+        data: files::source(&data),
+        page: files::sink(&page),
+        before: files::source(&before),
+    };
+    write_run(rt, out, run, paths);
+    Some(())
+}
+
+// Writes an image from the files that the arguments name: none where an error was printed.
+fn write_image<R: System>(rt: &R, out: &mut Answer, options: &Options) -> Option<()> {
+    let planned = plans::plan_of_words(rt, out, *options)?;
+    let mut metadata = text::buffer::<4096>();
+    let mut data = text::buffer::<4096>();
+    let mut page = text::buffer::<4096>();
+    let paths = Paths {
+        metadata: arguments::given(rt, out, options.place(2), "METADATA", &mut metadata)?,
+        data: arguments::given(rt, out, options.place(3), "DATA", &mut data)?,
+        page: arguments::given(rt, out, options.place(4), "PAGE", &mut page)?,
+    };
+    write_paths(rt, out, planned, paths)
+}
+
+// Runs the command by its arguments: none where an error was printed.
+fn try_write<R: System>(rt: &R, out: &mut Answer) -> Option<()> {
+    let options = arguments::find_options(rt, out, &[Choice::Mark, Choice::Edition])?;
+    let usage = "usage: nandpage write [--edition N] [--mark WORD2] WORD0 WORD1 METADATA DATA PAGE";
+    if !arguments::are(rt, out, options.at, 5, usage) {
+        return None;
+    }
+    write_image(rt, out, &options)
 }
 
 // nandpage write [--edition N] [--mark WORD2] WORD0 WORD1 METADATA DATA PAGE
-pub fn write<R: System>(rt: &R, out: &mut [u8; 32768]) {
-    let options = arguments::find_options(rt, out, arguments::MARK + arguments::EDITION);
-    if !options.good {
-        return;
-    }
-    if !arguments::are(
-        rt,
-        out,
-        options.at,
-        5,
-        b"usage: nandpage write [--edition N] [--mark WORD2] WORD0 WORD1 METADATA DATA PAGE",
-    ) {
-        return;
-    }
-    let Planned::Under { words, plan } = plans::plan_of_words(rt, out, options) else {
-        return;
-    };
-    write_under(rt, out, options, words, plan);
+pub fn write<R: System>(rt: &R, out: &mut Answer) {
+    let _ = try_write(rt, out);
 }
