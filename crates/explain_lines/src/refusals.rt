@@ -3,60 +3,44 @@ use crate::rules;
 use explain::{About, Why};
 use layout_plan::Fields;
 use replies::refusal_number;
+use say::Answer;
 
-pub fn accepted(out: &mut [u8; 32768]) {
-    say::put(
-        out,
-        b"reply 0: this layout is accepted, it breaks none of the rules 1, 2, 3, 11 and 4\n",
-    );
+pub fn accepted(out: &mut Answer) {
+    out.put("reply 0: this layout is accepted, it breaks none of the rules 1, 2, 3, 11 and 4\n");
 }
 
 // A file is not read further than one byte beyond the length that is wanted.
-fn page_length(out: &mut [u8; 32768], found: u64, limit: u64) {
+fn page_length(out: &mut Answer, found: u64, limit: u64) {
     if limit < found {
-        say::fact(out, b"the page has more than ", limit, b" bytes");
+        out.put(format_args!("the page has more than {limit} bytes"));
     } else {
-        say::fact(out, b"the page has ", found, b" bytes");
+        out.put(format_args!("the page has {found} bytes"));
     }
-    say::fact(
-        out,
-        b", and the layout says ",
+    out.put(format_args!(", and the layout says {limit}\n"));
+    out.put("next: see whether the layout is the page's; of a dump, --page K asks about page K\n");
+}
+
+// Why it is refused, with the two numbers that were compared. `fields` are those of the layout that was asked about. The tool asks with no
+// length of a record or of a list and with no position that is refused.
+pub fn refused(out: &mut Answer, fields: Fields, why: Why) {
+    let Why {
+        about,
+        found,
         limit,
-        b"\nnext: see whether the layout is the page's; of a dump, --page K asks about page K\n",
-    );
-}
-
-// Why a question is refused that breaks no rule of the layout. The tool asks with no length of a record or of a list and with no
-// position that is refused.
-fn no_rule(out: &mut [u8; 32768], about: About, found: u64, limit: u64) {
+        ..
+    } = why;
+    out.reply(refusal_number(why.refusal));
     match about {
-        About::Edition => say::facts(
-            out,
-            b"there is no edition #, only 1 and #\n",
-            &[found, limit],
-        ),
-        About::Lent => page_length(out, found, limit),
-        About::Block => say::facts(
-            out,
-            b"there is no block #, the page has #, counted from 0\n",
-            &[found, limit],
-        ),
-        _ => say::facts(out, b"the numbers compared are # and #\n", &[found, limit]),
-    }
-}
-
-// Why it is refused, with the two numbers that were compared. `fields` are those of the layout that was asked about.
-pub fn refused(out: &mut [u8; 32768], fields: Fields, why: Why) {
-    let refusal = why.refusal;
-    let about = why.about;
-    let found = why.found;
-    let limit = why.limit;
-    let number = refusal_number(refusal);
-    say::reply(out, number);
-    match about {
-        About::First | About::Later | About::Page => {
-            rules::broken(out, fields, about, number, found, limit)
+        About::First => rules::broken(out, fields, "block 0", why),
+        About::Later => rules::broken(out, fields, "each later block", why),
+        About::Page => rules::broken(out, fields, "the page", why),
+        About::Edition => {
+            out.put(format_args!("there is no edition {found}, only 1 and {limit}\n"))
         }
-        _ => no_rule(out, about, found, limit),
+        About::Lent => page_length(out, found, limit),
+        About::Block => out.put(format_args!(
+            "there is no block {found}, the page has {limit}, counted from 0\n"
+        )),
+        _ => out.put(format_args!("the numbers compared are {found} and {limit}\n")),
     }
 }
