@@ -41,7 +41,12 @@ pub fn claim_in(plan: Plan, page: &[u8], block: u64, claims: &[u16]) -> Result<(
 }
 
 // Claimed locations of one block of a page under the answer to a layout, whatever names it.
-pub fn claim_for(answer: Result<Layout, layout::Refusal>, page: &[u8], block: u64, claims: &[u16]) -> Result<(), Refusal>
+pub fn claim_for(
+    answer: Result<Layout, layout::Refusal>,
+    page: &[u8],
+    block: u64,
+    claims: &[u16],
+) -> Result<(), Refusal>
     requires { Sound answer }
     ensures { claim_ended (verdict_number result) ≡ claim_for answer page.now block claims.now }
 {

@@ -89,7 +89,11 @@ pub fn judge_in(plan: Plan, page: &[u8], block: u64) -> Result<u8, Refusal>
 }
 
 // Judges one block of a page under the answer to a layout, whatever names it.
-pub fn judge_for(answer: Result<Layout, layout::Refusal>, page: &[u8], block: u64) -> Result<u8, Refusal>
+pub fn judge_for(
+    answer: Result<Layout, layout::Refusal>,
+    page: &[u8],
+    block: u64,
+) -> Result<u8, Refusal>
     requires { Sound answer }
     ensures { judge_ended (verdict_number result) (verdict_block result) (judge_flips result) ≡ judge_for answer page.now block }
 {

@@ -50,7 +50,13 @@ fn ruined(block: u16) -> Result<(), Refusal>
 }
 
 // Looks at a page of which `scan` is the first damaged block; the counts before it are 0.
-fn look_damaged(plan: Plan, page: &[u8], scan: Scan, table: &[u8], counts: &mut [u8]) -> Result<(), Refusal>
+fn look_damaged(
+    plan: Plan,
+    page: &[u8],
+    scan: Scan,
+    table: &[u8],
+    counts: &mut [u8],
+) -> Result<(), Refusal>
     requires pending { Pending plan page.now table.now scan counts.old }
     requires block_lt_blocks { scan.block < plan.blocks }
     ensures { look_ended (verdict_number result) (verdict_block result) counts.new ≡ look_in plan page.now counts.old }
@@ -87,7 +93,11 @@ pub fn look_in(plan: Plan, page: &[u8], counts: &mut [u8]) -> Result<(), Refusal
 }
 
 // Looks at a page under the answer to a layout, whatever names it.
-pub fn look_for(answer: Result<Layout, layout::Refusal>, page: &[u8], counts: &mut [u8]) -> Result<(), Refusal>
+pub fn look_for(
+    answer: Result<Layout, layout::Refusal>,
+    page: &[u8],
+    counts: &mut [u8],
+) -> Result<(), Refusal>
     requires { Sound answer }
     ensures { look_ended (verdict_number result) (verdict_block result) counts.new ≡ look_for answer page.now counts.old }
 {

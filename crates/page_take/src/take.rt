@@ -124,7 +124,12 @@ pub fn take_in(plan: Plan, page: &[u8], metadata: &mut [u8], data: &mut [u8]) ->
 }
 
 // Takes metadata and data out of a page under the answer to a layout, whatever names it.
-pub fn take_for(answer: Result<Layout, layout::Refusal>, page: &[u8], metadata: &mut [u8], data: &mut [u8]) -> Result<(), Refusal>
+pub fn take_for(
+    answer: Result<Layout, layout::Refusal>,
+    page: &[u8],
+    metadata: &mut [u8],
+    data: &mut [u8],
+) -> Result<(), Refusal>
     requires { Sound answer }
     ensures { take_ended (verdict_number result) (verdict_block result) metadata.new «data».new
         ≡ take_for answer page.now metadata.old «data».old }

@@ -87,7 +87,12 @@ pub fn write_in(plan: Plan, metadata: &[u8], data: &[u8], page: &mut [u8]) -> Re
 }
 
 // Writes a page under the answer to a layout: that of layout words, or of whatever else names it.
-pub fn write_for(answer: Result<Layout, layout::Refusal>, metadata: &[u8], data: &[u8], page: &mut [u8]) -> Result<(), Refusal>
+pub fn write_for(
+    answer: Result<Layout, layout::Refusal>,
+    metadata: &[u8],
+    data: &[u8],
+    page: &mut [u8],
+) -> Result<(), Refusal>
     requires { Sound answer }
     ensures { write_ended (verdict_number result) (verdict_block result) page.new
         ≡ write_for answer metadata.now «data».now page.old }

@@ -1,6 +1,5 @@
 use mathlib.Core.Path.{◌≡◌, refl, ◌∙◌}
 use native.Mathlib.Omega.{arith}
-use Rattle.page_copy.specs.Copying.{texts}
 use Rattle.page_copy.proofs.Messages.{joined-start, joined-texts}
 use Rattle.page_copy.proofs.copy.copy_messages.Goals as goal
 

@@ -1,4 +1,3 @@
-use Prim.Native.Nat.{◌≤◌}
 use mathlib.Core.List.{◌++◌}
 use Rattle.page_write.proofs.Writing.{Streamed}
 use Rattle.page_write.proofs.write.write_blocks.Given as goal
