@@ -74,7 +74,8 @@ fn try_explain<R: System>(rt: &R, out: &mut Answer) -> Option<()> {
         out.error(rt, "--page asks about a block: PAGE and BLOCK are missing");
         return None;
     }
-    of_layout(out, &options.layout_words(rt, out)?);
+    let words = options.layout_words(rt, out)?;
+    of_layout(out, &words);
     Some(())
 }
 
