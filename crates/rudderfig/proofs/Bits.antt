@@ -5,12 +5,10 @@ use mathlib.Core.List.{List}
 use Prim.Native.Nat.{ℕ, ◌+◌, ◌*◌, ◌/◌, ◌%◌, ◌<◌}
 use native.Mathlib.Omega.{arith}
 use Rattle.layout.specs.declared.Refusal.{Refusal}
-use Rattle.layout.specs.declared.Acceptance.{Acceptance}
-use Rattle.layout.specs.declared.Acceptance.TheVariants as acceptance
-use Rattle.layout.specs.declared.BitAnswer.{BitAnswer}
-use Rattle.layout.specs.declared.BitAnswer.TheVariants as bit
-use Rattle.layout.specs.declared.PositionAnswer.{PositionAnswer}
-use Rattle.layout.specs.declared.PositionAnswer.TheVariants as position
+use Rattle.std.specs.Prelude.{Result, Ok, Err}
+use Rattle.layout_plan.specs.declared.Layout.{Layout}
+use Rattle.layout.specs.declared.BitPlace.{BitPlace}
+use Rattle.layout.specs.declared.BitPlace.TheVariants as bit
 use Rattle.layout.specs.Acceptance.{refusal_reply}
 use Rattle.layout.specs.Answers.{Numbers, done, refused, acceptance_numbers, bit_numbers, position_numbers}
 use Rattle.layout.proofs.Numbers.{refusal-reply-range}
@@ -34,53 +32,53 @@ done-says : {kind : ℕ} (values : List ℕ) (value : ℕ) → kind < 0x100 → 
 unfolding done
 done-says values value k = record { reply = done-reply value k; block = done-block value k; bare = done-bare value k }
 
-pub acceptance-says : (a : Acceptance) → Says (acceptance_numbers a) (acceptance_word a)
+pub acceptance-says : (a : Result Layout Refusal) → Says (acceptance_numbers a) (acceptance_word a)
 unfolding acceptance_numbers acceptance_word
-acceptance-says (acceptance.Accepted l) = done-says _ _ (omega arith)
-acceptance-says (acceptance.Refused r) = refused_says r
+acceptance-says (Ok l) = done-says _ _ (omega arith)
+acceptance-says (Err r) = refused_says r
 
-pub bit-says : (a : BitAnswer) → Says (bit_numbers a) (bit_word a)
+pub bit-says : (a : Result BitPlace Refusal) → Says (bit_numbers a) (bit_word a)
 unfolding bit_numbers bit_word
-bit-says (bit.InBlock b e) = done-says _ _ (omega arith)
-bit-says bit.Tail = done-says _ _ (omega arith)
-bit-says bit.Mark = done-says _ _ (omega arith)
-bit-says (bit.Refused r) = refused_says r
+bit-says (Ok (bit.InBlock b e)) = done-says _ _ (omega arith)
+bit-says (Ok bit.Tail) = done-says _ _ (omega arith)
+bit-says (Ok bit.Mark) = done-says _ _ (omega arith)
+bit-says (Err r) = refused_says r
 
-pub position-says : (a : PositionAnswer) → Says (position_numbers a) (position_word a)
+pub position-says : (a : Result ℕ Refusal) → Says (position_numbers a) (position_word a)
 unfolding position_numbers position_word
-position-says (position.Position p) = done-says _ _ (omega arith)
-position-says (position.Refused r) = refused_says r
+position-says (Ok p) = done-says _ _ (omega arith)
+position-says (Err r) = refused_says r
 
 -- Kind and value of a covered bit, of a bit of the tail and of the mark, and of a position.
 
-pub bit-kind : (b e : ℕ) → kind_in (bit_word (bit.InBlock b e)) ≡ 0
+pub bit-kind : (b e : ℕ) → kind_in (bit_word (Ok (bit.InBlock b e))) ≡ 0
 unfolding bit_word
 bit-kind b e = done-kind _ (omega arith)
 
-pub bit-block : (b e : ℕ) → e < 0x10000 → value_in (bit_word (bit.InBlock b e)) / 0x10000 ≡ b
+pub bit-block : (b e : ℕ) → e < 0x10000 → value_in (bit_word (Ok (bit.InBlock b e))) / 0x10000 ≡ b
 unfolding bit_word
 bit-block b e h = omega (arith, done-value {kind = 0} (0x10000 * b + e) (omega arith))
 
-pub bit-exponent : (b e : ℕ) → e < 0x10000 → value_in (bit_word (bit.InBlock b e)) % 0x10000 ≡ e
+pub bit-exponent : (b e : ℕ) → e < 0x10000 → value_in (bit_word (Ok (bit.InBlock b e))) % 0x10000 ≡ e
 unfolding bit_word
 bit-exponent b e h = omega (arith, done-value {kind = 0} (0x10000 * b + e) (omega arith))
 
-pub tail-kind : kind_in (bit_word bit.Tail) ≡ 1
+pub tail-kind : kind_in (bit_word (Ok bit.Tail)) ≡ 1
 unfolding bit_word
 tail-kind = done-kind _ (omega arith)
 
-pub tail-value : value_in (bit_word bit.Tail) ≡ 0
+pub tail-value : value_in (bit_word (Ok bit.Tail)) ≡ 0
 unfolding bit_word
 tail-value = done-value _ (omega arith)
 
-pub mark-kind : kind_in (bit_word bit.Mark) ≡ 2
+pub mark-kind : kind_in (bit_word (Ok bit.Mark)) ≡ 2
 unfolding bit_word
 mark-kind = done-kind _ (omega arith)
 
-pub mark-value : value_in (bit_word bit.Mark) ≡ 0
+pub mark-value : value_in (bit_word (Ok bit.Mark)) ≡ 0
 unfolding bit_word
 mark-value = done-value _ (omega arith)
 
-pub position-value : (p : ℕ) → value_in (position_word (position.Position p)) ≡ p
+pub position-value : (p : ℕ) → value_in (position_word (Ok p)) ≡ p
 unfolding position_word
 position-value p = done-value _ (omega arith)

@@ -6,10 +6,10 @@ use Prim.Native.Nat.{ℕ, ◌^◌, ◌<◌}
 use native.Mathlib.Omega.{arith}
 use lib.ListN.{length}
 use lib.Dec.{ltb}
-use Rattle.replies.specs.Replies.{number, unless}
+use Rattle.replies.specs.Replies.{number, verdict_number, unless}
 use Rattle.remainder.specs.Remainder.{number_of}
-use Rattle.fragments.specs.declared.FragmentsAnswer.{FragmentsAnswer}
-use Rattle.fragments.specs.declared.FragmentsAnswer.TheVariants.{Done, Refused}
+use Rattle.std.specs.Prelude.{⊤, Result}
+use Rattle.replies.specs.declared.Refusal.{Refusal}
 use Rattle.register_fragments.specs.Fragments.{joined}
 use Rattle.fragments.specs.Calls.{Ended, ended, ending, offered, coefficients, fitting, reply, export_of, import_of}
 use Rattle.fragments.proofs.Replies.{ended-lent}
@@ -37,13 +37,9 @@ import-holds field fragments remainder = word_holds 0 (reply-low field (length r
 
 -- from what the call of the crate below ensures
 
-answer-reply : (a : FragmentsAnswer) (k l : List ℕ) → (ended a k).reply ≡ (ended a l).reply
+pub fragments-returns : (a : Result ⊤ Refusal) {w : Ended} {x r : ℕ} (l : List ℕ) → ended a l ≡ w → w.block ≡ 0 → x ≡ verdict_number a → r ≡ answer_word x 0 0 0 → FragmentsReturns w r l
 unfolding ended
-answer-reply Done k l = refl
-answer-reply (Refused r) k l = refl
-
-pub fragments-returns : (a : FragmentsAnswer) {w : Ended} {x r : ℕ} (l : List ℕ) → ended a l ≡ w → w.block ≡ 0 → x ≡ (ended a []).reply → r ≡ answer_word x 0 0 0 → FragmentsReturns w r l
 fragments-returns a l e z h k = record {
-  word = k ∙ rw (h, z, ← e) (ap (λ (y : ℕ). answer_word y 0 0 0) (answer-reply a [] l));
+  word = k ∙ rw (h, z, ← e);
   lent = rw (← e) (sym (ended-lent a l));
 }

@@ -9,14 +9,11 @@ use lib.ListN.{length}
 use lib.Dec.{eqb, ltb, leb}
 use borrow.Author.Tests.{eqb-true, leb-true}
 use Rattle.field.specs.declared.Field.{Field}
-use Rattle.field.specs.declared.Choice.{Choice}
-use Rattle.field.specs.declared.Choice.TheVariants.{Offered, Unknown}
 use Rattle.field.specs.Field.{degree, longest, chosen}
 use Rattle.code.specs.Locations.{Locations, exponents, nowhere, locate}
 use Rattle.code.proofs.Locations.{exponents-locate, listed-length}
 use Rattle.remainder.specs.Remainder.{bytes_for}
-use Rattle.bch.specs.declared.LocateAnswer.{LocateAnswer}
-use Rattle.bch.specs.declared.LocateAnswer.TheVariants as answer
+use Rattle.std.specs.Prelude.{Option, Some, None, Result, Ok, Err}
 use Rattle.replies.specs.declared.Refusal.{Refusal}
 use Rattle.replies.specs.Replies.{number, block}
 use Rattle.replies.specs.Edition.{offered, highest}
@@ -72,9 +69,9 @@ pub locate-few : (edition field choice n : ℕ) (remainder places : List ℕ) �
 unfolding locate_of locate_for
 locate-few edition field choice n remainder places = under (offered edition)
   where
-    go : (c : Choice) → (locate_for edition c field n remainder places).size ≤ 62
-    go (Offered f) = locate-in-few edition f field n remainder places
-    go Unknown = omega arith
+    go : (c : Option Field) → (locate_for edition c field n remainder places).size ≤ 62
+    go (Some f) = locate-in-few edition f field n remainder places
+    go None = omega arith
 
     under : (b : Bool) → (cond b (locate_for edition (chosen choice) field n remainder places) (refused 7 places)).size ≤ 62
     under true = go (chosen choice)
@@ -135,9 +132,9 @@ locate-holds edition field choice n remainder places = under (offered edition)
     holds : (w : Ended) → Ends w → Holds w.reply w.block w.size (answer_word w.reply w.block 0 w.size)
     holds w h = word_holds w.size h.low (omega (arith, h.first)) h.none
 
-    go : (c : Choice) → Ends (locate_for edition c field n remainder places)
-    go (Offered f) = locate-in-ends edition f field n remainder places
-    go Unknown = refused-ends 7 places (omega arith)
+    go : (c : Option Field) → Ends (locate_for edition c field n remainder places)
+    go (Some f) = locate-in-ends edition f field n remainder places
+    go None = refused-ends 7 places (omega arith)
 
     under : (b : Bool) → let w = cond b (locate_for edition (chosen choice) field n remainder places) (refused 7 places) in
         Holds w.reply w.block w.size (answer_word w.reply w.block 0 w.size)
@@ -146,15 +143,15 @@ locate-holds edition field choice n remainder places = under (offered edition)
 
 -- from what the call of the crate below ensures, and which of its answers it was
 
-module _ {a : LocateAnswer} {w : Ended} (p : List ℕ) (e : ended a p ≡ w) where
-  pub located-size : {k : ℕ} → a ≡ answer.Located k → w.size ≤ 62 → k ≤ 62
+module _ {a : Result ℕ Refusal} {w : Ended} (p : List ℕ) (e : ended a p ≡ w) where
+  pub located-size : {k : ℕ} → a ≡ Ok k → w.size ≤ 62 → k ≤ 62
   unfolding ended
   located-size {k} h s = let z : w.size ≡ k = simp (sym e, h) in omega arith
 
-  pub locate-done : {r k : ℕ} → a ≡ answer.Located k → r ≡ done_word 0 k → LocateReturns w r p
+  pub locate-done : {r k : ℕ} → a ≡ Ok k → r ≡ done_word 0 k → LocateReturns w r p
   unfolding done_word ended
   locate-done h k = record { word = k ∙ simp (sym e, h); places = simp (sym e, h) }
 
-  pub locate-refused : {r : ℕ} {x : Refusal} → a ≡ answer.Refused x → r ≡ refused_word (number x) (block x) → LocateReturns w r p
+  pub locate-refused : {r : ℕ} {x : Refusal} → a ≡ Err x → r ≡ refused_word (number x) (block x) → LocateReturns w r p
   unfolding refused_word ended
   locate-refused h k = record { word = k ∙ simp (sym e, h); places = simp (sym e, h) }

@@ -10,8 +10,9 @@ use lib.Dec.{eqb, ltb}
 use borrow.Author.Tests.{eqb-true, ltb-true}
 use Rattle.layout_plan.specs.Record.{Words}
 use Rattle.layout_plan.specs.declared.Plan.{Plan}
-use Rattle.layout.specs.declared.Acceptance.{Acceptance}
-use Rattle.layout.specs.declared.Acceptance.TheVariants.{Accepted, Refused}
+use Rattle.std.specs.Prelude.{Result, Ok, Err}
+use Rattle.layout_plan.specs.declared.Layout.{Layout}
+use Rattle.layout.specs.declared.Refusal.{Refusal}
 use Rattle.layout_plan.specs.Plan.{plan_of}
 use Rattle.layout.specs.Acceptance.{acceptance}
 use Rattle.code.specs.Outcome.{Outcome, good, erased, ruined}
@@ -80,25 +81,25 @@ module _ (rec : Words) (bytes : (i : ℕ) → get_or rec.bytes i 0 < 256) where
   unfolding look_for
   look-low page c = go (acceptance rec) refl
     where
-      go : (a : Acceptance) → acceptance rec ≡ a → (look_for a page c).block < 65536
-      go (Accepted l) h = omega (arith, look-block (plan_of l) page c, blocks-low l (accepted-narrow rec bytes l h))
-      go (Refused r) h = omega arith
+      go : (a : Result Layout Refusal) → acceptance rec ≡ a → (look_for a page c).block < 65536
+      go (Ok l) h = omega (arith, look-block (plan_of l) page c, blocks-low l (accepted-narrow rec bytes l h))
+      go (Err r) h = omega arith
 
   take-low : (page m d : List ℕ) → (take_of rec page m d).block < 65536
   unfolding take_for
   take-low page m d = go (acceptance rec) refl
     where
-      go : (a : Acceptance) → acceptance rec ≡ a → (take_for a page m d).block < 65536
-      go (Accepted l) h = omega (arith, take-block (plan_of l) page m d, blocks-low l (accepted-narrow rec bytes l h))
-      go (Refused r) h = omega arith
+      go : (a : Result Layout Refusal) → acceptance rec ≡ a → (take_for a page m d).block < 65536
+      go (Ok l) h = omega (arith, take-block (plan_of l) page m d, blocks-low l (accepted-narrow rec bytes l h))
+      go (Err r) h = omega arith
 
   judge-low : (page : List ℕ) (b : ℕ) → (judge_of rec page b).block < 65536
   unfolding judge_for
   judge-low page b = go (acceptance rec) refl
     where
-      go : (a : Acceptance) → acceptance rec ≡ a → (judge_for a page b).block < 65536
-      go (Accepted l) h = omega (arith, judge-block (plan_of l) page b, blocks-low l (accepted-narrow rec bytes l h))
-      go (Refused r) h = omega arith
+      go : (a : Result Layout Refusal) → acceptance rec ≡ a → (judge_for a page b).block < 65536
+      go (Ok l) h = omega (arith, judge-block (plan_of l) page b, blocks-low l (accepted-narrow rec bytes l h))
+      go (Err r) h = omega arith
 
   pub write-holds : (m d page : List ℕ) → let w = write_of rec m d page in Holds w.reply w.block 0 (answer_word w.reply w.block 0 0)
   unfolding total

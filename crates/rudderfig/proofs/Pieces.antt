@@ -4,23 +4,26 @@ use mathlib.Core.List.{List}
 use Prim.Native.Nat.{ℕ}
 use native.Mathlib.Omega.{arith}
 use Rattle.piece_rules.specs.declared.State.{State}
-use Rattle.piece_states.specs.declared.Answered.{Answered}
-use Rattle.piece_states.specs.Calls.{Finished, finished, start_of, feed_of, finish_of}
+use Rattle.std.specs.Prelude.{⊤, Result}
+use Rattle.replies.specs.declared.Refusal.{Refusal}
+use Rattle.replies.specs.Replies.{verdict_number}
+use Rattle.piece_states.specs.Calls.{Answered, answered, Finished, finished, start_of, feed_of, finish_of}
 use Rattle.pieces.proofs.Ends.{start_small, piece-small, start-ends, feed-ends, finish-ends}
 use Rattle.answer_words.specs.Answer.{answer_word}
 use Rattle.rudderfig.specs.Pieces.{StateReturns, ParityReturns}
 use Rattle.rudderfig.proofs.Words.{Holds, word_holds}
 
-pub state-returns : (a : Answered) {b : Answered} {w : ℕ} → a ≡ b → w ≡ answer_word a.reply 0 0 0 → StateReturns b w a.state
-state-returns a e h = record { word = h ∙ ap (λ (x : Answered). answer_word x.reply 0 0 0) e; state = ap (λ (x : Answered). x.state) e }
+module _ (a : Result ⊤ Refusal) {s : State} {w : ℕ} where
+  pub state-returns : {b : Answered} → answered (verdict_number a) s ≡ b → w ≡ answer_word (verdict_number a) 0 0 0 → StateReturns b w s
+  state-returns e h = record { word = h ∙ ap (λ (x : Answered). answer_word x.reply 0 0 0) e; state = ap (λ (x : Answered). x.state) e }
 
-pub parity-returns : (a : Answered) {p : List ℕ} {b : Finished} {w : ℕ} → finished a p ≡ b → w ≡ answer_word a.reply 0 0 0 → ParityReturns b w a.state p
-unfolding finished
-parity-returns a e h = record {
-  word = h ∙ ap (λ (x : Finished). answer_word x.reply 0 0 0) e;
-  state = ap (λ (x : Finished). x.state) e;
-  parity = ap (λ (x : Finished). x.parity) e;
-}
+  pub parity-returns : {p : List ℕ} {b : Finished} → finished (answered (verdict_number a) s) p ≡ b → w ≡ answer_word (verdict_number a) 0 0 0 → ParityReturns b w s p
+  unfolding finished
+  parity-returns e h = record {
+    word = h ∙ ap (λ (x : Finished). answer_word x.reply 0 0 0) e;
+    state = ap (λ (x : Finished). x.state) e;
+    parity = ap (λ (x : Finished). x.parity) e;
+  }
 
 pub start-holds : (s : State) (edition level choice n : ℕ) → let a = start_of s edition level choice n in Holds a.reply 0 0 (answer_word a.reply 0 0 0)
 start-holds s edition level choice n = word_holds 0 (omega (arith, start_small (start-ends s edition level choice n).table)) (omega arith) (λ h. refl)

@@ -12,10 +12,9 @@ use Rattle.field.specs.Field.{degree}
 use Rattle.layout_plan.specs.declared.BlockFields.{BlockFields}
 use Rattle.layout_plan.specs.declared.Layout.{Layout}
 use Rattle.layout_plan.specs.declared.Plan.{Plan}
-use Rattle.layout.specs.declared.Acceptance.{Acceptance}
-use Rattle.layout.specs.declared.Acceptance.TheVariants.{Accepted, Refused}
-use Rattle.layout.specs.declared.BitAnswer.TheVariants as bit
-use Rattle.layout.specs.declared.PositionAnswer.TheVariants as position
+use Rattle.std.specs.Prelude.{Result, Ok, Err}
+use Rattle.layout.specs.declared.Refusal.{Refusal}
+use Rattle.layout.specs.declared.BitPlace.TheVariants as bit
 use Rattle.layout_plan.specs.Record.{Words, block_fields, fields_at, fields_under, fields_in}
 use Rattle.layout_plan.specs.Plan.{shape_with, shape_of, later_shape, plan_for, plan_of, shape, covered}
 use Rattle.layout.specs.Acceptance.{acceptance}
@@ -55,7 +54,7 @@ module _ (rec : Words) (bytes : (i : ℕ) → get_or rec.bytes i 0 < 256) where
       go true = first-low
       go false = later-low
 
-  pub accepted-narrow : (l : Layout) → acceptance rec ≡ Accepted l → Narrow (plan_of l)
+  pub accepted-narrow : (l : Layout) → acceptance rec ≡ Ok l → Narrow (plan_of l)
   accepted-narrow l h = rw (accepted-plan rec l h) narrow
 
 pub blocks-low : (l : Layout) → Narrow (plan_of l) → (plan_of l).blocks ≤ 256
@@ -67,26 +66,26 @@ pub record Located (b e : ℕ) : Type 0 where
   pub exponent : e < 65536
 
 module _ (rec : Words) (bytes : (i : ℕ) → get_or rec.bytes i 0 < 256) where
-  pub bit-low : (p b e : ℕ) → bit_answer rec p ≡ bit.InBlock b e → Located b e
+  pub bit-low : (p b e : ℕ) → bit_answer rec p ≡ Ok (bit.InBlock b e) → Located b e
   unfolding bit_answer bit_for
   bit-low p b e h = go (acceptance rec) refl h
     where
-      go : (a : Acceptance) → acceptance rec ≡ a → bit_for a p ≡ bit.InBlock b e → Located b e
-      go (Accepted l) k x =
+      go : (a : Result Layout Refusal) → acceptance rec ≡ a → bit_for a p ≡ Ok (bit.InBlock b e) → Located b e
+      go (Ok l) k x =
           let n = accepted-narrow rec bytes l k in
           let at = bit-belongs (plan_of l) p b e x in
           record {
             block = omega (arith, at.number, n.blocks);
             exponent = omega (arith, at.exponent, exponent-low (plan_of l) at.lies, n.covered b);
           }
-      go (Refused r) k x = let z : ◌≡◌ {A = ℕ} 0 1 = cc x in absurd (omega arith)
+      go (Err r) k x = let z : ◌≡◌ {A = ℕ} 0 1 = cc x in absurd (omega arith)
 
-  pub position-low : (p b e : ℕ) → position_answer rec b e ≡ position.Position p → p < 524288
+  pub position-low : (p b e : ℕ) → position_answer rec b e ≡ Ok p → p < 524288
   unfolding position_answer position_for
   position-low p b e h = go (acceptance rec) refl h
     where
-      go : (a : Acceptance) → acceptance rec ≡ a → position_for a b e ≡ position.Position p → p < 524288
-      go (Accepted l) k x =
+      go : (a : Result Layout Refusal) → acceptance rec ≡ a → position_for a b e ≡ Ok p → p < 524288
+      go (Ok l) k x =
           let inside = belongs-page (plan_of l) (accepted-valid rec l k) (position-belongs (plan_of l) p b e x) in
           omega (arith, (accepted-narrow rec bytes l k).size)
-      go (Refused r) k x = let z : ◌≡◌ {A = ℕ} 0 1 = cc x in absurd (omega arith)
+      go (Err r) k x = let z : ◌≡◌ {A = ℕ} 0 1 = cc x in absurd (omega arith)

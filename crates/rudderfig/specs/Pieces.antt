@@ -4,8 +4,7 @@
 -- ParityReturns w r s p    finishing that ends as w returns r and leaves s in the state and p in the parity buffer
 use Rattle.std.specs.Prelude.{◌≡◌, List, ℕ}
 use Rattle.piece_rules.specs.declared.State.{State}
-use Rattle.piece_states.specs.declared.Answered.{Answered}
-use Rattle.piece_states.specs.Calls.{Finished}
+use Rattle.piece_states.specs.Calls.{Answered, Finished}
 use Rattle.answer_words.specs.Answer.{answer_word}
 
 pub record StateReturns (a : Answered) (r : ℕ) (s : State) : Type 0 where

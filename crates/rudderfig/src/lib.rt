@@ -23,31 +23,38 @@ pub mod locator;
 pub mod parity;
 
 ghost use Rattle.std.specs.Prelude.{◌≡◌};
+ghost use Rattle.replies.specs.Replies.{verdict_number, verdict_block};
 ghost use Rattle.bch.specs.Answers.{locate_of};
 ghost use Rattle.layout_plan.specs.Record.{words_of};
 ghost use Rattle.layout.specs.Acceptance.{acceptance};
 ghost use Rattle.layout.specs.Bits.{bit_answer, position_answer};
 ghost use Rattle.page_theory.specs.Calls.{write_of, look_of, take_of, judge_of, claim_of};
+ghost use Rattle.answer_words.specs.Answer.{answer_word};
 ghost use Rattle.rudderfig.specs.Bits.{acceptance_word, bit_word, position_word};
 ghost use Rattle.rudderfig.specs.Locating.{LocateReturns};
 ghost use Rattle.rudderfig.specs.Pages.{WriteReturns, LookReturns, TakeReturns, judge_word, claim_word};
 
 use answer_words::{done, refused, refused_by};
-use bch::LocateAnswer;
-use layout::{Acceptance, BitAnswer, PositionAnswer};
-use page_claim::ClaimAnswer;
-use page_judge::JudgeAnswer;
-use page_look::LookAnswer;
-use page_take::TakeAnswer;
-use page_write::WriteAnswer;
+use layout::BitPlace;
+use replies::Refusal;
+
+// The word of an answer with no value.
+fn plain_word(answer: Result<(), Refusal>) -> u64
+    ensures { result ≡ answer_word (verdict_number answer) (verdict_block answer) 0 0 }
+{
+    match answer {
+        Ok(()) => done(0, 0),
+        Err(refusal) => refused_by(refusal),
+    }
+}
 
 // Is this layout acceptable?
 pub fn rudderfig_check_layout(edition: u64, words: &[u8]) -> u64
     ensures { result ≡ acceptance_word (acceptance (words_of edition words.now)) }
 {
     match layout::check_layout(edition, words) {
-        Acceptance::Accepted(_) => done(0, 0),
-        Acceptance::Refused(refusal) => refused(layout::refusal_reply(refusal), 0),
+        Ok(_) => done(0, 0),
+        Err(refusal) => refused(layout::refusal_reply(refusal), 0),
     }
 }
 
@@ -56,10 +63,12 @@ pub fn rudderfig_locate_bit(edition: u64, words: &[u8], position: u64) -> u64
     ensures { result ≡ bit_word (bit_answer (words_of edition words.now) position) }
 {
     match page_bits::locate_bit(edition, words, position) {
-        BitAnswer::InBlock { block, exponent } => done(0, 0x10000 * block as u32 + exponent as u32),
-        BitAnswer::Tail => done(1, 0),
-        BitAnswer::Mark => done(2, 0),
-        BitAnswer::Refused(refusal) => refused(layout::refusal_reply(refusal), 0),
+        Ok(BitPlace::InBlock { block, exponent }) => {
+            done(0, 0x10000 * block as u32 + exponent as u32)
+        }
+        Ok(BitPlace::Tail) => done(1, 0),
+        Ok(BitPlace::Mark) => done(2, 0),
+        Err(refusal) => refused(layout::refusal_reply(refusal), 0),
     }
 }
 
@@ -68,8 +77,8 @@ pub fn rudderfig_bit_position(edition: u64, words: &[u8], block: u64, exponent: 
     ensures { result ≡ position_word (position_answer (words_of edition words.now) block exponent) }
 {
     match page_bits::bit_position(edition, words, block, exponent) {
-        PositionAnswer::Position(position) => done(0, position as u32),
-        PositionAnswer::Refused(refusal) => refused(layout::refusal_reply(refusal), 0),
+        Ok(position) => done(0, position as u32),
+        Err(refusal) => refused(layout::refusal_reply(refusal), 0),
     }
 }
 
@@ -84,20 +93,14 @@ pub fn rudderfig_write_page(
     ensures { WriteReturns (write_of (words_of edition words.now) metadata.now «data».now page.old)
         result page.new }
 {
-    match page_write::write_page(edition, words, metadata, data, page) {
-        WriteAnswer::Done => done(0, 0),
-        WriteAnswer::Refused(refusal) => refused_by(refusal),
-    }
+    plain_word(page_write::write_page(edition, words, metadata, data, page))
 }
 
 // Looks at a page: the count of each block. Reply 9 names the lowest ruined block, and the counts are written all the same.
 pub fn rudderfig_look_page(edition: u64, words: &[u8], page: &[u8], counts: &mut [u8]) -> u64
     ensures { LookReturns (look_of (words_of edition words.now) page.now counts.old) result counts.new }
 {
-    match page_look::look_page(edition, words, page, counts) {
-        LookAnswer::Done => done(0, 0),
-        LookAnswer::Refused(refusal) => refused_by(refusal),
-    }
+    plain_word(page_look::look_page(edition, words, page, counts))
 }
 
 // Takes metadata and data out of a page. Reply 9 names the lowest ruined block.
@@ -111,10 +114,7 @@ pub fn rudderfig_take_page(
     ensures { TakeReturns (take_of (words_of edition words.now) page.now metadata.old «data».old)
         result metadata.new «data».new }
 {
-    match page_take::take_page(edition, words, page, metadata, data) {
-        TakeAnswer::Done => done(0, 0),
-        TakeAnswer::Refused(refusal) => refused_by(refusal),
-    }
+    plain_word(page_take::take_page(edition, words, page, metadata, data))
 }
 
 // Judges one block of a page. The value is the number of its flips; reply 9 names the block.
@@ -122,8 +122,8 @@ pub fn rudderfig_judge_block(edition: u64, words: &[u8], page: &[u8], block: u64
     ensures { result ≡ judge_word (judge_of (words_of edition words.now) page.now block) }
 {
     match page_judge::judge_block(edition, words, page, block) {
-        JudgeAnswer::Flips(flips) => done(0, flips as u32),
-        JudgeAnswer::Refused(refusal) => refused_by(refusal),
+        Ok(flips) => done(0, flips as u32),
+        Err(refusal) => refused_by(refusal),
     }
 }
 
@@ -138,8 +138,8 @@ pub fn rudderfig_check_claim(
     ensures { result ≡ claim_word (claim_of (words_of edition words.now) page.now block claims.now) }
 {
     match page_claim::check_claim(edition, words, page, block, claims) {
-        ClaimAnswer::Accepted => done(0, 0),
-        ClaimAnswer::Refused(refusal) => refused(replies::refusal_number(refusal), 0),
+        Ok(()) => done(0, 0),
+        Err(refusal) => refused(replies::refusal_number(refusal), 0),
     }
 }
 
@@ -156,7 +156,7 @@ pub fn rudderfig_locate_errors(
         result places.new }
 {
     match bch::locate_errors(edition, level_field, field_choice, n, remainder, places) {
-        LocateAnswer::Located(count) => done(0, count as u32),
-        LocateAnswer::Refused(refusal) => refused_by(refusal),
+        Ok(count) => done(0, count as u32),
+        Err(refusal) => refused_by(refusal),
     }
 }

@@ -6,14 +6,14 @@ use Rattle.rudderfig.proofs.rudderfig_bit_position.Goals as goal
 
 pub overflow_cast-position : goal.overflow_cast-position
 overflow_cast-position c = let low =
-    position-low _ (λ i. (c.shared_slice_known-1.given i).fits) _ _ _ (sym c.bit_position.ensures ∙ c.in-Position.is) in
+    position-low _ (λ i. (c.shared_slice_known-1.given i).fits) _ _ _ (sym c.bit_position.ensures ∙ c.in-Ok.is) in
     omega arith
 
-pub returns-in-Position : goal.returns-in-Position
+pub returns-in-Ok : goal.returns-in-Ok
 unfolding position_word
-returns-in-Position c = c.done.ensures ∙ simp (sym c.bit_position.ensures, c.in-Position.is)
+returns-in-Ok c = c.done.ensures ∙ simp (sym c.bit_position.ensures, c.in-Ok.is)
 
-pub returns-in-Refused : goal.returns-in-Refused
+pub returns-in-Err : goal.returns-in-Err
 unfolding position_word
-returns-in-Refused c = c.refused.ensures
-    ∙ simp (c.refusal_reply.ensures, sym c.bit_position.ensures, c.in-Refused.is)
+returns-in-Err c = c.refused.ensures
+    ∙ simp (c.refusal_reply.ensures, sym c.bit_position.ensures, c.in-Err.is)

@@ -1,8 +1,8 @@
 use Rattle.rudderfig.proofs.Returns.{claim-accepted, claim-refused}
 use Rattle.rudderfig.proofs.rudderfig_check_claim.Goals as goal
 
-pub returns-in-Accepted : goal.returns-in-Accepted
-returns-in-Accepted c = claim-accepted c.check_claim.ensures c.in-Accepted.is c.done.ensures
+pub returns-in-Ok : goal.returns-in-Ok
+returns-in-Ok c = claim-accepted c.check_claim.ensures c.in-Ok.is c.done.ensures
 
-pub returns-in-Refused : goal.returns-in-Refused
-returns-in-Refused c = claim-refused c.check_claim.ensures c.in-Refused.is c.refusal_number.ensures c.refused.ensures
+pub returns-in-Err : goal.returns-in-Err
+returns-in-Err c = claim-refused c.check_claim.ensures c.in-Err.is c.refusal_number.ensures c.refused.ensures

@@ -1,8 +1,8 @@
 use Rattle.rudderfig.proofs.Returns.{judge-flips, judge-refused}
 use Rattle.rudderfig.proofs.rudderfig_judge_block.Goals as goal
 
-pub returns-in-Flips : goal.returns-in-Flips
-returns-in-Flips c = judge-flips c.judge_block.ensures c.in-Flips.is c.done.ensures
+pub returns-in-Ok : goal.returns-in-Ok
+returns-in-Ok c = judge-flips c.judge_block.ensures c.in-Ok.is c.done.ensures
 
-pub returns-in-Refused : goal.returns-in-Refused
-returns-in-Refused c = judge-refused c.judge_block.ensures c.in-Refused.is c.refused_by.ensures
+pub returns-in-Err : goal.returns-in-Err
+returns-in-Err c = judge-refused c.judge_block.ensures c.in-Err.is c.refused_by.ensures

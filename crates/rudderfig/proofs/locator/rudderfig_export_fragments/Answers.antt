@@ -5,4 +5,4 @@ use Rattle.rudderfig.proofs.locator.rudderfig_export_fragments.Goals as goal
 
 pub returns : goal.returns
 unfolding export_of ending
-returns c = fragments-returns _ _ c.export_fragments-exported.ensures refl c.fragments_reply.ensures c.answer_word.ensures
+returns c = fragments-returns _ _ c.export_fragments-exported.ensures refl c.answer_number.ensures c.answer_word.ensures

@@ -5,4 +5,4 @@ use Rattle.rudderfig.proofs.locator.rudderfig_import_fragments.Goals as goal
 
 pub returns : goal.returns
 unfolding import_of ending
-returns c = fragments-returns _ _ c.import_fragments-imported.ensures refl c.fragments_reply.ensures c.answer_word.ensures
+returns c = fragments-returns _ _ c.import_fragments-imported.ensures refl c.answer_number.ensures c.answer_word.ensures

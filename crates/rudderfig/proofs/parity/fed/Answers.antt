@@ -1,5 +1,0 @@
-use Rattle.rudderfig.proofs.Pieces.{state-returns}
-use Rattle.rudderfig.proofs.parity.fed.Goals as goal
-
-pub returns : goal.returns
-returns c = state-returns _ c.feed-answered.ensures c.answer_word-word.ensures
