@@ -5,7 +5,7 @@ use streams::System;
 
 // A layout.
 pub fn check<R: System + Input + Print>(rt: &R, sectors: Sectors) {
-    let reply = layout::acceptance_reply(sectors::check_sectors(sectors));
+    let reply = layout::answer_reply(sectors::check_sectors(sectors));
     vector_io::show(rt, &[reply as u64, 0]);
 }
 
