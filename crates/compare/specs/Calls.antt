@@ -20,7 +20,7 @@ use Rattle.layout.specs.declared.Refusal as kinds
 use Rattle.layout_plan.specs.Plan.{plan_of}
 use Rattle.layout.specs.Acceptance.{acceptance, refusal_reply}
 use Rattle.page_theory.specs.Reading.{counts}
-use Rattle.differences.specs.Option ℕs.{next}
+use Rattle.differences.specs.Differences.{next}
 
 -- Pages of up to 16,384 bytes.
 unfoldable pub pages_reply : Plan → ℕ → ℕ → ℕ
