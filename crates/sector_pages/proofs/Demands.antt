@@ -16,8 +16,8 @@ use lib.ListN.{length, get_or}
 use Rattle.layout_plan.specs.declared.Sectors.{Sectors}
 use Rattle.layout_plan.specs.declared.Layout.{Layout}
 use Rattle.layout_plan.specs.declared.Plan.{Plan}
-use Rattle.layout.specs.declared.Acceptance.{Acceptance}
-use Rattle.layout.specs.declared.Acceptance.TheVariants.{Accepted}
+use Rattle.layout.specs.declared.Refusal.{Refusal}
+use Rattle.std.specs.Prelude.{Result, Ok}
 use Rattle.layout_plan.specs.Plan.{plan_of, level}
 use Rattle.code.specs.Outcome.{Outcome}
 use Rattle.bits.specs.Bits.{run}
@@ -33,8 +33,8 @@ use Rattle.page_theory.proofs.Worn as worn
 use Rattle.sectors.specs.Sectors.{sector_acceptance}
 use Rattle.sectors.proofs.Accepting.{sectors-valid}
 
-module _ (s : Sectors) (l : Layout) (h : sector_acceptance s ≡ Accepted l) where
-  abbrev a : Acceptance
+module _ (s : Sectors) (l : Layout) (h : sector_acceptance s ≡ Ok l) where
+  abbrev a : Result Layout Refusal
   a = sector_acceptance s
 
   abbrev q : Plan

@@ -9,8 +9,8 @@ use Rattle.bits.specs.Bits.{run, bytes}
 use Rattle.layout_plan.specs.declared.Sectors.{Sectors}
 use Rattle.layout_plan.specs.declared.Plan.{Plan}
 use Rattle.layout_plan.specs.declared.Layout.{Layout}
-use Rattle.layout.specs.declared.Acceptance.{Acceptance}
-use Rattle.layout.specs.declared.Acceptance.TheVariants.{Accepted, Refused}
+use Rattle.layout.specs.declared.Refusal.{Refusal}
+use Rattle.std.specs.Prelude.{Result, Ok, Err}
 use Rattle.layout_plan.specs.Plan.{plan_of}
 use Rattle.layout_plan.specs.SectorPlan.{last_shape, own_shape, sectors_plan, sector_plan}
 use Rattle.page_theory.specs.Reading.{Reading, done, refused, reading}
@@ -40,9 +40,9 @@ module _ (page d : List ℕ) where
   unfolding take_for
   take_none s = go (sector_acceptance s) refl
     where
-      go : (a : Acceptance) → sector_acceptance s ≡ a → (take_for a page [] d).metadata ≡ []
-      go (Accepted l) e = in-none (plan_of l) (ap (λ (q : Plan). q.metadata) (sectors-plan s l e) ∙ plan-none s)
-      go (Refused r) e = refl
+      go : (a : Result Layout Refusal) → sector_acceptance s ≡ a → (take_for a page [] d).metadata ≡ []
+      go (Ok l) e = in-none (plan_of l) (ap (λ (q : Plan). q.metadata) (sectors-plan s l e) ∙ plan-none s)
+      go (Err r) e = refl
 
   -- what taking leaves, whatever the empty buffer is taken to hold
   pub taken_none : (s : Sectors) {n b : ℕ} {m after : List ℕ} → take_ended n b m after ≡ take_for (sector_acceptance s) page [] d

@@ -16,7 +16,7 @@ use Rattle.layout_plan.specs.declared.Sectors.{Sectors}
 use Rattle.layout_plan.specs.declared.Shape.{Shape}
 use Rattle.layout_plan.specs.declared.Layout.{Layout}
 use Rattle.layout_plan.specs.declared.Plan.{Plan}
-use Rattle.layout.specs.declared.Acceptance.TheVariants.{Accepted}
+use Rattle.std.specs.Prelude.{Ok}
 use Rattle.layout_plan.specs.Record.{field_of}
 use Rattle.layout_plan.specs.Plan.{plan_of, shape, field, level, Valid}
 use Rattle.layout_plan.specs.SectorPlan.{sector_shape, own_shape, last_shape, sectors_plan, sector_plan}
@@ -84,7 +84,7 @@ module _ (s : Sectors) (r : Ranged s) (count : (0 < s.count) × (s.count ≤ 16)
         (same-field _ _ _ _) (same-level _ _ _ _))
   ]
 
-pub sectors-planned : (s : Sectors) (l : Layout) → Ranged s → sector_acceptance s ≡ Accepted l → Planned (plan_of l)
+pub sectors-planned : (s : Sectors) (l : Layout) → Ranged s → sector_acceptance s ≡ Ok l → Planned (plan_of l)
 sectors-planned s l r e =
     let p = sectors-plan s l e in
     rw p (plan-planned s r (sectors-taken s l e).count (sectors-level s l e) (rw p at (sectors-valid s l e)))

@@ -11,6 +11,7 @@
 // Each takes the six numbers of the layout and the edition (`layout_plan::Sectors`) and asks nothing of its caller. A page has no metadata. The
 // calls differ from those of layout words in how the plan is made (`sectors::check_sectors`) and in nothing else: what a call answers
 // and leaves is the definition that serves both (`page_theory`, specs/Calls.antt, `write_for` and the others).
+// By hand: each is one line over `write_for` and the others; a trait over what names a layout would take no line away.
 #![tactic(auto)]
 
 mod pages;

@@ -2,56 +2,52 @@
 ghost use Rattle.std.specs.Prelude.{◌≡◌, []};
 ghost use Rattle.sectors.specs.Sectors.{sector_acceptance};
 ghost use Rattle.page_theory.specs.Calls.{write_ended, write_for, look_ended, look_for, take_ended, take_for, judge_ended, judge_for, claim_ended, claim_for};
-ghost use Rattle.page_write.specs.Answers.{write_number, write_block};
-ghost use Rattle.page_look.specs.Answers.{look_number, look_block};
-ghost use Rattle.page_take.specs.Answers.{take_number, take_block};
-ghost use Rattle.page_judge.specs.Answers.{judge_number, judge_block, judge_flips};
-ghost use Rattle.page_claim.specs.Answers.{claim_number};
+ghost use Rattle.replies.specs.Replies.{verdict_number, verdict_block};
+ghost use Rattle.page_judge.specs.Answers.{judge_flips};
 
 use layout_plan::Sectors;
-use page_claim::{ClaimAnswer, claim_for};
-use page_judge::{JudgeAnswer, judge_for};
-use page_look::{LookAnswer, look_for};
-use page_take::{TakeAnswer, take_for};
-use page_write::{WriteAnswer, write_for};
+use page_claim::claim_for;
+use page_judge::judge_for;
+use page_look::look_for;
+use page_take::take_for;
+use page_write::write_for;
+use replies::Refusal;
 use sectors::check_sectors;
 
 // Writes a page from the data of its sectors, first sector first.
-pub fn write_page(sectors: Sectors, data: &[u8], page: &mut [u8]) -> WriteAnswer
-    ensures { write_ended (write_number result) (write_block result) page.new
+pub fn write_page(sectors: Sectors, data: &[u8], page: &mut [u8]) -> Result<(), Refusal>
+    ensures { write_ended (verdict_number result) (verdict_block result) page.new
         ≡ write_for (sector_acceptance sectors) [] «data».now page.old }
 {
-    let none = [0u8; 0];
-    write_for(check_sectors(sectors), &none, data, page)
+    write_for(check_sectors(sectors), &[], data, page)
 }
 
 // Looks at a page: the counts of all sectors.
-pub fn look_page(sectors: Sectors, page: &[u8], counts: &mut [u8]) -> LookAnswer
-    ensures { look_ended (look_number result) (look_block result) counts.new
+pub fn look_page(sectors: Sectors, page: &[u8], counts: &mut [u8]) -> Result<(), Refusal>
+    ensures { look_ended (verdict_number result) (verdict_block result) counts.new
         ≡ look_for (sector_acceptance sectors) page.now counts.old }
 {
     look_for(check_sectors(sectors), page, counts)
 }
 
 // Takes the data out of a page.
-pub fn take_page(sectors: Sectors, page: &[u8], data: &mut [u8]) -> TakeAnswer
-    ensures { take_ended (take_number result) (take_block result) [] «data».new
+pub fn take_page(sectors: Sectors, page: &[u8], data: &mut [u8]) -> Result<(), Refusal>
+    ensures { take_ended (verdict_number result) (verdict_block result) [] «data».new
         ≡ take_for (sector_acceptance sectors) page.now [] «data».old }
 {
-    let mut none = [0u8; 0];
-    take_for(check_sectors(sectors), page, &mut none, data)
+    take_for(check_sectors(sectors), page, &mut [], data)
 }
 
 // Judges one sector of a page: its flip count.
-pub fn judge_block(sectors: Sectors, page: &[u8], block: u64) -> JudgeAnswer
-    ensures { judge_ended (judge_number result) (judge_block result) (judge_flips result) ≡ judge_for (sector_acceptance sectors) page.now block }
+pub fn judge_block(sectors: Sectors, page: &[u8], block: u64) -> Result<u8, Refusal>
+    ensures { judge_ended (verdict_number result) (verdict_block result) (judge_flips result) ≡ judge_for (sector_acceptance sectors) page.now block }
 {
     judge_for(check_sectors(sectors), page, block)
 }
 
 // Are these error locations of a sector, reported by a hardware locator, right?
-pub fn check_claim(sectors: Sectors, page: &[u8], block: u64, claims: &[u16]) -> ClaimAnswer
-    ensures { claim_ended (claim_number result) ≡ claim_for (sector_acceptance sectors) page.now block claims.now }
+pub fn check_claim(sectors: Sectors, page: &[u8], block: u64, claims: &[u16]) -> Result<(), Refusal>
+    ensures { claim_ended (verdict_number result) ≡ claim_for (sector_acceptance sectors) page.now block claims.now }
 {
     claim_for(check_sectors(sectors), page, block, claims)
 }

@@ -13,8 +13,7 @@ use Rattle.layout_plan.specs.Record.{Words}
 use Rattle.layout_plan.specs.Plan.{plan_of}
 use Rattle.plan_test.specs.Together.{holds_together}
 use Rattle.plan_test.proofs.Together.{accepted-together}
-use Rattle.version_list.specs.declared.Lookup.{Lookup}
-use Rattle.version_list.specs.declared.Lookup.TheVariants.{Found, Unknown}
+use Rattle.std.specs.Prelude.{Option, Some, None}
 use Rattle.version_list.specs.declared.Numbered.{Numbered}
 use Rattle.store.specs.declared.Store.{Store}
 use Rattle.version_list.specs.Plain.{Listed, Ended, empty, find, added, store_of, removed, remove_of, with_uses, set_of}
@@ -93,9 +92,9 @@ pub kept-tested : (s : Listed) → Kept s → (v : ℕ) → tested (version_of s
 unfolding tested version_of lookup_answer plan_of
 kept-tested s k v = go (find s.layouts v) refl
   where
-    go : (x : Lookup) → find s.layouts v ≡ x → tested (lookup_answer x) ≡ lookup_answer x
-    go (Found e) f = rw (made-together e (every-found v e k.made f))
-    go Unknown f = refl
+    go : (x : Option Numbered) → find s.layouts v ≡ x → tested (lookup_answer x) ≡ lookup_answer x
+    go (Some e) f = rw (made-together e (every-found v e k.made f))
+    go None f = refl
 
 -- ---- the contracts as they stand, in a sequence of calls
 

@@ -10,124 +10,101 @@
 // An unknown version is reply 7, before everything else. What a call answers and leaves is that of the call with the edition and the record
 // that the version was stored with (crate `store_runs`, specs/Runs.antt `version_of`, proofs/Demands.antt).
 //
-// Every store that the calls of the crate `store` make keeps the plans of accepted layouts (proofs/Keeping.antt), but a type cannot say
-// so. So each call first compares the kept numbers with each other (crate `plan_test`). A plan that does not hold together, which no
+// Every store that the calls of the crate `store` make keeps the plans of accepted layouts (proofs/Keeping.antt), but the type does not
+// say so. So each call first compares the kept numbers with each other (crate `plan_test`). A plan that does not hold together, which no
 // such store keeps, is reply 7 too (specs/Tested.antt).
-#![tactic(auto)]
+// By hand: no invariant of `Store` says so, since `tested` and the wrong program `untested_plan` speak of the other stores.
+#![tactic(auto, using(crate::proofs::Versions::bare), unfolding(replies::specs::Replies::verdict_number, replies::specs::Replies::verdict_block, layout::specs::Acceptance::refusal_reply, layout_plan::specs::Plan::plan_of, page_theory::specs::Calls::write_for, page_theory::specs::Calls::look_for, page_theory::specs::Calls::take_for, page_theory::specs::Calls::judge_for, page_theory::specs::Calls::claim_for, page_judge::specs::Answers::judge_flips, crate::specs::Tested::plan_answer))]
 
-ghost use Rattle.std.specs.Prelude.{◌≡◌};
+ghost use Rattle.std.specs.Prelude.{◌≡◌, IfOk};
 ghost use Rattle.page_theory.specs.Calls.{write_ended, write_for, look_ended, look_for, take_ended, take_for, judge_ended, judge_for, claim_ended, claim_for};
-ghost use Rattle.page_write.specs.Answers.{write_number, write_block};
-ghost use Rattle.page_look.specs.Answers.{look_number, look_block};
-ghost use Rattle.page_take.specs.Answers.{take_number, take_block};
-ghost use Rattle.page_judge.specs.Answers.{judge_number, judge_block, judge_flips};
-ghost use Rattle.page_claim.specs.Answers.{claim_number};
+ghost use Rattle.replies.specs.Replies.{verdict_number, verdict_block};
+ghost use Rattle.page_judge.specs.Answers.{judge_flips};
 ghost use Rattle.store.specs.Answers.{listed};
 ghost use Rattle.store_runs.specs.Runs.{version_of};
-ghost use Rattle.page_plan.specs.Plans.{Sound};
+ghost use Rattle.page_plan.specs.Plans.{Planned};
 ghost use Rattle.store_pages.specs.Tested.{tested, plan_answer};
 
 use layout_plan::Plan;
-use page_claim::{ClaimAnswer, claim_in};
-use page_judge::{JudgeAnswer, judge_in};
-use page_look::{LookAnswer, look_in};
-use page_take::{TakeAnswer, take_in};
-use page_write::{WriteAnswer, write_in};
+use page_claim::claim_in;
+use page_judge::judge_in;
+use page_look::look_in;
+use page_take::take_in;
+use page_write::write_in;
 use plan_test::holds_together;
 use replies::Refusal;
-use store::{Lookup, Store, find_version};
-
-// The plan of a version, if the store holds it and its numbers hold together.
-#[derive(Drop)]
-enum VersionPlan {
-    Known(Plan),
-    Refused,
-}
+use store::Store;
 
 // Looks the plan of a version up and tests it.
-fn find_plan(store: Store, version: u64) -> VersionPlan
-    ensures eq { plan_answer result ≡ tested (version_of (listed store) version) }
-    ensures sound { Sound (plan_answer result) }
+fn find_plan(store: &Store, version: u64) -> Result<Plan, layout::Refusal>
+    ensures eq { plan_answer result ≡ tested (version_of (listed store.now) version) }
+    ensures sound { IfOk result (λ q. Planned q) }
 {
-    match find_version(store, version) {
-        Lookup::Found(layout) => {
-            let plan = layout.plan;
-            if holds_together(plan) {
-                return VersionPlan::Known(plan);
-            }
-            VersionPlan::Refused
-        }
-        Lookup::Unknown => VersionPlan::Refused,
+    let layout = store.find_version(version).ok_or(layout::Refusal::Range)?;
+    let plan = layout.plan;
+    if holds_together(plan) {
+        return Ok(plan);
     }
+    Err(layout::Refusal::Range)
 }
 
 // Writes a page from metadata and data under a version.
 pub fn write_version(
-    store: Store,
+    store: &Store,
     version: u64,
     metadata: &[u8],
     data: &[u8],
     page: &mut [u8],
-) -> WriteAnswer
-    ensures { write_ended (write_number result) (write_block result) page.new
-        ≡ write_for (tested (version_of (listed store) version)) metadata.now «data».now page.old }
+) -> Result<(), Refusal>
+    ensures { write_ended (verdict_number result) (verdict_block result) page.new
+        ≡ write_for (tested (version_of (listed store.now) version)) metadata.now «data».now page.old }
 {
-    match find_plan(store, version) {
-        VersionPlan::Known(plan) => write_in(plan, metadata, data, page),
-        VersionPlan::Refused => WriteAnswer::Refused(Refusal::OutOfRange),
-    }
+    write_in(find_plan(store, version)?, metadata, data, page)
 }
 
 // Looks at a page under a version: the counts of all blocks.
-pub fn look_version(store: Store, version: u64, page: &[u8], counts: &mut [u8]) -> LookAnswer
-    ensures { look_ended (look_number result) (look_block result) counts.new
-        ≡ look_for (tested (version_of (listed store) version)) page.now counts.old }
+pub fn look_version(
+    store: &Store,
+    version: u64,
+    page: &[u8],
+    counts: &mut [u8],
+) -> Result<(), Refusal>
+    ensures { look_ended (verdict_number result) (verdict_block result) counts.new
+        ≡ look_for (tested (version_of (listed store.now) version)) page.now counts.old }
 {
-    match find_plan(store, version) {
-        VersionPlan::Known(plan) => look_in(plan, page, counts),
-        VersionPlan::Refused => LookAnswer::Refused(Refusal::OutOfRange),
-    }
+    look_in(find_plan(store, version)?, page, counts)
 }
 
 // Takes metadata and data out of a page under a version.
 pub fn take_version(
-    store: Store,
+    store: &Store,
     version: u64,
     page: &[u8],
     metadata: &mut [u8],
     data: &mut [u8],
-) -> TakeAnswer
-    ensures { take_ended (take_number result) (take_block result) metadata.new «data».new
-        ≡ take_for (tested (version_of (listed store) version)) page.now metadata.old «data».old }
+) -> Result<(), Refusal>
+    ensures { take_ended (verdict_number result) (verdict_block result) metadata.new «data».new
+        ≡ take_for (tested (version_of (listed store.now) version)) page.now metadata.old «data».old }
 {
-    match find_plan(store, version) {
-        VersionPlan::Known(plan) => take_in(plan, page, metadata, data),
-        VersionPlan::Refused => TakeAnswer::Refused(Refusal::OutOfRange),
-    }
+    take_in(find_plan(store, version)?, page, metadata, data)
 }
 
 // Judges one block of a page under a version: its count.
-pub fn judge_version(store: Store, version: u64, page: &[u8], block: u64) -> JudgeAnswer
-    ensures { judge_ended (judge_number result) (judge_block result) (judge_flips result) ≡ judge_for (tested (version_of (listed store) version)) page.now block }
+pub fn judge_version(store: &Store, version: u64, page: &[u8], block: u64) -> Result<u8, Refusal>
+    ensures { judge_ended (verdict_number result) (verdict_block result) (judge_flips result) ≡ judge_for (tested (version_of (listed store.now) version)) page.now block }
 {
-    match find_plan(store, version) {
-        VersionPlan::Known(plan) => judge_in(plan, page, block),
-        VersionPlan::Refused => JudgeAnswer::Refused(Refusal::OutOfRange),
-    }
+    judge_in(find_plan(store, version)?, page, block)
 }
 
 // Checks claimed locations of one block of a page under a version.
 pub fn claim_version(
-    store: Store,
+    store: &Store,
     version: u64,
     page: &[u8],
     block: u64,
     claims: &[u16],
-) -> ClaimAnswer
-    ensures { claim_ended (claim_number result) ≡ claim_for (tested (version_of (listed store) version)) page.now block claims.now }
+) -> Result<(), Refusal>
+    ensures { claim_ended (verdict_number result) ≡ claim_for (tested (version_of (listed store.now) version)) page.now block claims.now }
 {
-    match find_plan(store, version) {
-        VersionPlan::Known(plan) => claim_in(plan, page, block, claims),
-        VersionPlan::Refused => ClaimAnswer::Refused(Refusal::OutOfRange),
-    }
+    claim_in(find_plan(store, version)?, page, block, claims)
 }
