@@ -41,14 +41,6 @@ fn by_bits(f: Field, t: usize, bytes: &[u8], at: usize, n: usize) -> Register
     parity_by_bits(f, t, start, bytes, at, n)
 }
 
-fn put_words(line: &mut [u8], at: usize, words: [u64; 14]) -> usize {
-    let mut p = at;
-    for i in 0..14 {
-        p = vector_io::put_number(line, p, words[i]);
-    }
-    p
-}
-
 // Reads the bytes that follow a head, and answers: false where the input ends before.
 fn next_run<R: Input + Print>(
     rt: &R,
@@ -67,8 +59,8 @@ fn next_run<R: Input + Print>(
     let remainder = by_table(f, t, bytes, at, n).words;
     let parity = by_bits(f, t, bytes, at, n).words;
     let mut line = [0u8; 640];
-    let middle = put_words(&mut line, 0, remainder);
-    let end = put_words(&mut line, middle, parity);
+    let middle = vector_io::put_numbers(&mut line, 0, &remainder);
+    let end = vector_io::put_numbers(&mut line, middle, &parity);
     vector_io::write_line(rt, &line, end);
     true
 }
