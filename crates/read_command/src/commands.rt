@@ -123,23 +123,32 @@ fn fit<R: System>(rt: &R, out: &mut Answer, asked: &Asked, paths: Paths<'_>) -> 
 fn run_asked<R: System>(rt: &R, out: &mut Answer, asked: Asked) -> Option<()> {
     let options = asked.options;
     let command = asked.command;
-    let mut page = text::buffer::<4096>();
-    let mut metadata = text::buffer::<4096>();
-    let mut data = text::buffer::<4096>();
-    let mut list = text::buffer::<4096>();
-    let mut paths = Paths {
-        page: arguments::given(rt, out, options.place(2), "PAGE", &mut page)?,
-        metadata: b"-",
-        data: b"-",
-        list: b"-",
+    let mut buffer = text::buffer::<4096>();
+    let page = arguments::given(rt, out, options.place(2), "PAGE", &mut buffer)?;
+    if command == Command::Look {
+        let paths = Paths {
+            page,
+            metadata: b"-",
+            data: b"-",
+            list: b"-",
+        };
+        return run_paths(rt, out, asked, paths);
+    }
+    let mut buffer = text::buffer::<4096>();
+    let metadata = arguments::given(rt, out, options.place(3), "METADATA", &mut buffer)?;
+    let mut buffer = text::buffer::<4096>();
+    let data = arguments::given(rt, out, options.place(4), "DATA", &mut buffer)?;
+    let mut buffer = text::buffer::<4096>();
+    let list = match command {
+        Command::Salvage => arguments::given(rt, out, options.place(5), "LIST", &mut buffer)?,
+        _ => b"-",
     };
-    if command != Command::Look {
-        paths.metadata = arguments::given(rt, out, options.place(3), "METADATA", &mut metadata)?;
-        paths.data = arguments::given(rt, out, options.place(4), "DATA", &mut data)?;
-    }
-    if command == Command::Salvage {
-        paths.list = arguments::given(rt, out, options.place(5), "LIST", &mut list)?;
-    }
+    let paths = Paths {
+        page,
+        metadata,
+        data,
+        list,
+    };
     if !fit(rt, out, &asked, paths) {
         return None;
     }
