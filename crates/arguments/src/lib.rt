@@ -13,6 +13,8 @@
 mod choices;
 mod numbers;
 
+ghost use Rattle.std.specs.Prelude.{◌≤◌, length};
+
 pub use choices::{Choice, Options, find_options};
 pub use numbers::{LayoutWords, WORD, bad_remainder, number, word_list};
 use say::Answer;
@@ -20,7 +22,9 @@ use std::env::FillError;
 use streams::System;
 
 // Puts argument i to the front of the buffer: it is empty where it is missing or longer than the buffer, which then holds its first bytes.
-pub fn argument<'a, R: System>(rt: &R, i: usize, buffer: &'a mut [u8]) -> &'a [u8] {
+pub fn argument<'a, R: System>(rt: &R, i: usize, buffer: &'a mut [u8]) -> &'a [u8]
+    ensures { length result.now ≤ length buffer.old }
+{
     let n = rt.arg(i, buffer).unwrap_or(0);
     text::front(buffer, n)
 }
