@@ -37,6 +37,7 @@ use syndromes::power_sums::{sums_agree, syndromes};
 
 // What is found for a remainder: whether a set of exponents leaves it, its size, and the set, the highest exponent first, in the first places.
 // The other places are of no meaning, and all are where no set is located.
+// By hand: (a) no Option: `DecidedAt` (page_decide) and `KeptFor` (page_keep) name the places of a finding with no set too; and no heap.
 #[derive(Clone, Copy)]
 pub struct Found {
     pub located: bool,

@@ -9,51 +9,27 @@ ghost use Rattle.division_table.specs.Table.{RowWords, divisor_of, Rests};
 
 use crate::words::{turned_word, words_from};
 use bits::read::word_at;
-use division_steps::{finish, four_step, long_step, start, ten_step};
+use division_steps::{finish, start, step};
 use remainder::Register;
 use wide::Wide;
 
-// A run of up to 16 words, where the divisor has the degree 64 times four. The number is written out: the loops over words are then unrolled.
-fn feed_four_words(state: Wide, table: &[u8], bytes: &[u8], at: usize, count: usize) -> Wide
-    requires { (Rests 4 table.now) × (register state.words < 2 ^ (64 * 4 + 64)) × (at + 64 * count < 18446744073709551616) × (count ≤ 16) }
-    ensures { (register result.words < 2 ^ (64 * 4 + 64)) × (reduced (64 * 4) (divisor_of 4 table.now) (register result.words)
-        ≡ parity_from (64 * 4) (divisor_of 4 table.now) (reduced (64 * 4) (divisor_of 4 table.now) (register state.words)) (run (bit_of bytes.now) at (64 * count))) }
+// A run of up to 16 words, where the divisor has the degree 64 USED. The number is known to the compiler: the loops over words are then unrolled.
+fn feed_wide<const USED: usize>(
+    state: Wide,
+    table: &[u8],
+    bytes: &[u8],
+    at: usize,
+    count: usize,
+) -> Wide
+    requires { (Rests USED table.now) × (register state.words < 2 ^ (64 * USED + 64)) × (at + 64 * count < 18446744073709551616) × (count ≤ 16) }
+    ensures { (register result.words < 2 ^ (64 * USED + 64)) × (reduced (64 * USED) (divisor_of USED table.now) (register result.words)
+        ≡ parity_from (64 * USED) (divisor_of USED table.now) (reduced (64 * USED) (divisor_of USED table.now) (register state.words)) (run (bit_of bytes.now) at (64 * count))) }
 {
     let words = words_from(bytes, at, count);
     let mut r = state;
     for fed in 0..count {
         let w = turned_word(words[fed]);
-        r = four_step(r, table, w);
-    }
-    r
-}
-
-// The same where it is 64 times ten.
-fn feed_ten_words(state: Wide, table: &[u8], bytes: &[u8], at: usize, count: usize) -> Wide
-    requires { (Rests 10 table.now) × (register state.words < 2 ^ (64 * 10 + 64)) × (at + 64 * count < 18446744073709551616) × (count ≤ 16) }
-    ensures { (register result.words < 2 ^ (64 * 10 + 64)) × (reduced (64 * 10) (divisor_of 10 table.now) (register result.words)
-        ≡ parity_from (64 * 10) (divisor_of 10 table.now) (reduced (64 * 10) (divisor_of 10 table.now) (register state.words)) (run (bit_of bytes.now) at (64 * count))) }
-{
-    let words = words_from(bytes, at, count);
-    let mut r = state;
-    for fed in 0..count {
-        let w = turned_word(words[fed]);
-        r = ten_step(r, table, w);
-    }
-    r
-}
-
-// The same where it is 64 times fourteen.
-fn feed_long_words(state: Wide, table: &[u8], bytes: &[u8], at: usize, count: usize) -> Wide
-    requires { (Rests 14 table.now) × (register state.words < 2 ^ (64 * 14 + 64)) × (at + 64 * count < 18446744073709551616) × (count ≤ 16) }
-    ensures { (register result.words < 2 ^ (64 * 14 + 64)) × (reduced (64 * 14) (divisor_of 14 table.now) (register result.words)
-        ≡ parity_from (64 * 14) (divisor_of 14 table.now) (reduced (64 * 14) (divisor_of 14 table.now) (register state.words)) (run (bit_of bytes.now) at (64 * count))) }
-{
-    let words = words_from(bytes, at, count);
-    let mut r = state;
-    for fed in 0..count {
-        let w = turned_word(words[fed]);
-        r = long_step(r, table, w);
+        r = step::<USED>(r, table, w);
     }
     r
 }
@@ -73,12 +49,12 @@ fn feed_few_words(
         ≡ parity_from (64 * used) (divisor_of used table.now) (reduced (64 * used) (divisor_of used table.now) (register state.words)) (run (bit_of bytes.now) at (64 * count))) }
 {
     if used == 4 {
-        return feed_four_words(state, table, bytes, at, count);
+        return feed_wide::<4>(state, table, bytes, at, count);
     }
     if used == 10 {
-        return feed_ten_words(state, table, bytes, at, count);
+        return feed_wide::<10>(state, table, bytes, at, count);
     }
-    feed_long_words(state, table, bytes, at, count)
+    feed_wide::<14>(state, table, bytes, at, count)
 }
 
 // A run of any number of words: first those that are left over when the others are fed 16 at a time.

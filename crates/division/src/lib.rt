@@ -22,7 +22,7 @@ mod words;
 use remainder::Register;
 
 // The registers of two runs that are divided side by side.
-#[derive(Drop)]
+#[derive(Clone, Copy)]
 pub struct Pair {
     pub first: Register,
     pub second: Register,

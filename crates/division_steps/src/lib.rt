@@ -1,9 +1,8 @@
 // Coefficients of a message taken in 64 at a time or fewer, by the table of a divisor (document 01, "The code"; document 02, E3).
 //
 //   start        the first coefficients of a run, fewer than 64 or none, after a parity
-//   four_step    the 64 coefficients of a word, where the divisor has the degree 64 times four,
-//   ten_step     ten
-//   long_step    or fourteen, all three written so that the compiler unrolls them, the highest words first
+//   step         the 64 coefficients of a word, where the divisor has the degree 64 times four, ten or fourteen, written so that the compiler
+//                unrolls it, the highest words first
 //   two_steps    two words of two runs, where it is 64 times four
 //   finish       the parity at the end
 //
@@ -30,7 +29,7 @@ use table_rows::row_bytes;
 use wide::{Wide, eight_low};
 
 // The partial remainders of two runs that are divided side by side.
-#[derive(Drop)]
+#[derive(Clone, Copy)]
 pub struct Two {
     pub first: Wide,
     pub second: Wide,
@@ -91,19 +90,29 @@ fn word_up(state: Wide, used: usize, w: u64) -> Wide
     Wide { words: words }
 }
 
-// The 64 coefficients of a word, the highest digit first, where the divisor has the degree 64 times four.
-pub fn four_step(state: Wide, table: &[u8], w: u64) -> Wide
-    requires { (Rests 4 table.now) × (register state.words < 2 ^ (64 * 4 + 64)) }
-    ensures { (register result.words < 2 ^ (64 * 4 + 64)) × (reduced (64 * 4) (divisor_of 4 table.now) (register result.words)
-        ≡ parity_from (64 * 4) (divisor_of 4 table.now) (reduced (64 * 4) (divisor_of 4 table.now) (register state.words)) (digits w 64)) }
+// The 64 coefficients of a word, the highest digit first, where the divisor has the degree 64 USED. The numbers are known to the compiler, which
+// unrolls the loops over words.
+pub fn step<const USED: usize>(state: Wide, table: &[u8], w: u64) -> Wide
+    requires { (Rests USED table.now) × (register state.words < 2 ^ (64 * USED + 64)) }
+    ensures { (register result.words < 2 ^ (64 * USED + 64)) × (reduced (64 * USED) (divisor_of USED table.now) (register result.words)
+        ≡ parity_from (64 * USED) (divisor_of USED table.now) (reduced (64 * USED) (divisor_of USED table.now) (register state.words)) (digits w 64)) }
 {
     let words = state.words;
-    let at = places(words[4], 4);
-    let next = word_up(state, 4, w);
-    words_added(next, table, at, 0, 5)
+    let at = places(words[USED], USED);
+    let next = word_up(state, USED, w);
+    if USED == 4 {
+        return words_added(next, table, at, 0, 5);
+    }
+    if USED == 10 {
+        let high = words_added(next, table, at, 6, 11);
+        return words_added(high, table, at, 0, 6);
+    }
+    let high = words_added(next, table, at, 10, 15);
+    let most = words_added(high, table, at, 5, 10);
+    words_added(most, table, at, 0, 5)
 }
 
-// The same for two words of two runs.
+// The same for two words of two runs, where the divisor has the degree 64 times four.
 pub fn two_steps(a: Wide, b: Wide, table: &[u8], v: u64, w: u64) -> Two
     requires { (Rests 4 table.now) × (register a.words < 2 ^ (64 * 4 + 64)) × (register b.words < 2 ^ (64 * 4 + 64)) }
     ensures words_bound { (register result.first.words < 2 ^ (64 * 4 + 64)) × (reduced (64 * 4) (divisor_of 4 table.now) (register result.first.words)
@@ -121,33 +130,6 @@ pub fn two_steps(a: Wide, b: Wide, table: &[u8], v: u64, w: u64) -> Two
         first: words_added(one, table, at, 0, 5),
         second: words_added(other, table, to, 0, 5),
     }
-}
-
-// The same for one word, where the divisor has the degree 64 times ten.
-pub fn ten_step(state: Wide, table: &[u8], w: u64) -> Wide
-    requires { (Rests 10 table.now) × (register state.words < 2 ^ (64 * 10 + 64)) }
-    ensures { (register result.words < 2 ^ (64 * 10 + 64)) × (reduced (64 * 10) (divisor_of 10 table.now) (register result.words)
-        ≡ parity_from (64 * 10) (divisor_of 10 table.now) (reduced (64 * 10) (divisor_of 10 table.now) (register state.words)) (digits w 64)) }
-{
-    let words = state.words;
-    let at = places(words[10], 10);
-    let next = word_up(state, 10, w);
-    let high = words_added(next, table, at, 6, 11);
-    words_added(high, table, at, 0, 6)
-}
-
-// The same where it is 64 times fourteen.
-pub fn long_step(state: Wide, table: &[u8], w: u64) -> Wide
-    requires { (Rests 14 table.now) × (register state.words < 2 ^ (64 * 14 + 64)) }
-    ensures { (register result.words < 2 ^ (64 * 14 + 64)) × (reduced (64 * 14) (divisor_of 14 table.now) (register result.words)
-        ≡ parity_from (64 * 14) (divisor_of 14 table.now) (reduced (64 * 14) (divisor_of 14 table.now) (register state.words)) (digits w 64)) }
-{
-    let words = state.words;
-    let at = places(words[14], 14);
-    let next = word_up(state, 14, w);
-    let high = words_added(next, table, at, 10, 15);
-    let most = words_added(high, table, at, 5, 10);
-    words_added(most, table, at, 0, 5)
 }
 
 // The partial remainder of a parity and of fewer than 64 coefficients after it, the k digits of b.

@@ -640,6 +640,13 @@ pub words-fourteen : row_words 14 ≡ 15
 unfolding row_words
 words-fourteen = refl
 
+-- a row has room for one word more than the divisor
+pub words-room : {u n : ℕ} → RowWords u → row_words u ≡ n → (u < n) × (n ≤ 15)
+unfolding row_words
+words-room four e = (omega arith, omega arith)
+words-room ten e = (omega arith, omega arith)
+words-room fourteen e = (omega arith, omega arith)
+
 pub higher-below : (u : ℕ) (divisor : List ℕ) → Words divisor → {x : ℕ} → x ≡ low divisor u * 2 ^ 64 → x < 2 ^ (64 * u + 64)
 higher-below u divisor fit e = rw e (shl_lt (64 * u) 64 (low-lt divisor fit u))
 

@@ -3,7 +3,7 @@ ghost use Rattle.std.specs.Prelude.{◌≡◌, ℕ, ◌+◌, ◌-◌, ◌*◌, �
 ghost use Rattle.code.specs.Generator.{times};
 ghost use Rattle.code.specs.Register.{low, register};
 ghost use Rattle.table_rows.specs.Rows.{Row, OnlyRows};
-ghost use Rattle.partial.specs.Clearing.{multiple_of, Clearing};
+ghost use Rattle.partial.specs.Clearing.{row_words, multiple_of, Clearing};
 ghost use Rattle.division_table.specs.Table.{RowWords, Filled};
 ghost use Rattle.division_table.specs.Sums.{Sums, Powers, All};
 
@@ -123,40 +123,16 @@ fn fill_clearing(table: &mut [u8], divisor: [u64; 14], used: usize, n: usize)
     fill_sums(table, n, 272, 4);
 }
 
-// The table of a divisor of the degree 64 times four. The numbers are written out: the loops over bytes are then unrolled.
-fn fill_four(table: &mut [u8], divisor: [u64; 14])
-    requires { 36864 ≤ length table.old }
-    ensures { Filled 4 (2 ^ (64 * 4) + low divisor 4) table.new }
+// The table of a divisor of the degree 64 USED, in rows of N words. Both numbers are known to the compiler: the loops over bytes are then unrolled.
+fn fill_wide<const USED: usize, const N: usize>(table: &mut [u8], divisor: [u64; 14])
+    requires { (RowWords USED) × (row_words USED ≡ N) × (36864 ≤ length table.old) }
+    ensures { Filled USED (2 ^ (64 * USED) + low divisor USED) table.new }
 {
-    fill_clearing(table, divisor, 4, 7);
-    let higher = word_higher(divisor, 4);
-    let row = reduce(higher, table, 4);
-    byte_powers(table, 7, row);
-    fill_sums(table, 7, 0, 8);
-}
-
-// The same where it is 64 times ten.
-fn fill_ten(table: &mut [u8], divisor: [u64; 14])
-    requires { 36864 ≤ length table.old }
-    ensures { Filled 10 (2 ^ (64 * 10) + low divisor 10) table.new }
-{
-    fill_clearing(table, divisor, 10, 11);
-    let higher = word_higher(divisor, 10);
-    let row = reduce(higher, table, 10);
-    byte_powers(table, 11, row);
-    fill_sums(table, 11, 0, 8);
-}
-
-// The same where it is 64 times fourteen.
-fn fill_long(table: &mut [u8], divisor: [u64; 14])
-    requires { 36864 ≤ length table.old }
-    ensures { Filled 14 (2 ^ (64 * 14) + low divisor 14) table.new }
-{
-    fill_clearing(table, divisor, 14, 15);
-    let higher = word_higher(divisor, 14);
-    let row = reduce(higher, table, 14);
-    byte_powers(table, 15, row);
-    fill_sums(table, 15, 0, 8);
+    fill_clearing(table, divisor, USED, N);
+    let higher = word_higher(divisor, USED);
+    let row = reduce(higher, table, USED);
+    byte_powers(table, N, row);
+    fill_sums(table, N, 0, 8);
 }
 
 // Makes the table of a divisor of degree 64 used, given without its highest coefficient.
@@ -165,10 +141,10 @@ pub fn fill(table: &mut [u8], divisor: [u64; 14], used: usize)
     ensures { Filled used (2 ^ (64 * used) + low divisor used) table.new }
 {
     if used == 4 {
-        fill_four(table, divisor);
+        fill_wide::<4, 7>(table, divisor);
     } else if used == 10 {
-        fill_ten(table, divisor);
+        fill_wide::<10, 11>(table, divisor);
     } else {
-        fill_long(table, divisor);
+        fill_wide::<14, 15>(table, divisor);
     }
 }

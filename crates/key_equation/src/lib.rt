@@ -20,6 +20,7 @@ use series::mix;
 
 // What the algorithm holds: the recurrence c of length len, and its update u, which counts with `gap` zeros before it and has the
 // discrepancy b.
+// By hand: (a) no heap: fixed room, and how much of it is in use.
 #[derive(Drop)]
 pub struct Recurrence {
     pub c: [u16; 128],

@@ -42,6 +42,8 @@ fn messages(n: u16, shape: Shape) -> usize
 }
 
 // Where the message of a block starts in the payload.
+// By hand: like `layout_plan::block_start`, but a sum of other numbers of a shape; one function for both would take these as two parameters
+// more, and leave the same two lines here and there.
 pub fn message_start(plan: Plan, block: u16) -> usize
     ensures eq { result ≡ from plan block }
     ensures small { result < 1125899906842624 }

@@ -8,14 +8,20 @@ ghost use Rattle.std.specs.Prelude.{◌≡◌, ◌<◌, ◌≤◌, length};
 
 use coefficient_rows::{inverse, log_of, marked_log, scaled_term, wrapped};
 
-// x^4 + a x^2 + b x + c. A root y of it stands for y + shift, or for 1 / y + shift.
+// What a root y stands for: y + s, or 1 / y + s.
+#[derive(Clone, Copy)]
+enum Origin {
+    Shifted(u16),
+    Inverted(u16),
+}
+
+// x^4 + a x^2 + b x + c, and what a root of it stands for.
 #[derive(Clone, Copy)]
 struct Affine {
     a: u16,
     b: u16,
     c: u16,
-    inverted: bool,
-    shift: u16,
+    origin: Origin,
 }
 
 // The product of two elements.
@@ -58,8 +64,7 @@ fn of_cubic(
         a: times(powers, logs, n, a, a) ^ b,
         b: times(powers, logs, n, a, b) ^ c,
         c: 0,
-        inverted: false,
-        shift: a,
+        origin: Origin::Shifted(a),
     }
 }
 
@@ -78,8 +83,7 @@ fn of_quartic(
             a: b,
             b: c,
             c: d,
-            inverted: false,
-            shift: 0,
+            origin: Origin::Shifted(0),
         };
     }
     let square = times(powers, logs, n, c, inverted(powers, logs, n, a));
@@ -91,8 +95,7 @@ fn of_quartic(
         a: times(powers, logs, n, second, unit),
         b: times(powers, logs, n, a, unit),
         c: unit,
-        inverted: true,
-        shift: s,
+        origin: Origin::Inverted(s),
     }
 }
 
@@ -164,11 +167,10 @@ fn solutions(rows: &[u32; 16], m: usize) -> [u16; 4]
 
 // The root that y stands for.
 fn stands_for(powers: &[u16; 16384], logs: &[u16; 16384], n: usize, p: Affine, y: u16) -> u16 {
-    let shift = p.shift;
-    if p.inverted {
-        return inverted(powers, logs, n, y) ^ shift;
+    match p.origin {
+        Origin::Shifted(s) => y ^ s,
+        Origin::Inverted(s) => inverted(powers, logs, n, y) ^ s,
     }
-    y ^ shift
 }
 
 // The form of the factor of degree g, 3 or 4, at `at`.

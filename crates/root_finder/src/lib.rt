@@ -39,10 +39,7 @@ fn reversed(c: &[u16; 128], len: usize) -> [u16; 64]
 fn degree_of(f: Field) -> usize
     ensures { (9 ≤ result) × (result ≤ 15) }
 {
-    match f {
-        Field::Thirteen => 13,
-        Field::Fourteen => 14,
-    }
+    f.degree() as usize
 }
 
 // Splits a polynomial of degree d, in `factors`, until no degree is above 4; whether it came to that.

@@ -40,6 +40,7 @@ fn value_at(
 }
 
 // The places of the errors, ascending: the first `count` entries of `exponents`.
+// By hand: (a) no heap: fixed room, and how much of it is in use.
 #[derive(Drop)]
 pub struct Places {
     pub exponents: [u16; 64],

@@ -36,6 +36,7 @@ use version_list::{close_gap, held, index_of};
 
 // The layouts, how many there are, the number that storing gives next, and the versions in use, chip select 0 first. No other crate
 // can set them.
+// By hand: a fixed array with its count beside it, and no Vec or map, since this project has no heap.
 #[derive(Clone, Copy)]
 pub struct Store {
     layouts: [Numbered; 32],

@@ -5,6 +5,7 @@ ghost use Rattle.version_list.specs.Places.{held, index_of, closed};
 use crate::Numbered;
 
 // How many layouts the places hold.
+// By hand: array and count are two fields of `store::Store`, which is copied as a whole and lies in fixed memory: no heap, so no list that grows.
 pub fn held(layouts: [Numbered; 32], count: usize) -> usize
     ensures { (result ≡ held count) × (length layouts ≡ 32) }
 {

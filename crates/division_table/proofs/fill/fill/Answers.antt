@@ -1,16 +1,18 @@
 use mathlib.Core.Path.{◌≡◌}
 use native.Mathlib.Omega.{arith}
-use Rattle.division_table.proofs.Filling.{wide-last}
+use Rattle.division_table.specs.Table.{four, ten, fourteen}
+use Rattle.division_table.proofs.Filling.{wide-last, words-four, words-ten, words-fourteen}
 use Rattle.division_table.proofs.fill.fill.Goals as goal
 
-pub returns-then-used-eq4 : goal.returns-then-used-eq4
-returns-then-used-eq4 c = let e : c.args.used ≡ 4 = omega arith in
-    rw e c.fill_four.ensures
+pub fill_wide-requires : goal.fill_wide-requires
+fill_wide-requires c = (four, words-four, c.requires.1)
 
-pub returns-then-used-eq10 : goal.returns-then-used-eq10
-returns-then-used-eq10 c = let e : c.args.used ≡ 10 = omega arith in
-    rw e c.fill_ten.ensures
+pub fill_wide-requires-then-used-eq10 : goal.fill_wide-requires-then-used-eq10
+fill_wide-requires-then-used-eq10 c = (ten, words-ten, c.requires.1)
+
+pub fill_wide-requires-else-used-eq10 : goal.fill_wide-requires-else-used-eq10
+fill_wide-requires-else-used-eq10 c = (fourteen, words-fourteen, c.requires.1)
 
 pub returns-else-used-eq10 : goal.returns-else-used-eq10
 returns-else-used-eq10 c = let e : c.args.used ≡ 14 = wide-last c.requires.0 (λ h. omega arith) (λ h. omega arith) in
-    rw e c.fill_long.ensures
+    rw e c.fill_wide-else-used-eq10.ensures
