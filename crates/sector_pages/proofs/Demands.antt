@@ -10,7 +10,7 @@
 -- worn-sector, never-untouched  what may be reported of a sector in which more than t bits flipped and at most 2t, or from one to 2t
 use mathlib.Core.Path.{◌≡◌, refl}
 use mathlib.Core.Bool.{Bool}
-use mathlib.Core.List.{List, [], ◌++◌}
+use mathlib.Core.List.{List, []}
 use Prim.Native.Nat.{ℕ, ◌<◌}
 use lib.ListN.{length, get_or}
 use Rattle.layout_plan.specs.declared.Sectors.{Sectors}

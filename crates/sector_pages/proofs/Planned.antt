@@ -3,9 +3,9 @@
 -- Ranged s            what the types of the numbers allow
 -- sectors-planned     the plan of an accepted layout is such a plan
 -- sectors-sound       so the answer to a layout of sectors is sound
-use mathlib.Core.Path.{◌≡◌, refl, sym, ap, ◌∙◌}
+use mathlib.Core.Path.{◌≡◌, refl}
 use mathlib.Core.Bool.{Bool, true, false, cond}
-use Prim.Native.Nat.{ℕ, ◌+◌, ◌-◌, ◌*◌, ◌%◌, ◌≤◌, ◌<◌}
+use Prim.Native.Nat.{ℕ, ◌+◌, ◌-◌, ◌*◌, ◌≤◌, ◌<◌}
 use native.Mathlib.Omega.{arith}
 use native.Mathlib.Decide.{ℕ_discrete}
 use lib.Dec.{ltb}
@@ -15,9 +15,7 @@ use Rattle.replies.proofs.Editions.{highest-small}
 use Rattle.layout_plan.specs.declared.Sectors.{Sectors}
 use Rattle.layout_plan.specs.declared.Shape.{Shape}
 use Rattle.layout_plan.specs.declared.Layout.{Layout}
-use Rattle.layout_plan.specs.declared.Plan.{Plan}
 use Rattle.std.specs.Prelude.{Ok}
-use Rattle.layout_plan.specs.Record.{field_of}
 use Rattle.layout_plan.specs.Plan.{plan_of, shape, field, level, Valid}
 use Rattle.layout_plan.specs.SectorPlan.{sector_shape, own_shape, last_shape, sectors_plan, sector_plan}
 use Rattle.layout_plan.proofs.Plans.{product_le}
