@@ -12,8 +12,7 @@ use Rattle.bits.specs.Bits.{bit_of, run, Bytes}
 use Rattle.bits.proofs.Runs.{run-cong}
 use Rattle.bits.proofs.Pages.{bytes-length, bytes-bytes, bytes-bit}
 use Rattle.replies.specs.declared.Refusal.{Refusal}
-use Rattle.replies.specs.Replies.{number}
-use Rattle.replies.proofs.Given.{number-positive}
+use Rattle.replies.specs.Replies.{verdict_number, verdict_block}
 use Rattle.layout_plan.specs.Record.{Words}
 use Rattle.layout_plan.specs.declared.Plan.{Plan}
 use Rattle.layout.specs.Acceptance.{acceptance}
@@ -25,15 +24,9 @@ use Rattle.page_theory.proofs.Calls.{look-wrong, take-wrong}
 use Rattle.page_theory.proofs.Damage.{mask_sets, mask-flips, mask-damaged}
 use Rattle.page_theory.proofs.Demand2.{write_done}
 use Rattle.page_theory.proofs.Demand3.{looks-back, takes_back}
-use Rattle.page_write.specs.declared.WriteAnswer.{WriteAnswer}
-use Rattle.page_write.specs.Answers.{write_number, write_block}
-use Rattle.page_look.specs.declared.LookAnswer.{LookAnswer}
-use Rattle.page_look.specs.declared.LookAnswer.TheVariants as look
-use Rattle.page_look.specs.Answers.{look_number, look_block}
-use Rattle.page_take.specs.declared.TakeAnswer.{TakeAnswer}
-use Rattle.page_take.specs.Answers.{take_number, take_block}
-use Rattle.roundtrip.specs.declared.RoundTrip.{RoundTrip}
-use Rattle.roundtrip.specs.declared.RoundTrip.TheVariants.{Done, Refused, Mask}
+use Rattle.std.specs.Prelude.{⊤, Result, Ok, Err}
+use Rattle.roundtrip.specs.declared.Failure.{Failure}
+use Rattle.roundtrip.specs.declared.Failure.TheVariants.{Refused, Mask}
 use Rattle.roundtrip.specs.Mask.{named, allowed, overlaid}
 use Rattle.roundtrip.specs.Round.{Round, round_ended, Back, back_ended, back_by, back_of, round_taken, round_read, round_in}
 use Rattle.roundtrip.proofs.Masks.{Allowed, allowed-each}
@@ -44,24 +37,28 @@ never-zero n e h = let f = eq-eqb n 0 h in let z : ◌≡◌ {A = ℕ} 0 1 = cc 
 
 -- the calls, by their answers
 
-pub write-told : {r x : WriteAnswer} {page : List ℕ} {w : Written} → w.block ≡ 0 → r ≡ x → write_ended (write_number r) (write_block r) page ≡ w
-    → write_ended (write_number x) 0 page ≡ w
-write-told {r} {x} {page} b e h =
-    let z : write_block r ≡ 0 = ap (λ (w : Written). w.block) h ∙ b in
-    ap (λ y. write_ended (write_number y) 0 page) (sym e) ∙ ap (λ k. write_ended (write_number r) k page) (sym z) ∙ h
+pub write-told : (r : Result ⊤ Refusal) {n : ℕ} {page : List ℕ} {w : Written} → w.block ≡ 0 → n ≡ verdict_number r
+    → write_ended (verdict_number r) (verdict_block r) page ≡ w → write_ended n 0 page ≡ w
+write-told r {n} {page} b e h =
+    let z : verdict_block r ≡ 0 = ap (λ (w : Written). w.block) h ∙ b in
+    ap (λ y. write_ended y 0 page) e ∙ ap (λ k. write_ended (verdict_number r) k page) (sym z) ∙ h
 
 -- a look that is refused ends the reading; after one that is not, the take does
 
-pub back-refused : {r : LookAnswer} {x : Refusal} {n : ℕ} {c : List ℕ} (rec : Words) (page m' d' c' : List ℕ)
-    → look_ended (look_number r) (look_block r) c ≡ look_of rec page c' → r ≡ look.Refused x → n ≡ number x → back_ended n m' d' c ≡ back_of rec page m' d' c'
-unfolding back_of back_by look_number look_block
-back-refused {x = x} rec page m' d' c' e f g = rw (← e, f, g, ne_eqb (number x) 0 (λ z. omega (arith, number-positive x)))
+pub back-refused : (r : Result ⊤ Refusal) {n : ℕ} {c : List ℕ} (rec : Words) (page m' d' c' : List ℕ)
+    → look_ended (verdict_number r) (verdict_block r) c ≡ look_of rec page c' → n ≡ verdict_number r → (n ≡ 0 → ⊥) → back_ended n m' d' c ≡ back_of rec page m' d' c'
+unfolding back_of back_by
+back-refused r {n} {c} rec page m' d' c' e g h =
+    let z : eqb (verdict_number r) 0 ≡ false = ne_eqb (verdict_number r) 0 (λ z. h (g ∙ z)) in
+    rw (← e, z, g)
 
-pub back-taken : {r : LookAnswer} {s t : TakeAnswer} {m d c : List ℕ} (rec : Words) (page m' d' c' : List ℕ)
-    → look_ended (look_number r) (look_block r) c ≡ look_of rec page c' → r ≡ look.Done
-    → take_ended (take_number s) (take_block s) m d ≡ take_of rec page m' d' → s ≡ t → back_ended (take_number t) m d c ≡ back_of rec page m' d' c'
-unfolding back_of back_by look_number look_block
-back-taken rec page m' d' c' e f g h = rw (← e, f, ← g, h)
+pub back-taken : (r s : Result ⊤ Refusal) {n k : ℕ} {m d c : List ℕ} (rec : Words) (page m' d' c' : List ℕ)
+    → look_ended (verdict_number r) (verdict_block r) c ≡ look_of rec page c' → n ≡ verdict_number r → n ≡ 0
+    → take_ended (verdict_number s) (verdict_block s) m d ≡ take_of rec page m' d' → k ≡ verdict_number s → back_ended k m d c ≡ back_of rec page m' d' c'
+unfolding back_of back_by
+back-taken r s {n} {k} rec page m' d' c' e f z g h =
+    let x : eqb (verdict_number r) 0 ≡ true = eq-eqb (verdict_number r) 0 (sym f ∙ z) in
+    rw (← e, x, ← g, h)
 
 -- lengths that fit
 
@@ -118,15 +115,15 @@ page_of-length q lent d = bytes-length _ q.size
 module _ (rec : Words) (q : Plan) (h : Accepts (acceptance rec) q) (m d mask page m' d' c' : List ℕ) where
   -- a page that was not written
   pub trip-unwritten : {r : ℕ} {after : List ℕ} → write_ended r 0 after ≡ write_of rec m d page → (r ≡ 0 → ⊥)
-      → round_ended (Refused r) after m' d' c' ≡ round_in q m d mask page m' d' c'
+      → round_ended (Err (Refused r)) after m' d' c' ≡ round_in q m d mask page m' d' c'
   unfolding round_in write_in
   trip-unwritten {r} {after} e n = go (eqb (write_reply q (length m) (length d) (length page)) 0) (e ∙ write-accepted (acceptance rec) q h m d page)
     where
       go : (b : Bool)
           → write_ended r 0 after ≡ cond b (write_ended 0 0 (page_of q page (m ++ d))) (write_ended (write_reply q (length m) (length d) (length page)) 0 page)
-          → round_ended (Refused r) after m' d' c'
-          ≡ cond b (cond (allowed q mask) (round_read q m d mask page m' d' c') (round_ended Mask (page_of q page (m ++ d)) m' d' c'))
-          (round_ended (Refused (write_reply q (length m) (length d) (length page))) page m' d' c')
+          → round_ended (Err (Refused r)) after m' d' c'
+          ≡ cond b (cond (allowed q mask) (round_read q m d mask page m' d' c') (round_ended (Err Mask) (page_of q page (m ++ d)) m' d' c'))
+          (round_ended (Err (Refused (write_reply q (length m) (length d) (length page)))) page m' d' c')
       go true e = absurd (n (ap (λ (w : Written). w.reply) e))
       go false e = rw (ap (λ (w : Written). w.reply) e, ap (λ (w : Written). w.page) e)
 
@@ -147,7 +144,7 @@ module _ (rec : Words) (q : Plan) (h : Accepts (acceptance rec) q) (m d mask pag
       go false x e = never-zero _ x (sym (ap (λ (w : Written). w.reply) e) ∙ z)
 
   -- a mask that is not allowed
-  pub trip-masked : {after : List ℕ} → Start after → false ≡ allowed q mask → round_ended Mask after m' d' c' ≡ round_in q m d mask page m' d' c'
+  pub trip-masked : {after : List ℕ} → Start after → false ≡ allowed q mask → round_ended (Err Mask) after m' d' c' ≡ round_in q m d mask page m' d' c'
   unfolding round_in
   trip-masked s n = rw (s.reply, ← n, s.stands)
 
@@ -214,7 +211,7 @@ module _ (rec : Words) (q : Plan) (h : Accepts (acceptance rec) q) (m d mask pag
 
     -- how a trip ends that was read back
     abbrev ended : Back → Round
-    ended b = round_ended (cond (eqb b.reply 0) Done (Refused b.reply)) damaged_page b.metadata b.«data» b.counts
+    ended b = round_ended (cond (eqb b.reply 0) (Ok _) (Err (Refused b.reply))) damaged_page b.metadata b.«data» b.counts
 
     trip-read : Allowed q mask → Fitting q m d page → ended (back_of rec damaged_page m' d' c') ≡ round_read q m d mask page m' d' c'
     unfolding back_of back_by round_read round_taken
@@ -222,15 +219,15 @@ module _ (rec : Words) (q : Plan) (h : Accepts (acceptance rec) q) (m d mask pag
       where
         go : (x : Bool) → eqb looking 0 ≡ x → (y : Bool) → eqb taking 0 ≡ y
             → ended (back_by (cond x (look_ended 0 0 flipped) (look_ended looking 0 c')) (cond y (take_ended 0 0 m d) (take_ended taking 0 m' d')) m' d')
-            ≡ cond x (cond y (round_ended Done damaged_page m d flipped) (round_ended (Refused taking) damaged_page m' d' flipped))
-            (round_ended (Refused looking) damaged_page m' d' c')
+            ≡ cond x (cond y (round_ended (Ok _) damaged_page m d flipped) (round_ended (Err (Refused taking)) damaged_page m' d' flipped))
+            (round_ended (Err (Refused looking)) damaged_page m' d' c')
         go true e true g = refl
         go true e false g = rw g
         go false e y g = rw e (rw e)
 
     trip-ended : {after damaged : List ℕ} {b : Back} → Start after → true ≡ allowed q mask → damaged ≡ overlaid mask after
         → b ≡ back_of rec damaged m' d' c'
-        → round_ended (cond (eqb b.reply 0) Done (Refused b.reply)) damaged b.metadata b.«data» b.counts ≡ round_in q m d mask page m' d' c'
+        → round_ended (cond (eqb b.reply 0) (Ok _) (Err (Refused b.reply))) damaged b.metadata b.«data» b.counts ≡ round_in q m d mask page m' d' c'
     unfolding round_in
     trip-ended {after} {damaged} s a e b = rw (b, s.reply, ← a, same) (trip-read (allowed-each q mask (sym a)) (write-fitting q m d page s.reply))
       where
@@ -240,12 +237,12 @@ module _ (rec : Words) (q : Plan) (h : Accepts (acceptance rec) q) (m d mask pag
     -- by the reply of the last call
     pub trip-done : {after damaged m₁ d₁ c₁ : List ℕ} {r : ℕ} → Start after → true ≡ allowed q mask → damaged ≡ overlaid mask after
         → back_ended r m₁ d₁ c₁ ≡ back_of rec damaged m' d' c' → r ≡ 0
-        → round_ended Done damaged m₁ d₁ c₁ ≡ round_in q m d mask page m' d' c'
+        → round_ended (Ok _) damaged m₁ d₁ c₁ ≡ round_in q m d mask page m' d' c'
     trip-done {damaged = damaged} {m₁ = m₁} {d₁ = d₁} {c₁ = c₁} {r = r} s a e b z =
         sym (rw z) ∙ trip-ended s a e b
 
     pub trip-refused : {after damaged m₁ d₁ c₁ : List ℕ} {r : ℕ} → Start after → true ≡ allowed q mask → damaged ≡ overlaid mask after
         → back_ended r m₁ d₁ c₁ ≡ back_of rec damaged m' d' c' → (r ≡ 0 → ⊥)
-        → round_ended (Refused r) damaged m₁ d₁ c₁ ≡ round_in q m d mask page m' d' c'
+        → round_ended (Err (Refused r)) damaged m₁ d₁ c₁ ≡ round_in q m d mask page m' d' c'
     trip-refused {damaged = damaged} {m₁ = m₁} {d₁ = d₁} {c₁ = c₁} {r = r} s a e b n =
-        ap (λ (x : RoundTrip). round_ended x damaged m₁ d₁ c₁) (rw (ne_eqb r 0 n)) ∙ trip-ended s a e b
+        ap (λ (x : Result ⊤ Failure). round_ended x damaged m₁ d₁ c₁) (rw (ne_eqb r 0 n)) ∙ trip-ended s a e b

@@ -8,28 +8,28 @@
 -- round_read              the page is written and the mask allowed: each block's number of named bits, and the payload
 -- round_in                the round trip under a plan
 -- round_for, round_of      with the answer to a layout record, and with the record itself
-use Rattle.std.specs.Prelude.{cond, List, ◌++◌, ℕ, length, eqb}
+use Rattle.std.specs.Prelude.{cond, List, ◌++◌, ℕ, length, eqb, ⊤, Result, Ok, Err}
 use Rattle.bits.specs.Bits.{run}
 use Rattle.layout_plan.specs.Record.{Words}
 use Rattle.layout_plan.specs.declared.Plan.{Plan}
-use Rattle.layout.specs.declared.Acceptance.{Acceptance}
-use Rattle.layout.specs.declared.Acceptance.TheVariants as layout
+use Rattle.layout_plan.specs.declared.Layout.{Layout}
+use Rattle.layout.specs.declared.Refusal.{Refusal}
 use Rattle.layout_plan.specs.Plan.{plan_of}
 use Rattle.layout.specs.Acceptance.{acceptance, refusal_reply}
 use Rattle.page_theory.specs.Page.{page_of}
 use Rattle.page_theory.specs.Calls.{write_reply, Looked, look_reply, look_of, Taken, take_reply, take_of}
-use Rattle.roundtrip.specs.declared.RoundTrip.{RoundTrip}
-use Rattle.roundtrip.specs.declared.RoundTrip.TheVariants.{Done, Refused, Mask}
+use Rattle.roundtrip.specs.declared.Failure.{Failure}
+use Rattle.roundtrip.specs.declared.Failure.TheVariants.{Refused, Mask}
 use Rattle.roundtrip.specs.Mask.{named, allowed, overlaid}
 
 pub record Round : Type 0 where
-  pub answer : RoundTrip
+  pub answer : Result ⊤ Failure
   pub page : List ℕ
   pub metadata : List ℕ
   pub «data» : List ℕ
   pub counts : List ℕ
 
-abbrev pub round_ended : RoundTrip → List ℕ → List ℕ → List ℕ → List ℕ → Round
+abbrev pub round_ended : Result ⊤ Failure → List ℕ → List ℕ → List ℕ → List ℕ → Round
 round_ended answer page metadata «data» counts =
     record { answer = answer; page = page; metadata = metadata; «data» = «data»; counts = counts }
 
@@ -55,26 +55,26 @@ back_of rec page metadata body counts = back_by (look_of rec page counts) (take_
 unfoldable pub round_taken : Plan → (m d mask page m' d' : List ℕ) → Round
 round_taken q m d mask page m' d' =
     cond (eqb (take_reply q q.size (length m') (length d')) 0)
-    (round_ended Done (overlaid mask (page_of q page (m ++ d))) m d (run (named q mask) 0 q.blocks))
-    (round_ended (Refused (take_reply q q.size (length m') (length d'))) (overlaid mask (page_of q page (m ++ d))) m' d' (run (named q mask) 0 q.blocks))
+    (round_ended (Ok _) (overlaid mask (page_of q page (m ++ d))) m d (run (named q mask) 0 q.blocks))
+    (round_ended (Err (Refused (take_reply q q.size (length m') (length d')))) (overlaid mask (page_of q page (m ++ d))) m' d' (run (named q mask) 0 q.blocks))
 
 -- With counts of another length nothing is looked at or taken. The page is left damaged in each case.
 unfoldable pub round_read : Plan → (m d mask page m' d' c' : List ℕ) → Round
 round_read q m d mask page m' d' c' =
     cond (eqb (look_reply q q.size (length c')) 0)
     (round_taken q m d mask page m' d')
-    (round_ended (Refused (look_reply q q.size (length c'))) (overlaid mask (page_of q page (m ++ d))) m' d' c')
+    (round_ended (Err (Refused (look_reply q q.size (length c')))) (overlaid mask (page_of q page (m ++ d))) m' d' c')
 
 -- A page that is not written stays as it was lent. Under a mask that is not allowed the page is left as it was written.
 unfoldable pub round_in : Plan → (m d mask page m' d' c' : List ℕ) → Round
 round_in q m d mask page m' d' c' =
     cond (eqb (write_reply q (length m) (length d) (length page)) 0)
-    (cond (allowed q mask) (round_read q m d mask page m' d' c') (round_ended Mask (page_of q page (m ++ d)) m' d' c'))
-    (round_ended (Refused (write_reply q (length m) (length d) (length page))) page m' d' c')
+    (cond (allowed q mask) (round_read q m d mask page m' d' c') (round_ended (Err Mask) (page_of q page (m ++ d)) m' d' c'))
+    (round_ended (Err (Refused (write_reply q (length m) (length d) (length page)))) page m' d' c')
 
-unfoldable pub round_for : Acceptance → (m d mask page m' d' c' : List ℕ) → Round
-round_for (layout.Accepted l) m d mask page m' d' c' = round_in (plan_of l) m d mask page m' d' c'
-round_for (layout.Refused r) m d mask page m' d' c' = round_ended (Refused (refusal_reply r)) page m' d' c'
+unfoldable pub round_for : Result Layout Refusal → (m d mask page m' d' c' : List ℕ) → Round
+round_for (Ok l) m d mask page m' d' c' = round_in (plan_of l) m d mask page m' d' c'
+round_for (Err r) m d mask page m' d' c' = round_ended (Err (Refused (refusal_reply r))) page m' d' c'
 
 unfoldable pub round_of : (rec : Words) (m d mask page m' d' c' : List ℕ) → Round
 round_of rec m d mask page m' d' c' = round_for (acceptance rec) m d mask page m' d' c'

@@ -17,10 +17,10 @@ mod round;
 
 pub use round::round_trip;
 
-// The answer of a round trip: the page was read back, the reply of the call that refused, or the mask is not allowed.
-#[derive(Drop)]
-pub enum RoundTrip {
-    Done,
+// Why a page was not read back: the reply of the call that refused, or a mask that is not allowed.
+// By hand: the reply as a number, since the definition `round_in` of specs/Round.antt says it so.
+#[derive(Clone, Copy)]
+pub enum Failure {
     Refused(u8),
     Mask,
 }

@@ -16,12 +16,10 @@ fn ones_at(mark: Mark, mask: &[u8], position: usize, n: usize) -> usize
     ensures { result ≡ ones (run (stream_bit mark mask.now) position n) }
 {
     let mut count = 0;
-    let mut i = 0;
-    while i < n {
+    for i in 0..n {
         let at = place(mark, position + i);
         let bit = bit_at(mask, at);
         count += bit as usize;
-        i += 1;
     }
     count
 }
@@ -42,12 +40,10 @@ fn blocks_allowed(plan: Plan, mask: &[u8]) -> bool
     ensures { result ≡ few_below plan mask.now plan.blocks }
 {
     let blocks = plan.blocks;
-    let mut block = 0;
-    while block < blocks {
+    for block in 0..blocks {
         if !block_allowed(plan, mask, block) {
             return false;
         }
-        block += 1;
     }
     true
 }
@@ -68,9 +64,7 @@ pub fn flip_by(mask: &[u8], page: &mut [u8])
     ensures { page.new ≡ overlaid mask.now page.old }
 {
     let n = page.len();
-    let mut i = 0;
-    while i < n {
-        page[i] = page[i] ^ mask[i];
-        i += 1;
+    for i in 0..n {
+        page[i] ^= mask[i];
     }
 }

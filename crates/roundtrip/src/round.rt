@@ -6,24 +6,21 @@ ghost use Rattle.page_theory.specs.Damage.{Accepts};
 ghost use Rattle.page_theory.specs.Calls.{write_ended, write_of};
 ghost use Rattle.roundtrip.specs.Round.{back_ended, back_of, round_ended, round_in, round_of};
 
-use crate::RoundTrip;
+use crate::Failure;
 use crate::mask::{flip_by, mask_allowed};
-use layout::{Acceptance, check_layout, refusal_reply};
+use layout::{check_layout, refusal_reply};
 use layout_plan::{Plan, plan_of};
-use page_look::{LookAnswer, look_page};
-use page_take::{TakeAnswer, take_page};
-use page_write::{WriteAnswer, write_page};
-use replies::refusal_number;
+use page_look::look_page;
+use page_take::take_page;
+use page_write::write_page;
+use replies::answer_number;
 
 // Writes a page. The result is the reply.
 fn write(edition: u64, words: &[u8], metadata: &[u8], data: &[u8], page: &mut [u8]) -> u8
     ensures { write_ended result 0 page.new
         ≡ write_of (words_of edition words.now) metadata.now «data».now page.old }
 {
-    match write_page(edition, words, metadata, data, page) {
-        WriteAnswer::Done => 0,
-        WriteAnswer::Refused(refusal) => refusal_number(refusal),
-    }
+    answer_number(write_page(edition, words, metadata, data, page))
 }
 
 // Looks at a page, and takes it where it is not refused. The result is the reply of the last call.
@@ -38,13 +35,11 @@ fn read_back(
     ensures { back_ended result metadata.new «data».new counts.new
         ≡ back_of (words_of edition words.now) page.now metadata.old «data».old counts.old }
 {
-    match look_page(edition, words, page, counts) {
-        LookAnswer::Refused(refusal) => refusal_number(refusal),
-        LookAnswer::Done => match take_page(edition, words, page, metadata, data) {
-            TakeAnswer::Done => 0,
-            TakeAnswer::Refused(why) => refusal_number(why),
-        },
+    let looked = answer_number(look_page(edition, words, page, counts));
+    if looked != 0 {
+        return looked;
     }
+    answer_number(take_page(edition, words, page, metadata, data))
 }
 
 // The round trip under a plan.
@@ -59,7 +54,7 @@ fn round_in(
     metadata_out: &mut [u8],
     data_out: &mut [u8],
     counts: &mut [u8],
-) -> RoundTrip
+) -> Result<(), Failure>
     requires { Accepts (acceptance (words_of edition words.now)) plan }
     ensures { round_ended result page.new metadata_out.new data_out.new counts.new
         ≡ round_in plan metadata.now «data».now mask.now page.old
@@ -67,17 +62,17 @@ fn round_in(
 {
     let written = write(edition, words, metadata, data, page);
     if written != 0 {
-        return RoundTrip::Refused(written);
+        return Err(Failure::Refused(written));
     }
     if !mask_allowed(plan, mask) {
-        return RoundTrip::Mask;
+        return Err(Failure::Mask);
     }
     flip_by(mask, page);
     let reply = read_back(edition, words, page, metadata_out, data_out, counts);
     if reply != 0 {
-        return RoundTrip::Refused(reply);
+        return Err(Failure::Refused(reply));
     }
-    RoundTrip::Done
+    Ok(())
 }
 
 // Writes a page, flips the bits that a mask names, looks at the page, and takes it.
@@ -91,13 +86,13 @@ pub fn round_trip(
     metadata_out: &mut [u8],
     data_out: &mut [u8],
     counts: &mut [u8],
-) -> RoundTrip
+) -> Result<(), Failure>
     ensures { round_ended result page.new metadata_out.new data_out.new counts.new
         ≡ round_of (words_of edition words.now) metadata.now «data».now mask.now page.old
         metadata_out.old data_out.old counts.old }
 {
     match check_layout(edition, words) {
-        Acceptance::Accepted(layout) => {
+        Ok(layout) => {
             round_in(
                 plan_of(layout),
                 edition,
@@ -111,6 +106,6 @@ pub fn round_trip(
                 counts,
             )
         }
-        Acceptance::Refused(refusal) => RoundTrip::Refused(refusal_reply(refusal)),
+        Err(refusal) => Err(Failure::Refused(refusal_reply(refusal))),
     }
 }

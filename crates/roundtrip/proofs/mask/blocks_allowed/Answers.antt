@@ -6,7 +6,7 @@ use Rattle.roundtrip.proofs.Masks.{few-none, few-next, few-not}
 use Rattle.roundtrip.proofs.mask.blocks_allowed.Goals as goal
 
 pub loop-block-init : goal.loop-block-init
-loop-block-init c = (omega arith, few-none _ _)
+loop-block-init c = few-none _ _
 
 pub returns-then-not-block_allowed : goal.returns-then-not-block_allowed
 returns-then-not-block_allowed c = let a = c.args in
@@ -15,9 +15,9 @@ returns-then-not-block_allowed c = let a = c.args in
 pub loop-block-preserved : goal.loop-block-preserved
 loop-block-preserved c = let a = c.args in
     let l = c.loop-block in
-    (omega arith, few-next a.plan a.mask.now l.block l.invariant.1 (sym c.block_allowed.ensures ∙ c.if-not-block_allowed.false))
+    few-next a.plan a.mask.now l.block l.invariant (sym c.block_allowed.ensures ∙ c.if-not-block_allowed.false)
 
 pub returns : goal.returns
 returns c = let l = c.loop-block in
     let e : l.block ≡ c.args.plan.blocks = omega arith in
-    sym l.invariant.1 ∙ ap (few_below _ _) e
+    sym l.invariant ∙ ap (few_below _ _) e

@@ -5,7 +5,4 @@ use Rattle.roundtrip.specs.Mask.{few_below}
 use Rattle.roundtrip.proofs.mask.blocks_allowed.Given as goal
 
 abbrev pub invariant-loop-block : goal.invariant-loop-block
-invariant-loop-block l = (l.block ≤ l.blocks) × (few_below l.plan l.mask l.block ≡ true)
-
-abbrev pub decreases-loop-block : goal.decreases-loop-block
-decreases-loop-block l = l.blocks - l.block
+invariant-loop-block l = few_below l.plan l.mask l.block ≡ true

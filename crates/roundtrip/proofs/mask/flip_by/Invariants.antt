@@ -5,7 +5,4 @@ use Rattle.roundtrip.proofs.Masks.{Flipped}
 use Rattle.roundtrip.proofs.mask.flip_by.Given as goal
 
 abbrev pub invariant-loop-i : goal.invariant-loop-i
-invariant-loop-i l = (l.i ≤ l.n) × (length l.page ≡ l.n) × Flipped l.mask l.initial.page l.i l.page
-
-abbrev pub decreases-loop-i : goal.decreases-loop-i
-decreases-loop-i l = l.n - l.i
+invariant-loop-i l = (length l.page ≡ l.n) × Flipped l.mask l.initial.page l.i l.page

@@ -6,7 +6,4 @@ use Rattle.code.specs.Word.{ones}
 use Rattle.roundtrip.proofs.mask.ones_at.Given as goal
 
 abbrev pub invariant-loop-i : goal.invariant-loop-i
-invariant-loop-i l = (l.i ≤ l.n) × (l.count ≤ l.i) × (l.count ≡ ones (run (stream_bit l.mark l.mask) l.position l.i))
-
-abbrev pub decreases-loop-i : goal.decreases-loop-i
-decreases-loop-i l = l.n - l.i
+invariant-loop-i l = (l.count ≤ l.i) × (l.count ≡ ones (run (stream_bit l.mark l.mask) l.position l.i))
