@@ -119,6 +119,14 @@ fn fit<R: System>(rt: &R, out: &mut Answer, asked: &Asked, paths: Paths<'_>) -> 
     true
 }
 
+// Runs a command on files where they are what it wants: none where an error was printed.
+fn run_fit<R: System>(rt: &R, out: &mut Answer, asked: Asked, paths: Paths<'_>) -> Option<()> {
+    if !fit(rt, out, &asked, paths) {
+        return None;
+    }
+    run_paths(rt, out, asked, paths)
+}
+
 // Runs a command on the files that the arguments name, a dash for those that it does not have: none where an error was printed.
 fn run_asked<R: System>(rt: &R, out: &mut Answer, asked: Asked) -> Option<()> {
     let options = asked.options;
@@ -138,21 +146,24 @@ fn run_asked<R: System>(rt: &R, out: &mut Answer, asked: Asked) -> Option<()> {
     let metadata = arguments::given(rt, out, options.place(3), "METADATA", &mut buffer)?;
     let mut buffer = text::buffer::<4096>();
     let data = arguments::given(rt, out, options.place(4), "DATA", &mut buffer)?;
+    if command == Command::Read {
+        let paths = Paths {
+            page,
+            metadata,
+            data,
+            list: b"-",
+        };
+        return run_fit(rt, out, asked, paths);
+    }
     let mut buffer = text::buffer::<4096>();
-    let list = match command {
-        Command::Salvage => arguments::given(rt, out, options.place(5), "LIST", &mut buffer)?,
-        _ => b"-",
-    };
+    let list = arguments::given(rt, out, options.place(5), "LIST", &mut buffer)?;
     let paths = Paths {
         page,
         metadata,
         data,
         list,
     };
-    if !fit(rt, out, &asked, paths) {
-        return None;
-    }
-    run_paths(rt, out, asked, paths)
+    run_fit(rt, out, asked, paths)
 }
 
 impl Command {
