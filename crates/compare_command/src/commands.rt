@@ -56,7 +56,11 @@ fn compare_paths<R: System>(
     match running::compare_files(rt, out, run, format, dump) {
         Ok(()) => (),
         Err(Failed::First(error)) => out.bad_file(rt, first, error),
-        Err(Failed::Second(error)) => out.bad_file(rt, second.unwrap_or(b""), error),
+        Err(Failed::Second(error)) => {
+            if let Some(path) = second {
+                out.bad_file(rt, path, error);
+            }
+        }
     }
     Some(())
 }
