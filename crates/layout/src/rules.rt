@@ -8,7 +8,6 @@ use layout_plan::{BlockFields, Fields, Plan, Shape, page_room};
 use replies::highest;
 
 // The finding of one rule.
-#[tactic(auto, unfolding(crate::specs::Acceptance::test))]
 pub fn test(broken: bool, reason: Reason) -> Result<(), Reason>
     ensures { result ≡ test broken reason }
 {
@@ -54,7 +53,6 @@ pub fn message_rule(kind: Kind, shape: Shape) -> Result<(), Reason>
 }
 
 // Reply 3, a block with t > 0 longer than 2^m - 1 bits.
-#[tactic(auto, unfolding(crate::specs::Acceptance::length_rule, crate::specs::Acceptance::test))]
 pub fn length_rule(kind: Kind, shape: Shape) -> Result<(), Reason>
     ensures { result ≡ length_rule kind shape }
 {
@@ -76,7 +74,6 @@ pub fn length_rule(kind: Kind, shape: Shape) -> Result<(), Reason>
 }
 
 // Reply 11, a mark beyond the page, or bits after it that are not zero.
-#[tactic(auto, unfolding(crate::specs::Acceptance::mark_rule, crate::specs::Acceptance::either, crate::specs::Acceptance::test))]
 pub fn mark_rule(fields: Fields) -> Result<(), Reason>
     ensures { result ≡ mark_rule fields }
 {
