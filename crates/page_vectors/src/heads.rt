@@ -14,21 +14,26 @@ impl<'a> Head<'a> {
 
     // The edition.
     pub fn edition(self) -> u64 {
-        vector_io::number(self.bytes, 2, 8)
+        let bytes = self.bytes;
+        vector_io::number(bytes, 2, 8)
     }
 
     // The layout record.
     pub fn record(self) -> &'a [u8] {
-        text::front(&self.bytes[10..22], self.bytes[1] as usize % 13)
+        let bytes = self.bytes;
+        let length = bytes[1] as usize % 13;
+        text::front(&bytes[10..22], length)
     }
 
     // The length in four bytes.
     pub fn length(self, at: usize) -> usize {
-        vector_io::number(self.bytes, at, 4) as usize
+        let bytes = self.bytes;
+        vector_io::number(bytes, at, 4) as usize
     }
 
     // The block of a judgement or of a claim.
     pub fn block(self) -> u64 {
-        vector_io::number(self.bytes, 32, 8)
+        let bytes = self.bytes;
+        vector_io::number(bytes, 32, 8)
     }
 }
