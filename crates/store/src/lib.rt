@@ -17,7 +17,7 @@
 // as its record.
 #![tactic(auto)]
 
-ghost use Rattle.std.specs.Prelude.{◌≡◌};
+ghost use Rattle.std.specs.Prelude.{◌≡◌, true, false, ◌≤◌, ◌<◌};
 ghost use Rattle.replies.specs.Replies.{among};
 ghost use Rattle.layout_plan.specs.Record.{words_of};
 ghost use Rattle.layout.specs.Acceptance.{refusal_of};
@@ -103,6 +103,20 @@ fn vacant() -> Numbered {
     }
 }
 
+// Whether a store with this many layouts has no place left.
+fn is_full(count: usize) -> bool
+    ensures { (result ≡ true → 32 ≤ count) × (result ≡ false → count < 32) }
+{
+    32 <= count
+}
+
+// Whether every number was given.
+fn are_used_up(next: u32) -> bool
+    ensures { (result ≡ true → 65536 ≤ next) × (result ≡ false → next < 65536) }
+{
+    65536 <= next
+}
+
 impl Store {
     // A store with no layout: the next version is 1, and no chip select has one in use.
     pub fn empty() -> Store
@@ -134,12 +148,10 @@ impl Store {
     {
         let count = held(self.layouts, self.count);
         let next = self.next;
-        let full = 32 <= count;
-        if full {
+        if is_full(count) {
             return Err(Refusal::Full);
         }
-        let used_up = 65536 <= next;
-        if used_up {
+        if are_used_up(next) {
             return Err(Refusal::NumbersUsedUp);
         }
         let number = next as u16;
