@@ -4,6 +4,7 @@ use crate::{lines, running};
 use arguments::{Choice, Options};
 use compare_totals::{Failed, Run};
 use layout_plan::Plan;
+use replies::refusal_number;
 use say::Answer;
 use streams::{Source, System};
 
@@ -108,7 +109,7 @@ fn try_compare<R: System>(rt: &R, out: &mut Answer) -> Option<()> {
     match Format::new(words.edition, &words.record()) {
         Ok(format) => compare_under(rt, out, &options, format, one),
         Err(refusal) => {
-            lines::refused(out, refusal);
+            lines::refused(out, refusal_number(refusal));
             None
         }
     }
@@ -116,6 +117,7 @@ fn try_compare<R: System>(rt: &R, out: &mut Answer) -> Option<()> {
 
 // nandpage compare [--edition N] [--mark WORD2] [--from N] [--pages M] [--quiet] WORD0 WORD1 FIRST SECOND
 // nandpage compare --map [--edition N] [--mark WORD2] [--from N] [--pages M] WORD0 WORD1 FIRST [SECOND]
+#[inline(never)]
 pub fn compare<R: System>(rt: &R, out: &mut Answer) {
     let _ = try_compare(rt, out);
 }

@@ -80,8 +80,7 @@ impl<'a> Format<'a> {
 }
 
 // The line of a refusal, which is noted for the exit status.
-pub fn refused(out: &mut Answer, refusal: Refusal) {
-    let number = refusal_number(refusal);
+pub fn refused(out: &mut Answer, number: u8) {
     if out.status() == 0 {
         out.fail(number);
     }
@@ -92,6 +91,6 @@ pub fn refused(out: &mut Answer, refusal: Refusal) {
 pub fn show<R: System>(rt: &R, out: &mut Answer, format: Format<'_>, pages: Pair<'_>) {
     match format.compare(pages) {
         Ok(counts) => reporting::report(rt, out, format, pages, &counts),
-        Err(refusal) => refused(out, refusal),
+        Err(refusal) => refused(out, refusal_number(refusal)),
     }
 }

@@ -2,7 +2,7 @@
 use crate::lines::{Format, Pair};
 use crate::{lines, mapping, reporting};
 use compare_totals::{Run, Totals};
-use replies::Refusal;
+use replies::{Refusal, refusal_number};
 use say::Answer;
 use streams::{Source, System};
 
@@ -111,7 +111,7 @@ pub fn page<R: System>(
         compared(rt, out, run, format, totals, pages)
     };
     if let Err(refusal) = done {
-        lines::refused(out, refusal);
+        lines::refused(out, refusal_number(refusal));
     }
     done.is_ok()
 }

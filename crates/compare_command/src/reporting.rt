@@ -1,13 +1,23 @@
 // The report of two pages.
 use crate::lines::{Counts, Format, Pair};
 use say::Answer;
-use std::fmt::Display;
 use streams::System;
 
-// The flips of a block or how they changed; a dash where that is not known.
-fn put_known<N: Display + Drop>(out: &mut Answer, n: Option<N>) {
-    match n {
+// The flips of a block; a dash where they are not known.
+fn put_flips(out: &mut Answer, flips: Option<u8>) {
+    match flips {
         Some(n) => out.put(format_args!(" {n}")),
+        None => out.put(" -"),
+    }
+}
+
+// How the flips of a block changed, with its sign; a dash where that is not known.
+fn put_change(out: &mut Answer, change: Option<i16>) {
+    match change {
+        Some(n) => {
+            let sign = if n < 0 { "-" } else { "" };
+            out.put(format_args!(" {sign}{}", changes::magnitude(n)));
+        }
         None => out.put(" -"),
     }
 }
@@ -16,9 +26,9 @@ fn put_known<N: Display + Drop>(out: &mut Answer, n: Option<N>) {
 fn line(out: &mut Answer, block: usize, first: u8, second: u8) {
     let shown = changes::block_line(first, second);
     out.put(block);
-    put_known(out, shown.first);
-    put_known(out, shown.second);
-    put_known(out, shown.change);
+    put_flips(out, shown.first);
+    put_flips(out, shown.second);
+    put_change(out, shown.change);
     out.put("\n");
 }
 

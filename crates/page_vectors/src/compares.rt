@@ -1,6 +1,7 @@
 // Vectors that compare two pages. What is printed is what the tool prints.
 use crate::heads::Head;
 use compare_command::{Format, Pair};
+use replies::refusal_number;
 use say::Answer;
 use streams::System;
 
@@ -17,7 +18,7 @@ fn compare<R: System + Input + Print>(
     let mut out = Answer::new();
     match Format::new(head.edition(), head.record()) {
         Ok(format) => compare_command::show(rt, &mut out, format, Pair { first, second }),
-        Err(refusal) => compare_command::refused(&mut out, refusal),
+        Err(refusal) => compare_command::refused(&mut out, refusal_number(refusal)),
     }
     out.flush(rt);
     true

@@ -11,13 +11,15 @@ pub fn check<R: System + Input + Print>(rt: &R, sectors: Sectors) {
 
 // A page bit. A page of sectors has no mark.
 pub fn bit<R: System + Input + Print>(rt: &R, sectors: Sectors, words: &[u8]) -> Option<()> {
-    match sector_pages::locate_bit(sectors, vector_words::number(words, 8)?) {
+    let answer = sector_pages::locate_bit(sectors, vector_words::number(words, 8)?);
+    let reply = layout::answer_reply(answer) as u64;
+    match answer {
         Ok(BitPlace::InBlock { block, exponent }) => {
-            vector_io::show(rt, &[0, 0, 0, block, exponent])
+            vector_io::show(rt, &[reply, 0, 0, block, exponent])
         }
-        Ok(BitPlace::Tail) => vector_io::show(rt, &[0, 0, 1]),
-        Ok(BitPlace::Mark) => vector_io::show(rt, &[0, 0]),
-        Err(refusal) => vector_io::show(rt, &[layout::refusal_reply(refusal) as u64, 0]),
+        Ok(BitPlace::Tail) => vector_io::show(rt, &[reply, 0, 1]),
+        Ok(BitPlace::Mark) => vector_io::show(rt, &[reply, 0]),
+        Err(_) => vector_io::show(rt, &[reply, 0]),
     }
     Some(())
 }
@@ -26,9 +28,11 @@ pub fn bit<R: System + Input + Print>(rt: &R, sectors: Sectors, words: &[u8]) ->
 pub fn position<R: System + Input + Print>(rt: &R, sectors: Sectors, words: &[u8]) -> Option<()> {
     let block = vector_words::number(words, 8)?;
     let exponent = vector_words::number(words, 9)?;
-    match sector_pages::bit_position(sectors, block, exponent) {
-        Ok(position) => vector_io::show(rt, &[0, 0, position]),
-        Err(refusal) => vector_io::show(rt, &[layout::refusal_reply(refusal) as u64, 0]),
+    let answer = sector_pages::bit_position(sectors, block, exponent);
+    let reply = layout::answer_reply(answer) as u64;
+    match answer {
+        Ok(position) => vector_io::show(rt, &[reply, 0, position]),
+        Err(_) => vector_io::show(rt, &[reply, 0]),
     }
     Some(())
 }
