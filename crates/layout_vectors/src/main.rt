@@ -9,14 +9,14 @@ use layout::{BitPlace, Refusal};
 use layout_plan::{Fields, Plan};
 
 // The line of an accepted layout.
-fn show_accepted<R: Input + Print>(rt: &R, stored: Fields, plan: Plan) {
+fn show_accepted<R: Input + Print>(rt: &R, reply: u64, stored: Fields, plan: Plan) {
     let first = stored.first;
     let later = stored.later;
     let mark = plan.mark;
     vector_io::show(
         rt,
         &[
-            0,
+            reply,
             0,
             stored.nblocks as u64,
             stored.metadata as u64,
@@ -45,8 +45,7 @@ fn fields_of(edition: u64, words: &[u8]) -> Fields {
 }
 
 // The line of a refusal.
-fn show_refused<R: Input + Print>(rt: &R, refusal: Refusal) {
-    let reply = layout::refusal_reply(refusal) as u64;
+fn show_refused<R: Input + Print>(rt: &R, reply: u64, refusal: Refusal) {
     match refusal {
         Refusal::Rule(reason) => vector_io::show(
             rt,
@@ -57,28 +56,39 @@ fn show_refused<R: Input + Print>(rt: &R, refusal: Refusal) {
 }
 
 fn layout_line<R: Input + Print>(rt: &R, edition: u64, words: &[u8]) {
-    match layout::check_layout(edition, words) {
-        Ok(l) => show_accepted(rt, fields_of(edition, words), layout_plan::plan_of(l)),
-        Err(refusal) => show_refused(rt, refusal),
+    let answer = layout::check_layout(edition, words);
+    let reply = layout::answer_reply(answer) as u64;
+    match answer {
+        Ok(l) => show_accepted(
+            rt,
+            reply,
+            fields_of(edition, words),
+            layout_plan::plan_of(l),
+        ),
+        Err(refusal) => show_refused(rt, reply, refusal),
     }
 }
 
 // A page bit in a block shows 1, its block and its exponent; one in the tail shows 0, one in the mark 2.
 fn bit_line<R: Input + Print>(rt: &R, edition: u64, words: &[u8], position: u64) {
-    match page_bits::locate_bit(edition, words, position) {
+    let answer = page_bits::locate_bit(edition, words, position);
+    let reply = layout::answer_reply(answer) as u64;
+    match answer {
         Ok(BitPlace::InBlock { block, exponent }) => {
-            vector_io::show(rt, &[0, 0, 1, block, exponent])
+            vector_io::show(rt, &[reply, 0, 1, block, exponent])
         }
-        Ok(BitPlace::Tail) => vector_io::show(rt, &[0, 0, 0]),
-        Ok(BitPlace::Mark) => vector_io::show(rt, &[0, 0, 2]),
-        Err(refusal) => vector_io::show(rt, &[layout::refusal_reply(refusal) as u64, 0]),
+        Ok(BitPlace::Tail) => vector_io::show(rt, &[reply, 0, 0]),
+        Ok(BitPlace::Mark) => vector_io::show(rt, &[reply, 0, 2]),
+        Err(_) => vector_io::show(rt, &[reply, 0]),
     }
 }
 
 fn position_line<R: Input + Print>(rt: &R, edition: u64, words: &[u8], block: u64, exponent: u64) {
-    match page_bits::bit_position(edition, words, block, exponent) {
-        Ok(position) => vector_io::show(rt, &[0, 0, position]),
-        Err(refusal) => vector_io::show(rt, &[layout::refusal_reply(refusal) as u64, 0]),
+    let answer = page_bits::bit_position(edition, words, block, exponent);
+    let reply = layout::answer_reply(answer) as u64;
+    match answer {
+        Ok(position) => vector_io::show(rt, &[reply, 0, position]),
+        Err(_) => vector_io::show(rt, &[reply, 0]),
     }
 }
 
