@@ -69,6 +69,24 @@ impl Paths<'_> {
         }
     }
 
+    // The end of a run that ended before its time. Where nothing failed the outputs are dropped before the line is printed.
+    fn give_up<R: System>(
+        self,
+        rt: &R,
+        out: &mut Answer,
+        run: Run<'_>,
+        totals: &Totals,
+        failed: Failed,
+    ) {
+        if matches!(failed, Failed::Refused | Failed::NoSuchPage) {
+            self.drop_all(rt);
+            self.complain(rt, out, failed);
+        } else {
+            self.complain(rt, out, failed);
+            self.stop(rt, out, run, totals);
+        }
+    }
+
     // The end of a run: the outputs take their place where all went well. Nothing is stored where the one page was refused or the dump has
     // not the pages that were asked for.
     pub fn finish<R: System>(
@@ -87,13 +105,7 @@ impl Paths<'_> {
                     totals.summary(out, run);
                 }
             }
-            Err(failed) => {
-                self.complain(rt, out, failed);
-                match failed {
-                    Failed::Refused | Failed::NoSuchPage => self.drop_all(rt),
-                    _ => self.stop(rt, out, run, totals),
-                }
-            }
+            Err(failed) => self.give_up(rt, out, run, totals, failed),
         }
     }
 }

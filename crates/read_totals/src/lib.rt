@@ -37,7 +37,8 @@ pub struct Run<'a> {
     pub raw: bool,
 }
 
-fn is_wanted(sink: Sink<'_>) -> bool {
+// Whether an output is wanted.
+pub fn is_wanted(sink: Sink<'_>) -> bool {
     !matches!(sink, Sink::Nothing)
 }
 
