@@ -3,6 +3,7 @@
 use say::Answer;
 use streams::System;
 
+#[inline(never)]
 pub fn unknown<R: System>(rt: &R, out: &mut Answer) {
     out.error(
         rt,

@@ -143,6 +143,7 @@ fn accepted(out: &mut Answer, edition: u64, record: &[u8; 12], plan: Plan) {
 }
 
 // nandpage layout [--edition N] [--mark WORD2] WORD0 WORD1
+#[inline(never)]
 pub fn layout<R: System>(rt: &R, out: &mut Answer) {
     let allowed = [Choice::Mark, Choice::Edition];
     let Some(options) = arguments::find_options(rt, out, &allowed) else {

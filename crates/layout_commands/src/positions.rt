@@ -115,6 +115,7 @@ fn bits_of<R: System>(rt: &R, out: &mut Answer, options: Options) {
 }
 
 // nandpage bits ..
+#[inline(never)]
 pub fn bits<R: System>(rt: &R, out: &mut Answer) {
     let allowed = [Choice::Mark, Choice::Edition, Choice::Page];
     let Some(options) = arguments::find_options(rt, out, &allowed) else {

@@ -121,6 +121,7 @@ fn usage<R: System>(rt: &R, out: &mut Answer) {
 }
 
 // nandpage fragments export .. or import ..
+#[inline(never)]
 pub fn fragments<R: System>(rt: &R, out: &mut Answer) {
     let Some(options) = arguments::find_options(rt, out, &[]) else {
         return;

@@ -49,6 +49,8 @@ struct Word {
 }
 
 impl Word {
+    // Not inlined: the decoder's tables are to take no stack while the arguments are read.
+    #[inline(never)]
     fn locate(self, out: &mut Answer, remainder: &[u8]) {
         let mut places = [0u16; 64];
         match bch::locate_errors(
@@ -84,6 +86,7 @@ fn locate_at<R: System>(rt: &R, out: &mut Answer, options: Options) -> Option<()
 }
 
 // nandpage locate [--edition N] LEVEL FIELD N REMAINDER
+#[inline(never)]
 pub fn locate<R: System>(rt: &R, out: &mut Answer) {
     let Some(options) = arguments::find_options(rt, out, &[Choice::Edition]) else {
         return;

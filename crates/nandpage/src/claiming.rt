@@ -53,6 +53,7 @@ fn try_claim<R: System>(rt: &R, out: &mut Answer) -> Option<()> {
 }
 
 // nandpage claim [--edition N] [--mark WORD2] [--page K] WORD0 WORD1 PAGE BLOCK EXPONENT..
+#[inline(never)]
 pub fn claim<R: System>(rt: &R, out: &mut Answer) {
     let _ = try_claim(rt, out);
 }

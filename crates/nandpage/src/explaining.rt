@@ -80,6 +80,7 @@ fn try_explain<R: System>(rt: &R, out: &mut Answer) -> Option<()> {
 }
 
 // nandpage explain [--edition N] [--mark WORD2] [--page K] WORD0 WORD1 [PAGE BLOCK]
+#[inline(never)]
 pub fn explain<R: System>(rt: &R, out: &mut Answer) {
     let _ = try_explain(rt, out);
 }

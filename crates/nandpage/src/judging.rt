@@ -51,6 +51,7 @@ fn try_judge<R: System>(rt: &R, out: &mut Answer) -> Option<()> {
 }
 
 // nandpage judge [--edition N] [--mark WORD2] [--page K] WORD0 WORD1 PAGE BLOCK
+#[inline(never)]
 pub fn judge<R: System>(rt: &R, out: &mut Answer) {
     let _ = try_judge(rt, out);
 }

@@ -25,7 +25,8 @@ use commands::{Command, help};
 use say::Answer;
 use streams::System;
 
-// Runs a command, which prints an answer or an error.
+// Runs a command, which prints an answer or an error. No command but the help is inlined here: else a small one would take stack for the
+// buffers of the large ones.
 fn run<R: System>(rt: &R, out: &mut Answer, command: Command) {
     match command {
         Command::Layout => layout_commands::layout(rt, out),

@@ -269,6 +269,7 @@ fn try_write<R: System>(rt: &R, out: &mut Answer) -> Option<()> {
 }
 
 // nandpage write [--edition N] [--mark WORD2] WORD0 WORD1 METADATA DATA PAGE
+#[inline(never)]
 pub fn write<R: System>(rt: &R, out: &mut Answer) {
     let _ = try_write(rt, out);
 }

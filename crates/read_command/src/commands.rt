@@ -247,16 +247,19 @@ impl Command {
 }
 
 // nandpage read [--edition N] [--mark WORD2] [--from N] [--pages M] [--quiet] [--stdout] WORD0 WORD1 PAGE METADATA DATA
+#[inline(never)]
 pub fn read<R: System>(rt: &R, out: &mut Answer) {
     let _ = Command::Read.run(rt, out);
 }
 
 // nandpage look [--edition N] [--mark WORD2] [--from N] [--pages M] [--quiet] WORD0 WORD1 PAGE
+#[inline(never)]
 pub fn look<R: System>(rt: &R, out: &mut Answer) {
     let _ = Command::Look.run(rt, out);
 }
 
 // nandpage salvage [--edition N] [--mark WORD2] [--raw] [--from N] [--pages M] [--quiet] WORD0 WORD1 PAGE METADATA DATA LIST
+#[inline(never)]
 pub fn salvage<R: System>(rt: &R, out: &mut Answer) {
     let _ = Command::Salvage.run(rt, out);
 }
