@@ -40,7 +40,9 @@ pub fn log_of(logs: &[u16; 16384], x: u16) -> usize
 }
 
 // 1 + the logarithm of an element, 0 for 0.
-pub fn marked_log(logs: &[u16; 16384], x: u16) -> u16 {
+pub fn marked_log(logs: &[u16; 16384], x: u16) -> u16
+    ensures { result ≤ 16384 }
+{
     if x == 0 {
         return 0;
     }
