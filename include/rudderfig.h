@@ -104,7 +104,7 @@ enum rudderfig_reply_number {
 /*
  * Bytes of stack that a call takes at most on any of the four processors, its return address included. `make lib` and `make boards` compare them with
  * the code.
- * With today's kit only x86-64 has been compared: run `make boards` before a figure is relied on elsewhere.
+ * With today's kit x86-64, AArch64 and ARMv7-A have been compared, and RISC-V has not: run `make boards` before a figure is relied on there.
  * Most of it are the decoder's tables, which are filled only where a block is damaged or erased; the compiler makes room for them on entry of some calls.
  */
 #define RUDDERFIG_STACK_CHECK_LAYOUT 256
