@@ -8,15 +8,15 @@ use lib.Seq.{take-append_seam, get_or-take}
 use Rattle.stored_tables.specs.Copied.{Copied}
 
 -- the part stands between what the table had before it and what it had after
-pub copied-part : (at : ℕ) (part before : List ℕ) → at + length part ≤ length before
-    → Copied at part before (take at before ++ (part ++ drop (length part) (drop at before)))
-copied-part at part before h = record {
+pub copied-part : {at : ℕ} {part before after : List ℕ} → after ≡ take at before ++ (part ++ drop (length part) (drop at before))
+    → at + length part ≤ length before → Copied at part before after
+copied-part {at} {part = part} {before = before} e h = rw e (record {
   size = omega (arith, length-append {A = ℕ}, length-take {A = ℕ}, length-drop {A = ℕ});
   front =
       ap (take (at + length part)) (sym (append_assoc (take at before) part rest))
       ∙ ap (λ (n : ℕ). take n ((take at before ++ part) ++ rest)) (omega (arith, length-append {A = ℕ}, length-take {A = ℕ}))
       ∙ take-append_seam (take at before ++ part) rest;
-}
+})
   where
     rest : List ℕ
     rest = drop (length part) (drop at before)
