@@ -60,8 +60,10 @@ pub look-lent : (q : Plan) (page : List ℕ) → Ready q page → (lent other : 
 look-lent q page ready lent other a b = look-right q page other ready.size b ∙ sym (look-right q page lent ready.size a)
 
 module _ (q : Plan) (page : List ℕ) (ready : Ready q page) (lent : List ℕ) (size : length lent ≡ q.blocks) {l : List ℕ} (same : l ≡ counts q page) where
-  pub look-done : ((b : ℕ) → b < q.blocks → RefusedAt q page b → ⊥) → look_ended 0 0 l ≡ look_in q page lent
-  look-done h = ap (look_ended 0 0) same ∙ sym (look-sound q page lent ready.size size h)
+  pub look-done : {reply block : ℕ} → reply ≡ 0 → block ≡ 0 → ((b : ℕ) → b < q.blocks → RefusedAt q page b → ⊥)
+      → look_ended reply block l ≡ look_in q page lent
+  look-done r k h = rw (r, k) (ap (look_ended 0 0) same ∙ sym (look-sound q page lent ready.size size h))
 
-  pub look-ruined : (b : ℕ) → Lowest q page b → look_ended 9 b l ≡ look_in q page lent
-  look-ruined b h = ap (look_ended 9 b) same ∙ sym (look-refuses q page lent b ready.size size h)
+  pub look-ruined : {reply block : ℕ} (b : ℕ) → reply ≡ 9 → block ≡ b → Lowest q page b
+      → look_ended reply block l ≡ look_in q page lent
+  look-ruined b r k h = rw (r, k) (ap (look_ended 9 b) same ∙ sym (look-refuses q page lent b ready.size size h))

@@ -10,7 +10,8 @@ unfolding verdict_number verdict_block
 returns-then-block-plan c = let p = c.requires in
     let plan = p.0.plan in
     let u = underway-start _ _ plan c.scan_page-scan.ensures.scan c.clear.ensures p.1 in
-    look-done _ _ p.0 _ p.1 (underway-end _ _ plan u (omega arith)) (clean-sound _ _ plan c.scan_page-scan.ensures.scan c.if-block-plan.true)
+    look-done _ _ p.0 _ p.1 (underway-end _ _ plan u (omega arith)) (omega arith) (omega arith)
+    (clean-sound _ _ plan c.scan_page-scan.ensures.scan c.if-block-plan.true)
 
 pub look_damaged-requires : goal.look_damaged-requires
 look_damaged-requires c = let p = c.requires in
