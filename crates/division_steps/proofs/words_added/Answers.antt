@@ -10,7 +10,7 @@ loop-i-init c = (search rules, search rules, added_none _ _ _ _)
 pub loop-i-preserved : goal.loop-i-preserved
 loop-i-preserved c = let s = c.loop-i in
     let a = c.args in
-    (omega arith, search rules, added_next _ _ s.i a.to _ s.words (omega arith) (omega arith) (omega arith) s.invariant.2 c.word_added.ensures)
+    (omega arith, search rules, added_next _ _ s.i a.to _ s.words (omega arith) (omega arith) (omega arith) s.invariant.2 (grind arith))
 
 pub returns : goal.returns
 returns c = let s = c.loop-i in
