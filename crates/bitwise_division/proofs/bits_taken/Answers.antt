@@ -15,14 +15,14 @@ loop-i-init c = run-start _ _ _ _ _
 
 pub bit_taken-r-requires : goal.bit_taken-r-requires
 bit_taken-r-requires c = let l = c.loop-i in
-    let e = bit_in-read c.args.bytes.now (c.args.at + l.i) c.next_bit-read.ensures c.bit_or_zero-b.ensures (omega arith) in
+    let e = bit_in-read c.args.bytes.now _ c.next_bit-read.ensures c.bit_or_zero-b.ensures (omega arith) in
     (c.requires.0, taken-below _ c.args.row c.requires.0 (λ k. search rules) _ _ c.requires.1 l.invariant, rw e (bit_at_lt _ _))
 
 pub loop-i-preserved : goal.loop-i-preserved
 loop-i-preserved c = let l = c.loop-i in
-    let e = bit_in-read c.args.bytes.now (c.args.at + l.i) c.next_bit-read.ensures c.bit_or_zero-b.ensures (omega arith) in
+    let e = bit_in-read c.args.bytes.now _ c.next_bit-read.ensures c.bit_or_zero-b.ensures (omega arith) in
     let b : c.bit_or_zero-b.result < 2 = rw e (bit_at_lt _ _) in
-    run-next _ _ _ c.args.bytes.now c.args.at l.i l.invariant e b c.bit_taken-r.ensures
+    run-next _ _ _ c.args.bytes.now c.args.at l.i l.invariant (grind arith) b c.bit_taken-r.ensures
 
 pub returns : goal.returns
 returns c = let s = c.args in
