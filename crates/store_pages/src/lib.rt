@@ -14,7 +14,7 @@
 // say so. So each call first compares the kept numbers with each other (crate `plan_test`). A plan that does not hold together, which no
 // such store keeps, is reply 7 too (specs/Tested.antt).
 // By hand: no invariant of `Store` says so, since `tested` and the wrong program `untested_plan` speak of the other stores.
-#![tactic(auto, using(crate::proofs::Versions::bare), unfolding(replies::specs::Replies::verdict_number, replies::specs::Replies::block, layout::specs::Acceptance::refusal_of, replies::specs::Replies::verdict_block, layout::specs::Acceptance::refusal_reply, layout_plan::specs::Plan::plan_of, page_theory::specs::Calls::write_for, page_theory::specs::Calls::look_for, page_theory::specs::Calls::take_for, page_theory::specs::Calls::judge_for, page_theory::specs::Calls::claim_for, page_judge::specs::Answers::judge_flips, crate::specs::Tested::plan_answer))]
+#![tactic(auto, using(crate::proofs::Versions::bare), unfolding(replies::specs::Replies::verdict_number, replies::specs::Replies::verdict_block, replies::specs::Replies::block, layout::specs::Acceptance::refusal_of, layout::specs::Acceptance::refusal_reply, layout_plan::specs::Plan::plan_of, page_theory::specs::Calls::write_for, page_theory::specs::Calls::look_for, page_theory::specs::Calls::take_for, page_theory::specs::Calls::judge_for, page_theory::specs::Calls::claim_for, page_judge::specs::Answers::judge_flips, crate::specs::Tested::plan_answer))]
 
 ghost use Rattle.std.specs.Prelude.{◌≡◌, IfOk, IfErr};
 ghost use Rattle.layout.specs.declared.Refusal.TheVariants.{Range};

@@ -15,7 +15,11 @@ pub returns-then-holds_together : goal.returns-then-holds_together
 returns-then-holds_together c =
     let some : c.find_version.result ≡ Some c.in_ok-layout.layout = search rules in
     let holds = sym c.holds_together.ensures.eq ∙ c.if-holds_together.true in
-    record { eq = found-known _ _ _ (sym c.find_version.ensures ∙ some) holds; sound = c.holds_together.ensures.planned c.if-holds_together.true; range = search rules }
+    record {
+      eq = found-known _ _ _ (sym c.find_version.ensures ∙ some) holds;
+      sound = c.holds_together.ensures.planned c.if-holds_together.true;
+      range = search rules;
+    }
 
 pub returns : goal.returns
 returns c =
